@@ -1,0 +1,236 @@
+// A source and a sink in memory, which fail at the calls that they are told.
+ghost use Rattle.std.specs.Prelude.{◌<◌, ◌≡◌, ◌↔◌, ◌≤◌, [], length, IfOk, IsTrue, Some};
+ghost use Rattle.std.specs.List.{Contains};
+ghost use Rattle.nx_io.specs.Streams.{ReadCause, Reads, ReadsWithin, WriteCause, Writes, WritesWithin, one_more};
+ghost use Rattle.nx_io.specs.Memory.{Stores, Supplies};
+
+use crate::streams::{Got, Put, Sink, Source};
+use std::alloc::{AllocError, Global};
+use std::marker::Model;
+
+// Which calls of an object fail, and how many did.
+#[derive(Drop)]
+struct Script {
+    fails: Vec<u64>,
+    calls: u64,
+    faults: u64,
+}
+
+impl Script {
+    fn new(alloc: Global, fails: &[u64]) -> Result<Script, AllocError>
+        ensures fails { IfOk result (λ script. script.fails.items ≡ fails.now) }
+        ensures calls { IfOk result (λ script. script.calls ≡ 0) }
+        ensures faults { IfOk result (λ script. script.faults ≡ 0) }
+    {
+        Ok(Script {
+            fails: Vec::from_slice(alloc, fails)?,
+            calls: 0,
+            faults: 0,
+        })
+    }
+
+    // Counts a fault.
+    fn fault(&mut self)
+        ensures fails { self.new.fails ≡ self.old.fails }
+        ensures calls { self.new.calls ≡ self.old.calls }
+        ensures faults { self.new.faults ≡ one_more self.old.faults }
+    {
+        self.faults = self.faults.saturating_add(1);
+    }
+
+    // Counts a call, and says whether it is one of those that fail.
+    fn call_fails(&mut self) -> bool
+        ensures fails { self.new.fails ≡ self.old.fails }
+        ensures calls { self.new.calls ≡ one_more self.old.calls }
+        ensures faults { self.new.faults ≡ self.old.faults }
+        ensures told { IsTrue result ↔ Contains self.old.fails.items self.new.calls }
+    {
+        self.calls = self.calls.saturating_add(1);
+        self.fails.contains(&self.calls)
+    }
+}
+
+/// A source over bytes in memory.
+#[derive(Drop)]
+pub struct MemSource {
+    bytes: Vec<u8>,
+    taken: usize,
+    piece: usize,
+    script: Script,
+}
+
+impl Model for MemSource {
+    ghost use Rattle.std.specs.Prelude.{◌≤◌, drop, length};
+    ghost use Rattle.nx_io.specs.Memory.{Supply};
+
+    ghost Value = { Supply };
+
+    ghost view = { λ s. record {
+      left = drop s.taken s.bytes.items;
+      piece = s.piece;
+      fails = s.script.fails.items;
+      calls = s.script.calls;
+      faults = s.script.faults;
+    } };
+
+    ghost invariant = { λ s. (s.taken ≤ length s.bytes.items) × (1 ≤ s.piece) };
+}
+
+impl MemSource {
+    /// A source that will give these bytes, at most `piece` in a call. The calls whose numbers `fails` lists fail,
+    /// the first being 1. An `Err` is want of memory.
+    pub fn new(
+        alloc: Global,
+        left: &[u8],
+        piece: usize,
+        fails: &[u64],
+    ) -> Result<MemSource, AllocError>
+        requires { 1 ≤ piece }
+        ensures { IfOk result (λ source. source ≡ record { left = left.now; piece = piece; fails = fails.now; calls = 0; faults = 0 }) }
+    {
+        Ok(MemSource {
+            bytes: Vec::from_slice(alloc, left)?,
+            taken: 0,
+            piece,
+            script: Script::new(alloc, fails)?,
+        })
+    }
+
+    /// The bytes still to come.
+    pub fn left(&self) -> &[u8]
+        ensures { result.now ≡ self.now.left }
+    {
+        &self.bytes[self.taken..]
+    }
+
+    /// How often the source has failed.
+    pub fn faults(&self) -> u64
+        ensures { result ≡ self.now.faults }
+    {
+        self.script.faults
+    }
+}
+
+impl Source for MemSource {
+    ghost left = { λ s. Some s.left };
+
+    ghost faults = { λ s. s.faults };
+
+    /// As of any source. A call fails where its number is listed, and nowhere else.
+    fn read(&mut self, into: &mut [u8]) -> Got
+        requires { 0 < length into.old }
+        ensures within { ReadsWithin result into.new }
+        ensures bytes { Reads result (Some self.old.left) (Some self.new.left) into.new }
+        ensures later { self.old.faults ≤ self.new.faults }
+        ensures cause { ReadCause result self.old.faults self.new.faults }
+        ensures exact { Supplies result self.old self.new into.new }
+    {
+        if self.script.call_fails() {
+            self.script.fault();
+            return Got::Failed;
+        }
+        let left = &self.bytes[self.taken..];
+        if left.is_empty() {
+            return Got::End;
+        }
+        let count = left.len().min(self.piece).min(into.len());
+        into[..count].copy_from_slice(&left[..count]);
+        self.taken += count;
+        Got::Bytes(count)
+    }
+}
+
+/// A sink that keeps in memory what it is sent.
+#[derive(Drop)]
+pub struct MemSink {
+    sent: Vec<u8>,
+    room: usize,
+    piece: usize,
+    script: Script,
+}
+
+impl Model for MemSink {
+    ghost use Rattle.std.specs.Prelude.{◌≤◌, length};
+    ghost use Rattle.std.specs.Vec.{vec_capacity};
+    ghost use Rattle.nx_io.specs.Memory.{Store};
+
+    ghost Value = { Store };
+
+    ghost view = { λ s. record {
+      sent = s.sent.items;
+      room = s.room;
+      piece = s.piece;
+      fails = s.script.fails.items;
+      calls = s.script.calls;
+      faults = s.script.faults;
+    } };
+
+    ghost invariant = { λ s. (length s.sent.items ≤ s.room) × (s.room ≤ vec_capacity s.sent) × (1 ≤ s.piece) };
+}
+
+impl MemSink {
+    /// A sink that holds at most `room` bytes and takes at most `piece` in a call. The calls whose numbers `fails`
+    /// lists fail, the first being 1, and so does a call where no room is left. An `Err` is want of memory: all that
+    /// the sink will need is taken here.
+    pub fn new(
+        alloc: Global,
+        room: usize,
+        piece: usize,
+        fails: &[u64],
+    ) -> Result<MemSink, AllocError>
+        requires { 1 ≤ piece }
+        ensures { IfOk result (λ sink. sink ≡ record { sent = []; room = room; piece = piece; fails = fails.now; calls = 0; faults = 0 }) }
+    {
+        Ok(MemSink {
+            sent: Vec::with_capacity(alloc, room)?,
+            room,
+            piece,
+            script: Script::new(alloc, fails)?,
+        })
+    }
+
+    /// The bytes that were sent.
+    pub fn sent(&self) -> &[u8]
+        ensures { result.now ≡ self.now.sent }
+    {
+        self.sent.as_slice()
+    }
+
+    /// How often the sink has failed.
+    pub fn faults(&self) -> u64
+        ensures { result ≡ self.now.faults }
+    {
+        self.script.faults
+    }
+}
+
+impl Sink for MemSink {
+    ghost sent = { λ s. Some s.sent };
+
+    ghost faults = { λ s. s.faults };
+
+    /// As of any sink. A call fails where its number is listed or no room is left, and nowhere else.
+    fn write(&mut self, piece: &[u8]) -> Put
+        requires { 0 < length piece.now }
+        ensures within { WritesWithin result piece.now }
+        ensures bytes { Writes result (Some self.old.sent) (Some self.new.sent) piece.now }
+        ensures later { self.old.faults ≤ self.new.faults }
+        ensures cause { WriteCause result self.old.faults self.new.faults }
+        ensures exact { Stores result self.old self.new piece.now }
+    {
+        let room_left = self.room - self.sent.len();
+        if self.script.call_fails() || room_left == 0 {
+            self.script.fault();
+            return Put::Failed;
+        }
+        let count = piece.len().min(self.piece).min(room_left);
+        match self.sent.extend_from_slice(&piece[..count]) {
+            Ok(()) => Put::Bytes(count),
+            // Never: the memory was taken when the sink was made.
+            Err(_) => {
+                self.script.fault();
+                Put::Failed
+            }
+        }
+    }
+}
