@@ -1,0 +1,12 @@
+//! Substitution of a term for a variable in a formula, which is undefined where a variable of the term
+//! would be captured: the new formula, and the test whether a formula is one that a substitution makes.
+#![tactic(auto)]
+
+mod captures;
+mod instances;
+mod substitutions;
+#[cfg(test)]
+mod tests;
+
+pub use instances::{Match, instance, instance_counted};
+pub use substitutions::{SubstError, names_are_never_captured, substitute};

@@ -1,0 +1,138 @@
+ghost use Rattle.std.specs.Prelude.{◌≡◌, ◌≢◌, ◌↔◌, ℕ, List, None, Some, IfOk, map};
+ghost use Rattle.nal_subst.specs.Below.{part_with};
+ghost use Rattle.nal_subst.specs.Substitution.{formula_with, term_with};
+ghost use Rattle.nal_term.specs.Trees.{FormulaTree, formula_tree, name, term_tree, term_trees};
+
+use crate::captures::is_captured;
+use nal_term::{Args, Formula, Name, Term};
+use std::alloc::{AllocError, Global};
+
+/// Why `substitute` made no formula.
+#[derive(Clone, Copy, Debug, PartialEq, Eq)]
+pub enum SubstError {
+    /// A variable of the term would be captured.
+    Capture,
+    /// There was no memory for the formula.
+    Memory,
+}
+
+/// A new formula: `f` with `t` in place of each free `x`; bound variables are not renamed. `Capture`
+/// exactly where a free `x` stands below a quantifier over another variable that occurs in `t`, which is
+/// found before anything is copied; `Memory` where there was no memory for the formula.
+/// `docs/LOGIC.md`, "Substitution", states the rule.
+pub fn substitute(alloc: Global, f: &Formula, x: &Name, t: &Term) -> Result<Formula, SubstError>
+    ensures ok { IfOk result (λ g. formula_with x.now (term_tree t.now) (formula_tree f.now) ≡ Some (formula_tree g)) }
+    ensures capture { (result ≡ Err SubstError.Capture) ↔ (formula_with x.now (term_tree t.now) (formula_tree f.now) ≡ None) }
+{
+    if is_captured(f, x, t) {
+        return Err(SubstError::Capture);
+    }
+    match replaced(alloc, f, x, t) {
+        Ok(g) => Ok(g),
+        Err(_) => Err(SubstError::Memory),
+    }
+}
+
+/// The law that a name can stand for a variable in each formula: it holds no variable, so that none is
+/// captured. The call does nothing.
+#[tactic(auto, using(crate::proofs::Names::name_defined))]
+pub fn names_are_never_captured()
+    ensures { (x y : List ℕ) (f : FormulaTree) → formula_with x (name y) f ≢ None }
+{}
+
+// The formula with `t` in place of each free `x`, where nothing is captured.
+#[cycle(replaced)]
+fn replaced(alloc: Global, f: &Formula, x: &Name, t: &Term) -> Result<Formula, AllocError>
+    requires { formula_with x.now (term_tree t.now) (formula_tree f.now) ≢ None }
+    ensures { IfOk result (λ g. formula_with x.now (term_tree t.now) (formula_tree f.now) ≡ Some (formula_tree g)) }
+{
+    match f {
+        Formula::True => Ok(Formula::True),
+        Formula::False => Ok(Formula::False),
+        Formula::Atom(p, ts) => Ok(Formula::Atom(p.copy(alloc)?, args_replaced(alloc, ts, x, t)?)),
+        Formula::Test(c, u, v) => {
+            let u = term_replaced(alloc, u, x, t)?;
+            Ok(Formula::Test(*c, u, term_replaced(alloc, v, x, t)?))
+        }
+        Formula::And(a, b) => {
+            let a = Box::new(alloc, replaced(alloc, a, x, t)?)?;
+            Ok(Formula::And(a, Box::new(alloc, replaced(alloc, b, x, t)?)?))
+        }
+        Formula::Or(a, b) => {
+            let a = Box::new(alloc, replaced(alloc, a, x, t)?)?;
+            Ok(Formula::Or(a, Box::new(alloc, replaced(alloc, b, x, t)?)?))
+        }
+        Formula::Implies(a, b) => {
+            let a = Box::new(alloc, replaced(alloc, a, x, t)?)?;
+            Ok(Formula::Implies(a, Box::new(alloc, replaced(alloc, b, x, t)?)?))
+        }
+        Formula::Forall(y, a) => {
+            let a = part_replaced(alloc, y, a, x, t)?;
+            Ok(Formula::Forall(y.copy(alloc)?, Box::new(alloc, a)?))
+        }
+        Formula::Exists(y, a) => {
+            let a = part_replaced(alloc, y, a, x, t)?;
+            Ok(Formula::Exists(y.copy(alloc)?, Box::new(alloc, a)?))
+        }
+        Formula::Says(u, a) => {
+            let u = term_replaced(alloc, u, x, t)?;
+            Ok(Formula::Says(u, Box::new(alloc, replaced(alloc, a, x, t)?)?))
+        }
+        Formula::SpeaksFor(u, v) => {
+            let u = term_replaced(alloc, u, x, t)?;
+            Ok(Formula::SpeaksFor(u, term_replaced(alloc, v, x, t)?))
+        }
+        Formula::SpeaksForOn(u, v, s) => {
+            let u = term_replaced(alloc, u, x, t)?;
+            Ok(Formula::SpeaksForOn(u, term_replaced(alloc, v, x, t)?, s.copy(alloc)?))
+        }
+    }
+}
+
+// The part below a quantifier over `y` after the substitution in the whole, where nothing is captured.
+#[tactic(auto, using(crate::proofs::Unchanged::under_defined))]
+#[cycle(replaced)]
+fn part_replaced(
+    alloc: Global,
+    y: &Name,
+    a: &Formula,
+    x: &Name,
+    t: &Term,
+) -> Result<Formula, AllocError>
+    requires { part_with x.now (term_tree t.now) y.now (formula_tree a.now) ≢ None }
+    ensures { IfOk result (λ b. part_with x.now (term_tree t.now) y.now (formula_tree a.now) ≡ Some (formula_tree b)) }
+{
+    if x.as_slice() == y.as_slice() {
+        a.copy(alloc)
+    } else {
+        replaced(alloc, a, x, t)
+    }
+}
+
+// The term with `t` in place of each `x`.
+fn term_replaced(alloc: Global, u: &Term, x: &Name, t: &Term) -> Result<Term, AllocError>
+    ensures { IfOk result (λ v. term_with x.now (term_tree t.now) (term_tree u.now) ≡ term_tree v) }
+{
+    match u {
+        Term::Var(y) if x.as_slice() == y.as_slice() => t.copy(alloc),
+        Term::Sub(v, y) => {
+            let v = term_replaced(alloc, v, x, t)?;
+            Ok(Term::Sub(Box::new(alloc, v)?, y.copy(alloc)?))
+        }
+        _ => u.copy(alloc),
+    }
+}
+
+// The arguments with `t` in place of each `x`.
+fn args_replaced(alloc: Global, us: &Args, x: &Name, t: &Term) -> Result<Args, AllocError>
+    ensures { IfOk result (λ vs. map (λ u. term_with x.now (term_tree t.now) u) (term_trees us.now) ≡ term_trees vs) }
+{
+    let mut replaced = Args::new(alloc);
+    for u in us.as_slice() {
+        // There are as many as before, so that they have room.
+        if replaced.push(term_replaced(alloc, u, x, t)?).is_err() {
+            return Err(AllocError);
+        }
+    }
+    Ok(replaced)
+}
