@@ -1,0 +1,4 @@
+pub mod Bodies
+pub mod Places
+pub mod ProofText
+pub mod Reading
