@@ -1,0 +1,4 @@
+pub mod Scope
+pub mod Derivation
+pub mod Faults
+pub mod Verdicts
