@@ -1,0 +1,12 @@
+pub mod Found
+pub mod Shapes
+pub mod Rested
+pub mod Steps
+pub mod Derived
+pub mod Refuted
+pub mod Told
+pub mod Law
+pub mod Reached
+pub mod Counted
+pub mod Decided
+pub mod Faultless

@@ -1,0 +1,83 @@
+ghost use Rattle.std.specs.Prelude.{◌≡◌, ◌↔◌, ◌⊎◌, ◌∷◌, [], None, IsTrue};
+ghost use Rattle.nal_term.specs.Trees.{formula_tree};
+ghost use Rattle.nal_rules.specs.Faults.{HasForm};
+ghost use Rattle.proof_lines.specs.declared.rules.Rule.TheVariants.{EqRefl, EqSym, EqTrans, LtTrans};
+ghost use Rattle.nal_term.specs.declared.formulas.Compare.TheVariants.{AtMost, Equal, Less};
+
+use crate::same::{are_same_three, are_same_two};
+use nal_term::{Compare, Formula, equal_terms};
+
+/// Whether the conclusion is that a term equals itself.
+pub fn has_eq_refl_form(conclusion: &Formula) -> bool
+    ensures { IsTrue result ↔ HasForm EqRefl [] None (formula_tree conclusion.now) }
+{
+    match conclusion {
+        Formula::Test(compare, t, u) => is_equation(*compare) && equal_terms(t, u),
+        _ => false,
+    }
+}
+
+/// Whether the conclusion is the premise's equation from right to left.
+pub fn has_eq_sym_form(first: &Formula, conclusion: &Formula) -> bool
+    ensures { IsTrue result ↔ HasForm EqSym (formula_tree first.now ∷ []) None (formula_tree conclusion.now) }
+{
+    match (first, conclusion) {
+        (Formula::Test(c, t, u), Formula::Test(d, v, w)) => {
+            are_two_equations(*c, *d) && are_same_two(t, w, u, v)
+        }
+        _ => false,
+    }
+}
+
+/// Whether the conclusion joins two equations.
+pub fn has_eq_trans_form(first: &Formula, second: &Formula, conclusion: &Formula) -> bool
+    ensures { IsTrue result ↔ HasForm EqTrans (formula_tree first.now ∷ formula_tree second.now ∷ []) None (formula_tree conclusion.now) }
+{
+    match (first, second, conclusion) {
+        (Formula::Test(c, t, u), Formula::Test(d, v, w), Formula::Test(e, x, y)) => {
+            are_three_equations(*c, *d, *e) && are_same_three(u, v, t, x, w, y)
+        }
+        _ => false,
+    }
+}
+
+/// Whether the conclusion joins two comparisons, of which the first is strict.
+pub fn has_lt_trans_form(first: &Formula, second: &Formula, conclusion: &Formula) -> bool
+    ensures { IsTrue result ↔ HasForm LtTrans (formula_tree first.now ∷ formula_tree second.now ∷ []) None (formula_tree conclusion.now) }
+{
+    match (first, second, conclusion) {
+        (Formula::Test(c, t, u), Formula::Test(d, v, w), Formula::Test(e, x, y)) => {
+            are_strict(*c, *d, *e) && are_same_three(u, v, t, x, w, y)
+        }
+        _ => false,
+    }
+}
+
+fn is_equation(compare: Compare) -> bool
+    ensures { IsTrue result ↔ (compare ≡ Equal) }
+{
+    matches!(compare, Compare::Equal)
+}
+
+fn are_two_equations(first: Compare, second: Compare) -> bool
+    ensures { IsTrue result ↔ ((first ≡ Equal) × (second ≡ Equal)) }
+{
+    is_equation(first) && is_equation(second)
+}
+
+fn are_three_equations(first: Compare, second: Compare, third: Compare) -> bool
+    ensures { IsTrue result ↔ (((first ≡ Equal) × (second ≡ Equal)) × (third ≡ Equal)) }
+{
+    are_two_equations(first, second) && is_equation(third)
+}
+
+// Whether the first and the third are strict, and the second is strict or not, but no equation.
+fn are_strict(first: Compare, second: Compare, third: Compare) -> bool
+    ensures { IsTrue result
+        ↔ ((first ≡ Less) × ((second ≡ Less) ⊎ (second ≡ AtMost)) × (third ≡ Less)) }
+{
+    match (first, second, third) {
+        (Compare::Less, Compare::Less | Compare::AtMost, Compare::Less) => true,
+        _ => false,
+    }
+}

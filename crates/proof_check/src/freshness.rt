@@ -1,0 +1,112 @@
+ghost use Rattle.std.specs.Prelude.{◌≡◌, ◌↔◌, Some, None, true, length, map, IsTrue};
+ghost use Rattle.nal_term.specs.Free.{is_free_in};
+ghost use Rattle.nal_term.specs.Trees.{FormulaTree, formula_tree};
+ghost use Rattle.proof_check.specs.Rests.{AreColumns, is_kept};
+ghost use Rattle.proof_lines.specs.Lines.{HasRuleForm, line_tree, line_trees};
+ghost use Rattle.nal_rules.specs.Faults.{IsFreeBelow, IsNotFresh, formula_at};
+ghost use Rattle.proof_lines.specs.declared.rules.Rule.TheVariants.{ExistsE, ForallI};
+
+use crate::columns::rests_on;
+use crate::premises::formula_at;
+use nal_term::{Formula, Name, free_in};
+use proof_lines::{Line, Proof, Rule};
+
+/// Whether the rule asks for a fresh variable, and the quantifier's is not.
+pub fn is_not_fresh(proof: &Proof, columns: &[Vec<bool>], line: &Line) -> bool
+    requires form { HasRuleForm (line_tree line.now) }
+    requires columns { AreColumns (line_trees proof.now) (map (λ c. c.items) columns.now) }
+    ensures { IsTrue result
+        ↔ IsNotFresh (line_trees proof.now) line.now.rule line.now.refs (formula_tree line.now.formula) }
+{
+    let refs = line.refs.as_slice();
+    match line.rule {
+        Rule::ForallI => is_not_fresh_for_all(proof, columns, refs, &line.formula),
+        Rule::ExistsE => is_not_fresh_for_some(proof, columns, refs, &line.formula),
+        _ => false,
+    }
+}
+
+fn is_not_fresh_for_all(
+    proof: &Proof,
+    columns: &[Vec<bool>],
+    refs: &[u64],
+    conclusion: &Formula,
+) -> bool
+    requires one { length refs.now ≡ 1 }
+    requires columns { AreColumns (line_trees proof.now) (map (λ c. c.items) columns.now) }
+    ensures { IsTrue result
+        ↔ IsNotFresh (line_trees proof.now) ForallI refs.now (formula_tree conclusion.now) }
+{
+    let [premise] = refs else {
+        return false;
+    };
+    match conclusion {
+        Formula::Forall(x, _) => is_free_below(proof, columns, *premise, None, x),
+        _ => false,
+    }
+}
+
+fn is_not_fresh_for_some(
+    proof: &Proof,
+    columns: &[Vec<bool>],
+    refs: &[u64],
+    conclusion: &Formula,
+) -> bool
+    requires three { length refs.now ≡ 3 }
+    requires columns { AreColumns (line_trees proof.now) (map (λ c. c.items) columns.now) }
+    ensures { IsTrue result
+        ↔ IsNotFresh (line_trees proof.now) ExistsE refs.now (formula_tree conclusion.now) }
+{
+    let [some, assumed, concluded] = refs else {
+        return false;
+    };
+    match formula_at(proof, *some) {
+        Some(Formula::Exists(x, _)) => {
+            free_in(conclusion, x) || is_free_below(proof, columns, *concluded, Some(*assumed), x)
+        }
+        _ => false,
+    }
+}
+
+/// Whether the variable is free in the formula of a hypothesis on which the line with this number rests,
+/// the discharged one set aside.
+fn is_free_below(
+    proof: &Proof,
+    columns: &[Vec<bool>],
+    number: u64,
+    discharged: Option<u64>,
+    x: &Name,
+) -> bool
+    requires columns { AreColumns (line_trees proof.now) (map (λ c. c.items) columns.now) }
+    ensures { IsTrue result ↔ IsFreeBelow (line_trees proof.now) number discharged x.now }
+{
+    for hypothesis in 0..proof.count() + 1 {
+        if is_kept(hypothesis, discharged)
+            && rests_on(proof, columns, number, hypothesis)
+            && is_free_at(proof, hypothesis, x)
+        {
+            return true;
+        }
+    }
+    false
+}
+
+fn is_kept(hypothesis: u64, discharged: Option<u64>) -> bool
+    ensures { result ≡ is_kept hypothesis discharged }
+{
+    match discharged {
+        None => true,
+        Some(other) => other != hypothesis,
+    }
+}
+
+/// Whether the variable is free in the formula of the line with this number.
+fn is_free_at(proof: &Proof, number: u64, x: &Name) -> bool
+    ensures { IsTrue result
+        ↔ ((f : FormulaTree) × (formula_at (line_trees proof.now) number ≡ Some f) × (is_free_in x.now f ≡ true)) }
+{
+    match formula_at(proof, number) {
+        Some(f) => free_in(f, x),
+        None => false,
+    }
+}

@@ -1,0 +1,25 @@
+//! Checks a proof line by line: whether each line follows by its rule from earlier lines, and the last
+//! is the goal.
+#![tactic(auto)]
+
+mod checks;
+mod columns;
+mod comparison_forms;
+mod comparisons;
+mod faults;
+mod forms;
+mod freshness;
+mod hypotheses;
+mod lists;
+mod logic_forms;
+mod numbers;
+mod premises;
+mod same;
+mod scope;
+mod statement_forms;
+mod substitutions;
+#[cfg(test)]
+mod tests;
+
+pub use checks::{CheckError, Checked, check};
+pub use lists::LineList;
