@@ -1,0 +1,11 @@
+use Rattle.nexus_main.specs.Forms.{formula_trees}
+use Rattle.nexus_main.proofs.Verdicts.{label_line, not_label}
+use Rattle.nexus_main.proofs.judge.is_missing_label.Goals as goal
+
+pub returns-in-Label : goal.returns-in-Label
+returns-in-Label c =
+    label_line c.args.proof.now (formula_trees c.args.labels.now) c.args.number c.in-Some.line.now c.contains.result c.in-Some.ensures.zero c.in-Some.ensures.value c.in-Label.is c.contains.ensures
+
+pub returns-in_default-rule : goal.returns-in_default-rule
+returns-in_default-rule c =
+    not_label c.args.proof.now (formula_trees c.args.labels.now) c.args.number c.in-Some.line.now c.in-Some.ensures.zero c.in-Some.ensures.value c.in_default-rule.not-Label

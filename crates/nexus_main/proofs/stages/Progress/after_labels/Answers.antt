@@ -1,0 +1,35 @@
+use Rattle.std.proofs.Common.{◌<◌, length, arith}
+use Rattle.std.proofs.lemmas.List.{length-map}
+use Rattle.nal_term.specs.Trees.{formula_tree}
+use Rattle.nexus_main.specs.Forms.{formula_trees}
+use Rattle.nexus_main.proofs.Following.{label_follows, first_yes_follows, goal_follows, labels_wrong, same_after_label, same_after_yes, same_after_goal, label_not_yes, label_not_goal, yes_not_goal}
+use Rattle.nexus_main.proofs.stages.Progress.after_labels.Goals as goal
+
+pub returns-in-Ok-clause-ok : goal.returns-in-Ok-clause-ok
+returns-in-Ok-clause-ok c =
+    let room : length (formula_trees c.args.labels.items) < 4096 = omega (arith, length-map c.args.labels.items formula_tree, c.args.labels.ok.0) in
+    label_follows _ c.in-Some.ensures room c.in-Ok.ensures.ok
+
+pub returns-in-Err-clause-wrong : goal.returns-in-Err-clause-wrong
+returns-in-Err-clause-wrong c = λ h next f. labels_wrong
+    (λ t g e room s. c.in-Err.ensures.wrong h g (rw (same_after_label c.in-Some.ensures e) s))
+    (λ t g e s. label_not_yes c.in-Some.ensures e)
+    (λ t g e s. label_not_goal c.in-Some.ensures e) f
+
+pub returns-in-Ok-with_statement-clause-ok : goal.returns-in-Ok-with_statement-clause-ok
+returns-in-Ok-with_statement-clause-ok c = first_yes_follows _ c.in-Some-after_word.ensures c.new.ensures.items c.in-Ok-with_statement.ensures.ok
+
+pub returns-in-Err-with_statement-clause-wrong : goal.returns-in-Err-with_statement-clause-wrong
+returns-in-Err-with_statement-clause-wrong c = λ h next f. labels_wrong
+    (λ t g e room s. label_not_yes e c.in-Some-after_word.ensures)
+    (λ t g e s. c.in-Err-with_statement.ensures.wrong h g (rw (same_after_yes c.in-Some-after_word.ensures e) s))
+    (λ t g e s. yes_not_goal c.in-Some-after_word.ensures e) f
+
+pub returns-in-Ok-goal-clause-ok : goal.returns-in-Ok-goal-clause-ok
+returns-in-Ok-goal-clause-ok c = goal_follows c.in-Some-after_word-2.ensures c.in-Ok-goal.ensures.ok c.new-in-Ok-goal.ensures.items
+
+pub returns-in-Err-goal-clause-wrong : goal.returns-in-Err-goal-clause-wrong
+returns-in-Err-goal-clause-wrong c = λ h next f. labels_wrong
+    (λ t g e room s. label_not_goal e c.in-Some-after_word-2.ensures)
+    (λ t g e s. yes_not_goal e c.in-Some-after_word-2.ensures)
+    (λ t g e s. c.in-Err-goal.ensures.wrong h g (rw (same_after_goal c.in-Some-after_word-2.ensures e) s)) f

@@ -1,0 +1,5 @@
+pub mod Lines
+pub mod CheckForm
+pub mod Forms
+pub mod Outcomes
+pub mod Program

@@ -1,0 +1,97 @@
+use crate::lines::first_line;
+use crate::places::line_of_error;
+use crate::stages::{LineError, Progress};
+use nal_term::{Formula, Name};
+use proof_lines::Proof;
+use proof_text::{ProofError, read_proof};
+use std::alloc::Global;
+
+/// What an input of `check` holds.
+#[derive(Drop)]
+pub struct Input {
+    pub subject: Name,
+    pub labels: Vec<Formula>,
+    pub yes: Vec<Formula>,
+    pub goal: Formula,
+    pub proof: Proof,
+}
+
+/// Why an input was not read.
+#[derive(Clone, Copy, Debug, PartialEq, Eq)]
+pub enum InputError {
+    /// The lowest line that is wrong, or the number after the last where the input ends too early.
+    Wrong { line: u64 },
+    /// There was no memory for what it holds.
+    Memory,
+}
+
+impl Input {
+    ghost use Rattle.std.specs.Prelude.{◌≡◌, ◌<◌, ◌≤◌, ◌+◌, ◌^◌, length, IfOk, IfErr};
+    ghost use Rattle.nal_term.specs.Trees.{formula_tree};
+    ghost use Rattle.nexus_main.specs.CheckForm.{IsCheckForm};
+    ghost use Rattle.nexus_main.specs.Forms.{form_of, formula_trees, IsRightError, IsWrongProof, HoldsProof};
+
+    /// Reads an input of `check`. `Wrong` exactly where the text has not its form.
+    /// `docs/FORMATS.md`, "The check form", states the form.
+    pub fn read(alloc: Global, text: &[u8]) -> Result<Input, InputError>
+        requires { length text.now < 2 ^ 31 }
+        ensures ok { IfOk result (λ input. IsCheckForm text.now (form_of input)) }
+        ensures wrong { IfErr result (IsRightError text.now) }
+    {
+        let mut progress = Progress::HeaderDue;
+        let mut rest = text;
+        let mut lines = 0u64;
+        loop {
+            progress = match progress {
+                Progress::ProofDue(subject, labels, yes, goal) => {
+                    return Input::with_proof(alloc, subject, labels, yes, goal, rest, lines);
+                }
+                other => {
+                    if rest.is_empty() {
+                        return Err(InputError::Wrong { line: lines + 1 });
+                    }
+                    match other.after(alloc, first_line(rest).0) {
+                        Ok(next) => next,
+                        Err(LineError::Wrong) => {
+                            return Err(InputError::Wrong { line: lines + 1 });
+                        }
+                        Err(LineError::Memory) => return Err(InputError::Memory),
+                    }
+                }
+            };
+            rest = first_line(rest).1;
+            lines += 1;
+        }
+    }
+
+    fn with_proof(
+        alloc: Global,
+        subject: Name,
+        labels: Vec<Formula>,
+        yes: Vec<Formula>,
+        goal: Formula,
+        rest: &[u8],
+        lines: u64,
+    ) -> Result<Input, InputError>
+        requires room { lines < 2 ^ 31 }
+        requires short { length rest.now < 2 ^ 31 }
+        ensures ok { IfOk result (HoldsProof subject (formula_trees labels.items) (formula_trees yes.items) (formula_tree goal) rest.now) }
+        ensures wrong { IfErr result (IsWrongProof rest.now lines) }
+    {
+        match read_proof(alloc, rest) {
+            Ok(proof) => Ok(Input {
+                subject,
+                labels,
+                yes,
+                goal,
+                proof,
+            }),
+            Err(error) => match error {
+                ProofError::Memory => Err(InputError::Memory),
+                _ => Err(InputError::Wrong {
+                    line: lines + line_of_error(rest, error),
+                }),
+            },
+        }
+    }
+}

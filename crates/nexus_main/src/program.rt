@@ -1,0 +1,151 @@
+ghost use Rattle.std.specs.Prelude.{◌≡◌, ◌≢◌, ◌<◌, ◌≤◌, ◌↔◌, ◌∷◌, [], IfOk, IsTrue, ℕ, List, codes, map, length};
+ghost use Rattle.std.specs.Io.KnownBytes.{IsAtEnd};
+ghost use Rattle.nx_io.specs.Streams.{Rose, prepended};
+ghost use Rattle.nexus_main.specs.Outcomes.{IsOutcome, greatest_size};
+ghost use Rattle.nexus_main.specs.Program.{Ends, IsTooLong, Tells, check_words};
+
+use crate::check_form::{Input, InputError};
+use crate::judge::judge;
+use crate::outcomes::Outcome;
+use nx_io::{Got, Reach, Sink, Source, send_all};
+use std::alloc::{AllocError, Global};
+
+/// The greatest size of an input, in bytes.
+const GREATEST_SIZE: usize = 67_108_864;
+
+/// How many bytes one read asks for.
+const BUFFER_SIZE: usize = 4096;
+
+/// How the program ended.
+#[derive(Clone, Copy, Debug, PartialEq, Eq)]
+pub struct Ended {
+    /// The status that the operating system is given. `docs/FORMATS.md`, "Statuses", says what each means.
+    pub status: u8,
+}
+
+/// Why a source was not read whole.
+#[derive(Clone, Copy, Debug, PartialEq, Eq)]
+enum ReadError {
+    TooLarge,
+    Failed,
+    Memory,
+}
+
+/// Runs the program: `check` reads one input from the source and writes its outcome to the sink.
+///
+/// The status is 0 at `allowed`, 1 at `denied`, 2 where the words are not those of a command, which then reads and
+/// writes nothing, 3 where the input is refused, 4 where the source failed, 5 where the sink failed, and 6 where
+/// memory ran out. At 4 and 6 nothing was written. `docs/FORMATS.md`, "Statuses", states this.
+pub fn run<R, S: Source, K: Sink>(
+    _rt: &R,
+    alloc: Global,
+    words: &[&str],
+    input: &mut S,
+    output: &mut K,
+) -> Ended
+    ensures other_words { map (λ w. w.now) words.now ≢ check_words
+        → (result.status ≡ 2) × (input.new ≡ input.old) × (output.new ≡ output.old) }
+    ensures check { map (λ w. w.now) words.now ≡ check_words
+        → Ends (S.left input.old) (S.left input.new) (S.faults input.old) (S.faults input.new)
+        (K.sent output.old) (K.sent output.new) (K.faults output.old) (K.faults output.new) result.status }
+{
+    if is_check(words) {
+        check(alloc, input, output)
+    } else {
+        Ended { status: 2 }
+    }
+}
+
+/// Whether the words are those of `check`.
+fn is_check(words: &[&str]) -> bool
+    ensures { IsTrue result ↔ (map (λ w. w.now) words.now ≡ check_words) }
+{
+    match words.split_first() {
+        Some((word, rest)) => {
+            if rest.is_empty() {
+                is_check_word(word)
+            } else {
+                false
+            }
+        }
+        None => false,
+    }
+}
+
+/// Whether the word is `check`.
+fn is_check_word(word: &str) -> bool
+    ensures { IsTrue result ↔ (word.now ≡ codes "check") }
+{
+    word.as_bytes() == "check".as_bytes()
+}
+
+/// Reads one input and writes its outcome.
+fn check<S: Source, K: Sink>(alloc: Global, input: &mut S, output: &mut K) -> Ended
+    ensures { Ends (S.left input.old) (S.left input.new) (S.faults input.old) (S.faults input.new)
+        (K.sent output.old) (K.sent output.new) (K.faults output.old) (K.faults output.new) result.status }
+{
+    match read_whole(alloc, input) {
+        Ok(text) => match outcome(alloc, text.as_slice()) {
+            Ok(outcome) => tell(alloc, output, outcome),
+            Err(_) => Ended { status: 6 },
+        },
+        Err(ReadError::TooLarge) => tell(alloc, output, Outcome::TooLarge),
+        Err(ReadError::Failed) => Ended { status: 4 },
+        Err(ReadError::Memory) => Ended { status: 6 },
+    }
+}
+
+/// Reads a source to its end, or until it has given more bytes than an input may have.
+fn read_whole<S: Source>(alloc: Global, source: &mut S) -> Result<Vec<u8>, ReadError>
+    ensures ok { IfOk result (λ whole. (length whole.items ≤ greatest_size)
+        × (S.left source.old ≡ prepended whole.items (S.left source.new)) × IsAtEnd (S.left source.new)) }
+    ensures large { result ≡ Err ReadError.TooLarge → IsTooLong (S.left source.old) (S.left source.new) }
+    ensures failed { result ≡ Err ReadError.Failed → Rose (S.faults source.old) (S.faults source.new) }
+{
+    let mut whole = Vec::new(alloc);
+    let mut buffer = [0u8; BUFFER_SIZE];
+    loop {
+        match source.read(&mut buffer) {
+            Got::Bytes(count) => {
+                if whole.extend_from_slice(&buffer[..count]).is_err() {
+                    return Err(ReadError::Memory);
+                }
+                if whole.len() > GREATEST_SIZE {
+                    return Err(ReadError::TooLarge);
+                }
+            }
+            Got::End => return Ok(whole),
+            Got::Failed => return Err(ReadError::Failed),
+        }
+    }
+}
+
+/// What the text of an input comes to.
+fn outcome(alloc: Global, text: &[u8]) -> Result<Outcome, AllocError>
+    requires { length text.now ≤ greatest_size }
+    ensures { IfOk result (λ outcome. IsOutcome text.now outcome × (outcome ≢ Outcome.TooLarge)) }
+{
+    match Input::read(alloc, text) {
+        Ok(input) => match judge(alloc, &input) {
+            Ok(verdict) => Ok(Outcome::Told(verdict)),
+            Err(_) => Err(AllocError),
+        },
+        Err(InputError::Wrong { line }) => Ok(Outcome::Refused { line }),
+        Err(InputError::Memory) => Err(AllocError),
+    }
+}
+
+/// Writes the outcome.
+fn tell<K: Sink>(alloc: Global, output: &mut K, outcome: Outcome) -> Ended
+    ensures { Tells outcome (K.sent output.old) (K.sent output.new) (K.faults output.old) (K.faults output.new) result.status }
+{
+    let Ok(text) = outcome.output(alloc) else {
+        return Ended { status: 6 };
+    };
+    match send_all(output, text.as_bytes()) {
+        Reach::Ready => Ended {
+            status: outcome.status(),
+        },
+        Reach::Failed => Ended { status: 5 },
+    }
+}

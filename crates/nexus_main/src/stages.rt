@@ -1,0 +1,152 @@
+ghost use Rattle.std.specs.Prelude.{◌≡◌, ◌↔◌, IsTrue, codes};
+
+use crate::lines::after_word;
+use crate::statements::{goal, with_statement};
+use nal_term::{Formula, Name, NameError};
+use std::alloc::Global;
+
+/// How much of an input was read before its proof. `docs/FORMATS.md`, "The check form", says which line may
+/// stand where.
+#[derive(Drop)]
+pub enum Progress {
+    HeaderDue,
+    SubjectDue,
+    /// The subject, and the labels so far.
+    LabelsDue(Name, Vec<Formula>),
+    /// The subject, the labels, and the yes formulas so far.
+    YesDue(Name, Vec<Formula>, Vec<Formula>),
+    /// The subject, the labels, the yes formulas and the goal.
+    ProofDue(Name, Vec<Formula>, Vec<Formula>, Formula),
+}
+
+/// Why a line was not read.
+#[derive(Clone, Copy, Debug, PartialEq, Eq)]
+pub enum LineError {
+    /// No such line may stand there.
+    Wrong,
+    /// There was no memory for what it holds.
+    Memory,
+}
+
+/// How many labels, and how many yes formulas, an input may have.
+const MOST_FORMULAS: usize = 4096;
+
+impl Progress {
+    ghost use Rattle.std.specs.Prelude.{◌≢◌, IfOk, IfErr};
+    ghost use Rattle.nexus_main.specs.CheckForm.{Stage, Follows};
+    ghost use Rattle.nexus_main.specs.Forms.{stage_of};
+
+    /// The progress after one line more. `Wrong` exactly where the line may not stand there.
+    pub fn after(self, alloc: Global, line: &[u8]) -> Result<Progress, LineError>
+        ensures ok { IfOk result (λ next. Follows (stage_of self) line.now (stage_of next)) }
+        ensures wrong { IfErr result (λ e. e ≢ LineError.Memory → (next : Stage) → ¬ Follows (stage_of self) line.now next) }
+    {
+        match self {
+            Progress::HeaderDue => {
+                if !is_header(line) {
+                    return Err(LineError::Wrong);
+                }
+                Ok(Progress::SubjectDue)
+            }
+            Progress::SubjectDue => Progress::after_subject(alloc, line),
+            Progress::LabelsDue(subject, labels) => {
+                Progress::after_labels(alloc, subject, labels, line)
+            }
+            Progress::YesDue(subject, labels, yes) => {
+                Progress::after_yes(alloc, subject, labels, yes, line)
+            }
+            Progress::ProofDue(_, _, _, _) => Err(LineError::Wrong),
+        }
+    }
+}
+
+impl Progress {
+    ghost use Rattle.std.specs.Prelude.{◌≢◌, IfOk, IfErr};
+    ghost use Rattle.nexus_main.specs.CheckForm.{Stage, Follows, labels_due, yes_due, subject_due};
+    ghost use Rattle.nexus_main.specs.Forms.{stage_of, formula_trees};
+
+    fn after_subject(alloc: Global, line: &[u8]) -> Result<Progress, LineError>
+        ensures ok { IfOk result (λ next. Follows subject_due line.now (stage_of next)) }
+        ensures wrong { IfErr result (λ e. e ≢ LineError.Memory → (next : Stage) → ¬ Follows subject_due line.now next) }
+    {
+        let Some(name) = after_word(line, "subject ") else {
+            return Err(LineError::Wrong);
+        };
+        match Name::of(alloc, name) {
+            Ok(subject) => Ok(Progress::LabelsDue(subject, Vec::new(alloc))),
+            Err(NameError::Bad) => Err(LineError::Wrong),
+            Err(NameError::Memory) => Err(LineError::Memory),
+        }
+    }
+
+    fn after_labels(
+        alloc: Global,
+        subject: Name,
+        labels: Vec<Formula>,
+        line: &[u8],
+    ) -> Result<Progress, LineError>
+        ensures ok { IfOk result (λ next. Follows (labels_due subject (formula_trees labels.items)) line.now (stage_of next)) }
+        ensures wrong { IfErr result (λ e. e ≢ LineError.Memory →
+            (next : Stage) → ¬ Follows (labels_due subject (formula_trees labels.items)) line.now next) }
+    {
+        if let Some(text) = after_word(line, "label ") {
+            if labels.len() >= MOST_FORMULAS {
+                return Err(LineError::Wrong);
+            }
+            return match with_statement(alloc, labels, text) {
+                Ok(labels) => Ok(Progress::LabelsDue(subject, labels)),
+                Err(error) => Err(error),
+            };
+        }
+        if let Some(text) = after_word(line, "yes ") {
+            return match with_statement(alloc, Vec::new(alloc), text) {
+                Ok(yes) => Ok(Progress::YesDue(subject, labels, yes)),
+                Err(error) => Err(error),
+            };
+        }
+        let Some(text) = after_word(line, "goal ") else {
+            return Err(LineError::Wrong);
+        };
+        match goal(alloc, text) {
+            Ok(goal) => Ok(Progress::ProofDue(subject, labels, Vec::new(alloc), goal)),
+            Err(error) => Err(error),
+        }
+    }
+
+    fn after_yes(
+        alloc: Global,
+        subject: Name,
+        labels: Vec<Formula>,
+        yes: Vec<Formula>,
+        line: &[u8],
+    ) -> Result<Progress, LineError>
+        ensures ok { IfOk result (λ next.
+            Follows (yes_due subject (formula_trees labels.items) (formula_trees yes.items)) line.now (stage_of next)) }
+        ensures wrong { IfErr result (λ e. e ≢ LineError.Memory →
+            (next : Stage) → ¬ Follows (yes_due subject (formula_trees labels.items) (formula_trees yes.items)) line.now next) }
+    {
+        if let Some(text) = after_word(line, "yes ") {
+            if yes.len() >= MOST_FORMULAS {
+                return Err(LineError::Wrong);
+            }
+            return match with_statement(alloc, yes, text) {
+                Ok(yes) => Ok(Progress::YesDue(subject, labels, yes)),
+                Err(error) => Err(error),
+            };
+        }
+        let Some(text) = after_word(line, "goal ") else {
+            return Err(LineError::Wrong);
+        };
+        match goal(alloc, text) {
+            Ok(goal) => Ok(Progress::ProofDue(subject, labels, yes, goal)),
+            Err(error) => Err(error),
+        }
+    }
+}
+
+/// Whether the line is the first of an input of `check`.
+fn is_header(line: &[u8]) -> bool
+    ensures { IsTrue result ↔ (line.now ≡ codes "nexus check 1") }
+{
+    line == "nexus check 1".as_bytes()
+}
