@@ -1,9 +1,10 @@
 #!/usr/bin/env bash
-# Runs each example of `nexus check` and compares what it prints, byte for byte, and its exit status.
+# Runs each example of `nexus check` and compares what it prints, byte for byte, and its exit status; then the other
+# ways in which the program ends.
 #
 #   examples/run.sh [PROGRAM]     PROGRAM is ./nexus at the top of the repository where none is given
 #
-# Prints a line for each example that differs and ends with 1, or prints `N examples pass` and ends with 0.
+# Prints a line for each run that differs and ends with 1, or prints `N runs pass` and ends with 0.
 set -u
 
 examples=$(cd "$(dirname "$0")" && pwd) || exit 1
@@ -33,8 +34,37 @@ for folder in "$examples"/check/*/; do
     fi
 done
 
+# expect NAME STATUS OUTPUT: compares the status and the output of the run before.
+expect() {
+    local status=$?
+    if [ "$status" != "$2" ] || [ "$(cat "$work/output")" != "$3" ]; then
+        echo "$1: differs: wanted status $2 and '$3', got $status and '$(head -c 200 "$work/output")'"
+        failed=$((failed + 1))
+    else
+        passed=$((passed + 1))
+    fi
+}
+
+share=$examples/check/share/input
+: >"$work/output"
+"$program" chek <"$share" >"$work/output"
+expect 'a word that is no command' 2 ''
+"$program" check more <"$share" >"$work/output"
+expect 'a word too many' 2 ''
+"$program" check </ >"$work/output"
+expect 'an input that cannot be read' 4 ''
+: >"$work/output"
+"$program" check <"$share" >/dev/full
+expect 'an output that cannot be written' 5 ''
+head -c 67108865 /dev/zero | tr '\0' a >"$work/large"
+"$program" check <"$work/large" >"$work/output"
+expect 'an input of one byte too many' 3 'refused size'
+head -c 67108864 "$work/large" >"$work/largest"
+"$program" check <"$work/largest" >"$work/output"
+expect 'a largest input' 3 'refused line 1'
+
 if [ "$failed" -gt 0 ] || [ "$passed" -eq 0 ]; then
-    echo "$passed examples pass, $failed differ"
+    echo "$passed runs pass, $failed differ"
     exit 1
 fi
-echo "$passed examples pass"
+echo "$passed runs pass"
