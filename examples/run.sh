@@ -56,6 +56,8 @@ expect 'an input that cannot be read' 4 ''
 : >"$work/output"
 "$program" check <"$share" >/dev/full
 expect 'an output that cannot be written' 5 ''
+"$program" check </dev/null >/dev/full
+expect 'a refusal that cannot be written' 5 ''
 head -c 67108865 /dev/zero | tr '\0' a >"$work/large"
 "$program" check <"$work/large" >"$work/output"
 expect 'an input of one byte too many' 3 'refused size'
