@@ -13,7 +13,7 @@ use Rattle.nal_rules.specs.Derivation.{Derives}
 use Rattle.nal_rules.specs.Verdicts.{IsMissingLabel}
 use Rattle.nal_rules.specs.declared.verdicts.Verdict.{Verdict}
 use Rattle.nal_rules.specs.declared.verdicts.Verdict.TheVariants.{Allowed, Denied}
-use Rattle.nexus_main.proofs.Verdicts.{in_list}
+use Rattle.nexus_main.proofs.Verdicts.{in_list, filter_first, filter_later}
 use Rattle.nexus_main.specs.CheckForm.{CheckForm}
 use Rattle.nexus_main.specs.Outcomes.{IsUnanswered, IsSupportVerdict, IsJustifiedIfAllowed}
 
@@ -24,12 +24,6 @@ label_rule _ refs l e q = absurd (cc (rw e at q))
 ask_rule : (r : Rule) (refs : List ℕ) (l : LineTree) → l.rule ≡ r → is_ask l ≡ true → r ≡ Ask
 ask_rule Ask refs l e q = refl
 ask_rule _ refs l e q = absurd (cc (rw e at q))
-
-filter_first : (passes : LineTree → Bool) (x : LineTree) (ls : List LineTree) → passes x ≡ true → filter passes (x ∷ ls) ≡ x ∷ filter passes ls
-filter_first passes x ls q = rw q refl
-
-filter_later : (passes : LineTree → Bool) (x : LineTree) (ls : List LineTree) → passes x ≡ false → filter passes (x ∷ ls) ≡ filter passes ls
-filter_later passes x ls q = rw q refl
 
 -- the formulas of the lines that pass are in a list where each of them is
 formulas_in : (passes : LineTree → Bool) (among : List FormulaTree) (ls : List LineTree)

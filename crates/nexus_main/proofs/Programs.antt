@@ -7,6 +7,7 @@ use Rattle.nx_io.specs.Streams.{prepended}
 use Rattle.nexus_main.specs.declared.outcomes.Outcome.{Outcome}
 use Rattle.nexus_main.specs.declared.outcomes.Outcome.TheVariants.{TooLarge}
 use Rattle.nexus_main.specs.Outcomes.{IsOutcome}
+use Rattle.nexus_main.proofs.Verdicts.{some_same}
 use Rattle.nexus_main.specs.Program.{Ends, told, sink_failed, no_memory, Tells, whole, part, nothing, IsOutcomeOf, IsReadFor, IsTooLong, check_words}
 
 -- an outcome that was told ends the program
@@ -21,23 +22,17 @@ pub whole_outcome : (outcome : Outcome) (bytes : List ℕ) (text left : Option (
     → IsOutcomeOf text outcome
 whole_outcome outcome bytes text None e a o t h = absurd (cc (sym h ∙ e))
 whole_outcome outcome bytes text (Some rest) e a o t h =
-    let same : t ≡ bytes ++ rest = some_same (sym h ∙ e) in
+    let same : t ≡ bytes ++ rest = some_same _ _ (sym h ∙ e) in
     let none : bytes ++ rest ≡ bytes = ap (λ r. bytes ++ r) a ∙ append-nil bytes in
     subst (λ b. IsOutcome b outcome) (sym (same ∙ none)) o
-  where
-    some_same : {a b : List ℕ} → Some a ≡ Some b → a ≡ b
-    some_same e = cc
 
 -- a text with a front that is too long is too large
 pub large_outcome : (text left : Option (List ℕ)) → IsTooLong text left → IsOutcomeOf text TooLarge
 large_outcome text None f t h = absurd (cc (sym h ∙ f.2))
 large_outcome text (Some rest) f t h =
-    let same : t ≡ f.0 ++ rest = some_same (sym h ∙ f.2) in
+    let same : t ≡ f.0 ++ rest = some_same _ _ (sym h ∙ f.2) in
     let sum = length-append f.0 rest in
     rw same (omega (arith, f.1, sum))
-  where
-    some_same : {a b : List ℕ} → Some a ≡ Some b → a ≡ b
-    some_same e = cc
 
 -- one word is the list of its texts
 pub one_word : {A : Type 0} (f : A → List ℕ) (ws rest : List A) (w : A) (b : Bool) → ws ≡ w ∷ rest → (length rest == 0) ≡ true

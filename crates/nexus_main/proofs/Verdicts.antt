@@ -61,11 +61,12 @@ answers_of : (ys : List FormulaTree) (ls : List LineTree) → (answers : List Bo
 answers_of ys [] = ([], none)
 answers_of ys (l ∷ ls) = let d = decide ys l.formula in let r = answers_of ys ls in (d.0 ∷ r.0, answer d.1 r.1)
 
-ask_first : (x : LineTree) (ls : List LineTree) → is_ask x ≡ true → filter is_ask (x ∷ ls) ≡ x ∷ filter is_ask ls
-ask_first x ls q = rw q refl
+-- a line that passes a test, and one that does not, at the front of those that are tested
+pub filter_first : (passes : LineTree → Bool) (x : LineTree) (ls : List LineTree) → passes x ≡ true → filter passes (x ∷ ls) ≡ x ∷ filter passes ls
+filter_first passes x ls q = rw q refl
 
-ask_later : (x : LineTree) (ls : List LineTree) → is_ask x ≡ false → filter is_ask (x ∷ ls) ≡ filter is_ask ls
-ask_later x ls q = rw q refl
+pub filter_later : (passes : LineTree → Bool) (x : LineTree) (ls : List LineTree) → passes x ≡ false → filter passes (x ∷ ls) ≡ filter passes ls
+filter_later passes x ls q = rw q refl
 
 is_ask_of : (l : LineTree) → l.rule ≡ Ask → is_ask l ≡ true
 is_ask_of l r = rw r refl
@@ -92,8 +93,8 @@ later_answer : {ys : List FormulaTree} {C : Type 0} (x : LineTree) (ls : List Li
     → AreAnswers ys (filter is_ask (x ∷ ls)) bs
     → ((cs : List Bool) → AreAnswers ys (filter is_ask ls) cs → (slice_get cs (length (filter is_ask (take i ls))) ≡ Some true) ↔ C)
     → (slice_get bs (length (filter is_ask (x ∷ take i ls))) ≡ Some true) ↔ C
-later_answer x ls i bs true q a h = rw (ask_first x (take i ls) q) (next_answer (length (filter is_ask (take i ls))) bs (rw (ask_first x ls q) at a) h)
-later_answer x ls i bs false q a h = rw (ask_later x (take i ls) q) (h bs (rw (ask_later x ls q) at a))
+later_answer x ls i bs true q a h = rw (filter_first is_ask x (take i ls) q) (next_answer (length (filter is_ask (take i ls))) bs (rw (filter_first is_ask x ls q) at a) h)
+later_answer x ls i bs false q a h = rw (filter_later is_ask x (take i ls) q) (h bs (rw (filter_later is_ask x ls q) at a))
 
 -- the answer to an ask line stands at its place among the ask lines
 answered : {ys : List FormulaTree} (ls : List LineTree) (bs : List Bool) → AreAnswers ys (filter is_ask ls) bs
@@ -103,7 +104,7 @@ answered [] bs a i l e r = absurd (cc e)
 answered {ys = ys} (x ∷ ls) bs a zero l e r =
     let s : x ≡ l = cc e in
     let q : is_ask x ≡ true = is_ask_of x (rw s r) in
-    rw (← s) (first_answer bs (rw (ask_first x ls q) at a))
+    rw (← s) (first_answer bs (rw (filter_first is_ask x ls q) at a))
 answered (x ∷ ls) bs a (suc i) l e r = later_answer x ls i bs (is_ask x) refl a (λ cs b. answered ls cs b i l e r)
 
 -- the principal of a line is bound
@@ -275,7 +276,7 @@ faulty form g n fault e some f =
     lower (NotBound k) h c = absurd (omega (arith, h))
     lower (AuthorityNo k) h c = absurd (omega (arith, h))
 
-some_same : {A : Type 0} (p q : A) → Some p ≡ Some q → p ≡ q
+pub some_same : {A : Type 0} (p q : A) → Some p ≡ Some q → p ≡ q
 some_same p q s = cc
 
 -- a proof without a fault: what its labels and its ask lines come to
