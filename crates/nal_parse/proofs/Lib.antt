@@ -5,3 +5,7 @@ pub mod TermReadings
 pub mod ListReadings
 pub mod ScopeReadings
 pub mod FormulaReadings
+pub mod DigitCounts
+pub mod Written
+pub mod PrintedTerms
+pub mod PrintedFormulas

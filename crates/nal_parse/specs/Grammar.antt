@@ -11,6 +11,7 @@ use Rattle.nal_parse.specs.declared.tokens.Quantifier.{Quantifier}
 use Rattle.nal_parse.specs.declared.tokens.Quantifier.TheVariants as every
 use Rattle.nal_parse.specs.Tokens.{Lexeme, next_cut}
 use Rattle.nal_parse.specs.Tokens as lexeme
+use Rattle.nal_parse.specs.Canonical.{FormulaFits, TermFits}
 
 -- { "." name } after the term `t`: the subprincipals of the term so far
 pub data ReadsParts : TermTree → List ℕ → TermTree → List ℕ → Type 0 where
@@ -130,12 +131,15 @@ SpellsFormula n bytes f = (rest : List ℕ) × ReadsFormula n bytes f rest × ((
 abbrev pub SpellsTerm : List ℕ → TermTree → Type 0
 SpellsTerm bytes t = (rest : List ℕ) × ReadsTerm bytes t rest × ((next_cut rest).0 ≡ lexeme.end)
 
--- the text is read as the formula: it spells it, in at most 1,024 bytes, with at most 64 levels open at once
+-- the text is read as the formula: it spells it, in at most 1,024 bytes, with at most 64 levels open at once,
+-- and the formula's canonical text keeps the same limits
 pub record IsFormulaText (bytes : List ℕ) (f : FormulaTree) : Type 0 where
   pub length_limit : length bytes ≤ 1024
   pub spelled : SpellsFormula 64 bytes f
+  pub fits : FormulaFits f
 
--- the text is read as the term: it spells it, in at most 1,024 bytes
+-- the text is read as the term: it spells it, in at most 1,024 bytes, and so does the term's canonical text
 pub record IsTermText (bytes : List ℕ) (t : TermTree) : Type 0 where
   pub length_limit : length bytes ≤ 1024
   pub spelled : SpellsTerm bytes t
+  pub fits : TermFits t

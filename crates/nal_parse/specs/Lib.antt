@@ -1,3 +1,4 @@
 pub mod Tokens
+pub mod Canonical
 pub mod Grammar
 pub mod Reading

@@ -1,9 +1,13 @@
-//! The texts of formulas and terms.
+//! The texts of formulas and terms: what they spell, and the canonical text of each.
 #![tactic(auto)]
 
 mod formulas;
+mod lengths;
 mod makers;
 mod parse;
+mod printer;
+#[cfg(test)]
+mod printing_tests;
 mod statements;
 mod stops;
 mod terms;
@@ -11,4 +15,6 @@ mod terms;
 mod tests;
 mod tokens;
 
+pub use lengths::{digit_count, fits, fits_said, term_fits, term_length, text_length};
 pub use parse::{ParseError, parse_formula, parse_term};
+pub use printer::{print_formula, print_term};

@@ -1,8 +1,10 @@
-ghost use Rattle.std.specs.Prelude.{◌≡◌, ◌≢◌, ◌<◌, ◌↔◌, length, IfOk, IfErr};
+ghost use Rattle.std.specs.Prelude.{◌≡◌, ◌≢◌, ◌<◌, ◌⊎◌, length, IfOk, IfErr};
 ghost use Rattle.nal_term.specs.Trees.{FormulaTree, TermTree, formula_tree, term_tree};
-ghost use Rattle.nal_parse.specs.Grammar.{IsFormulaText, IsTermText};
+ghost use Rattle.nal_parse.specs.Canonical.{formula_text, term_text};
+ghost use Rattle.nal_parse.specs.Grammar.{IsFormulaText, IsTermText, SpellsFormula, SpellsTerm};
 
 use crate::formulas::read_formula;
+use crate::lengths::{level_count, term_length, text_length};
 use crate::stops::Stop;
 use crate::terms::read_term;
 use crate::tokens::Token;
@@ -30,7 +32,7 @@ pub enum ParseError {
 }
 
 /// How many bytes a text may have.
-const MOST_BYTES: usize = 1024;
+const MOST_BYTES: u64 = 1024;
 
 /// How many levels may be open at a place.
 const MOST_LEVELS: u8 = 64;
@@ -41,9 +43,10 @@ pub fn parse_formula(alloc: Global, text: &[u8]) -> Result<Formula, ParseError>
     ensures ok { IfOk result (λ f. IsFormulaText text.now (formula_tree f)) }
     ensures only { IfOk result (λ f. (g : FormulaTree) → IsFormulaText text.now g → g ≡ formula_tree f) }
     ensures err { IfErr result (λ e. e ≢ ParseError.Memory → (g : FormulaTree) → ¬ IsFormulaText text.now g) }
-    ensures too_long { (result ≡ Err ParseError.TooLong) ↔ (1024 < length text.now) }
+    ensures long { 1024 < length text.now → result ≡ Err ParseError.TooLong }
+    ensures too_long { result ≡ Err ParseError.TooLong → (1024 < length text.now) ⊎ ((f : FormulaTree) × SpellsFormula 64 text.now f × (1024 < length (formula_text f))) }
 {
-    if text.len() > MOST_BYTES {
+    if text.len() as u64 > MOST_BYTES {
         return Err(ParseError::TooLong);
     }
     let (formula, rest) = match read_formula(alloc, MOST_LEVELS, text) {
@@ -52,6 +55,12 @@ pub fn parse_formula(alloc: Global, text: &[u8]) -> Result<Formula, ParseError>
     };
     let (token, _) = Token::next(rest);
     match token {
+        Token::End if text_length(&formula) > MOST_BYTES => Err(ParseError::TooLong),
+        Token::End if level_count(&formula) > u64::from(MOST_LEVELS) => {
+            Err(ParseError::TooDeep {
+                place: text.len() as u64,
+            })
+        }
         Token::End => Ok(formula),
         _ => Err(Stop::at(rest, &token).error_in(text)),
     }
@@ -63,9 +72,10 @@ pub fn parse_term(alloc: Global, text: &[u8]) -> Result<Term, ParseError>
     ensures ok { IfOk result (λ t. IsTermText text.now (term_tree t)) }
     ensures only { IfOk result (λ t. (u : TermTree) → IsTermText text.now u → u ≡ term_tree t) }
     ensures err { IfErr result (λ e. e ≢ ParseError.Memory → (u : TermTree) → ¬ IsTermText text.now u) }
-    ensures too_long { (result ≡ Err ParseError.TooLong) ↔ (1024 < length text.now) }
+    ensures long { 1024 < length text.now → result ≡ Err ParseError.TooLong }
+    ensures too_long { result ≡ Err ParseError.TooLong → (1024 < length text.now) ⊎ ((t : TermTree) × SpellsTerm text.now t × (1024 < length (term_text t))) }
 {
-    if text.len() > MOST_BYTES {
+    if text.len() as u64 > MOST_BYTES {
         return Err(ParseError::TooLong);
     }
     let (term, rest) = match read_term(alloc, text) {
@@ -74,6 +84,7 @@ pub fn parse_term(alloc: Global, text: &[u8]) -> Result<Term, ParseError>
     };
     let (token, _) = Token::next(rest);
     match token {
+        Token::End if term_length(&term) > MOST_BYTES => Err(ParseError::TooLong),
         Token::End => Ok(term),
         _ => Err(Stop::at(rest, &token).error_in(text)),
     }

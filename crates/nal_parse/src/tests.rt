@@ -77,6 +77,7 @@ fn formulas_are_refused_at_their_places(rt: HostRuntime) {
         ),
         ("p and 01 = 1", ParseError::BadNumber { place: 6 }),
         ("p 1a", ParseError::BadNumber { place: 2 }),
+        ("a speaksfor b on ()", ParseError::Unexpected { place: 18 }),
         ("p(?true)", ParseError::BadName { place: 2 }),
         ("p(\"a;b\")", ParseError::BadText { place: 2 }),
     ] {

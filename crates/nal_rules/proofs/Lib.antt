@@ -1,2 +1,5 @@
 pub mod Same
 pub mod Discharge
+pub mod Weakened
+pub mod Consistent
+pub mod OneNamed

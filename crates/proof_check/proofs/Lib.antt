@@ -6,6 +6,8 @@ pub mod Derived
 pub mod Refuted
 pub mod Told
 pub mod Law
+pub mod Greatest
+pub mod Costs
 pub mod Reached
 pub mod Counted
 pub mod Decided

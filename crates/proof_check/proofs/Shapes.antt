@@ -1,5 +1,5 @@
 -- The forms of lines, against the formulas to which a line refers.
-use Rattle.std.proofs.Common.{◌≡◌, ◌↔◌, ◌⊎◌, inl, inr, ⊎_elim, ℕ, List, [], ◌∷◌, length, Option, Some, None, Bool, false, IsTrue, refl, ◌∙◌, subst, arith}
+use Rattle.std.proofs.Common.{◌≡◌, ◌≢◌, ◌↔◌, ap, sym, ◌⊎◌, inl, inr, ⊎_elim, ℕ, List, [], ◌∷◌, length, Option, Some, None, Bool, false, IsTrue, refl, ◌∙◌, subst, arith}
 use Rattle.std.specs.Option.{option_map, option_and_then}
 use Rattle.nal_term.specs.declared.formulas.Compare.{Compare}
 use Rattle.nal_term.specs.declared.formulas.Compare.TheVariants.{Equal, Less, AtMost}
@@ -10,6 +10,8 @@ use Rattle.nal_rules.specs.Faults.{formula_at, formulas_at, HasForm, IsCaptured}
 use Rattle.proof_check.specs.Premises.{premise_at, HasFormAt}
 use Rattle.proof_check.specs.Sound.{IsCapturedAt}
 use Rattle.nal_subst.specs.Substitution.{formula_with}
+use Rattle.nal_subst.specs.declared.instances.Match.{Match}
+use Rattle.nal_subst.specs.declared.instances.Match.TheVariants.{Yes, No, Capture}
 
 -- a deduce line of statements has its form where their parts are the same
 pub deduce_form : (p q r : TermTree) (a b f g : FormulaTree) → (((p ≡ q) × (p ≡ r)) × ((a ≡ f) × (b ≡ g))) ↔ HasForm Deduce (says p (implies a b) ∷ says q f ∷ []) None (says r g)
@@ -43,7 +45,7 @@ two_premises lines (i ∷ j ∷ []) h = pair (formula_at lines i) (formula_at li
 two_premises lines (i ∷ j ∷ k ∷ refs) h = absurd (omega arith)
 
 -- the test of the form, where the premises are known
-pub form_at : (lines : List LineTree) (l : LineTree) (premises : List FormulaTree) → formulas_at lines l.refs ≡ Some premises → (b : Bool) → (IsTrue b ↔ HasForm l.rule premises l.term l.formula) → IsTrue b ↔ HasFormAt lines l
+pub form_at : (lines : List LineTree) (l : LineTree) (premises : List FormulaTree) → formulas_at lines l.refs ≡ Some premises → (P : Type 0) → (P ↔ HasForm l.rule premises l.term l.formula) → P ↔ HasFormAt lines l
 form_at lines l premises e b h =
     (λ t. (premises, e, h.0 t), λ w. let s : w.0 ≡ premises = (let d = w.1 in cc (d, e)) in h.1 (subst (λ fs. HasForm l.rule fs l.term l.formula) s w.2))
 
@@ -52,7 +54,7 @@ pub no_form_at : (lines : List LineTree) (l : LineTree) → formulas_at lines l.
 no_form_at lines l e = (λ t. absurd (cc t), λ w. let d = w.1 in absurd (cc (d, e)))
 
 -- where a line has two premises, a test of its form is one of its form at these
-pub two_form_at : (lines : List LineTree) (l : LineTree) → HasRuleForm l → reference_count l.rule ≡ 2 → (f g : FormulaTree) → Some f ≡ premise_at lines l.refs 0 → Some g ≡ premise_at lines l.refs 1 → (b : Bool) → (IsTrue b ↔ HasForm l.rule (f ∷ g ∷ []) l.term l.formula) → IsTrue b ↔ HasFormAt lines l
+pub two_form_at : (lines : List LineTree) (l : LineTree) → HasRuleForm l → reference_count l.rule ≡ 2 → (f g : FormulaTree) → Some f ≡ premise_at lines l.refs 0 → Some g ≡ premise_at lines l.refs 1 → (P : Type 0) → (P ↔ HasForm l.rule (f ∷ g ∷ []) l.term l.formula) → P ↔ HasFormAt lines l
 two_form_at lines l h n f g e d b t =
     let two : length l.refs ≡ 2 = h.references ∙ n in
     form_at lines l (f ∷ g ∷ []) (two_premises lines l.refs two ∙ rw (← e, ← d)) b t
@@ -152,7 +154,7 @@ one_premise lines (i ∷ []) h = single (formula_at lines i)
     single (Some f) = refl
 one_premise lines (i ∷ j ∷ refs) h = absurd (omega arith)
 
-pub one_form_at : (lines : List LineTree) (l : LineTree) → HasRuleForm l → reference_count l.rule ≡ 1 → (f : FormulaTree) → Some f ≡ premise_at lines l.refs 0 → (b : Bool) → (IsTrue b ↔ HasForm l.rule (f ∷ []) l.term l.formula) → IsTrue b ↔ HasFormAt lines l
+pub one_form_at : (lines : List LineTree) (l : LineTree) → HasRuleForm l → reference_count l.rule ≡ 1 → (f : FormulaTree) → Some f ≡ premise_at lines l.refs 0 → (P : Type 0) → (P ↔ HasForm l.rule (f ∷ []) l.term l.formula) → P ↔ HasFormAt lines l
 one_form_at lines l h n f e b t =
     let one : length l.refs ≡ 1 = h.references ∙ n in
     form_at lines l (f ∷ []) (one_premise lines l.refs one ∙ rw (← e)) b t
@@ -267,34 +269,28 @@ same_with : (x y : List ℕ) (t : TermTree) (a b : FormulaTree) (o : Option Form
 same_with x y t a b o e d w =
     subst (λ z. formula_with z t b ≡ o) e (subst (λ z. formula_with x t z ≡ o) d w)
 
-pub forall_e_spec : (first conclusion : FormulaTree) (t : TermTree) (x : List ℕ) (a : FormulaTree) → first ≡ forall x a → (b : Bool) → (IsTrue b ↔ ((y : FormulaTree) → formula_with x t a ≡ Some y → conclusion ≡ y)) → IsTrue b ↔ HasForm ForallE (first ∷ []) (Some t) conclusion
+pub forall_e_spec : (first conclusion : FormulaTree) (t : TermTree) (x : List ℕ) (a : FormulaTree) → first ≡ forall x a → (P : Type 0) → (P ↔ ((y : FormulaTree) → formula_with x t a ≡ Some y → conclusion ≡ y)) → P ↔ HasForm ForallE (first ∷ []) (Some t) conclusion
 forall_e_spec first conclusion t x a e b h =
     (λ m. (x, a, e, h.0 m), λ (z, f, d, s). h.1 (λ y w. s y (same_with x z t a f (Some y) (cc (e, d)) (cc (e, d)) w)))
 
-pub exists_i_spec : (first conclusion : FormulaTree) (t : TermTree) (x : List ℕ) (a : FormulaTree) → conclusion ≡ exists x a → (b : Bool) → (IsTrue b ↔ ((y : FormulaTree) → formula_with x t a ≡ Some y → first ≡ y)) → IsTrue b ↔ HasForm ExistsI (first ∷ []) (Some t) conclusion
+pub exists_i_spec : (first conclusion : FormulaTree) (t : TermTree) (x : List ℕ) (a : FormulaTree) → conclusion ≡ exists x a → (P : Type 0) → (P ↔ ((y : FormulaTree) → formula_with x t a ≡ Some y → first ≡ y)) → P ↔ HasForm ExistsI (first ∷ []) (Some t) conclusion
 exists_i_spec first conclusion t x a e b h =
     (λ m. (x, a, e, h.0 m), λ (z, f, d, s). h.1 (λ y w. s y (same_with x z t a f (Some y) (cc (e, d)) (cc (e, d)) w)))
 
-pub forall_captured : (first conclusion : FormulaTree) (t : TermTree) (x : List ℕ) (a : FormulaTree) → first ≡ forall x a → (b : Bool) → (IsTrue b ↔ (formula_with x t a ≡ None)) → IsTrue b ↔ IsCaptured ForallE (first ∷ []) (Some t) conclusion
-forall_captured first conclusion t x a e b h =
-    (λ m. (x, a, e, h.0 m), λ (z, f, d, s). h.1 (same_with z x t f a None (cc (e, d)) (cc (e, d)) s))
-
-pub exists_captured : (first conclusion : FormulaTree) (t : TermTree) (x : List ℕ) (a : FormulaTree) → conclusion ≡ exists x a → (b : Bool) → (IsTrue b ↔ (formula_with x t a ≡ None)) → IsTrue b ↔ IsCaptured ExistsI (first ∷ []) (Some t) conclusion
-exists_captured first conclusion t x a e b h =
-    (λ m. (x, a, e, h.0 m), λ (z, f, d, s). h.1 (same_with z x t f a None (cc (e, d)) (cc (e, d)) s))
-
--- an instance or an undefined one is what the substitution makes, where it is defined
-pub made_where_defined : (o : Option FormulaTree) (g : FormulaTree) → (o ≡ None) ⊎ (o ≡ Some g) → (b : FormulaTree) → o ≡ Some b → g ≡ b
-made_where_defined o g (inl e) b d = absurd (cc (e, d))
-made_where_defined o g (inr e) b d = cc (e, d)
-
--- and another is not
-pub not_made : (o : Option FormulaTree) (g : FormulaTree) → (o ≡ None → ⊥) → (o ≡ Some g → ⊥) → ((b : FormulaTree) → o ≡ Some b → g ≡ b) → ⊥
-not_made None g defined other made = defined refl
-not_made (Some f) g defined other made = let e : g ≡ f = made f refl in other (cc e)
+-- what an answer of a substitution says of a formula that may be its instance
+pub made_where_defined : (m : Match) (o : Option FormulaTree) (g : FormulaTree) → ((m ≡ Capture) ↔ (o ≡ None)) → ((m ≡ Yes) ↔ (o ≡ Some g)) → (m ≢ No) ↔ ((b : FormulaTree) → o ≡ Some b → g ≡ b)
+made_where_defined Capture o g c y =
+    let e : o ≡ None = c.0 refl in
+    (λ n b d. absurd (cc (e, d)), λ made n. absurd (cc n))
+made_where_defined Yes o g c y =
+    let e : o ≡ Some g = y.0 refl in
+    (λ n b d. cc (e, d), λ made n. absurd (cc n))
+made_where_defined No None g c y = (λ n. absurd (n refl), λ made n. let d : No ≡ Capture = c.1 refl in absurd (cc d))
+made_where_defined No (Some f) g c y =
+    (λ n. absurd (n refl), λ made n. let d : No ≡ Yes = y.1 (ap (λ x. Some x) (sym (made f refl))) in absurd (cc d))
 
 -- the test of an undefined substitution, where the premises are known
-pub captured_at : (lines : List LineTree) (l : LineTree) → HasRuleForm l → reference_count l.rule ≡ 1 → (f : FormulaTree) → Some f ≡ premise_at lines l.refs 0 → (b : Bool) → (IsTrue b ↔ IsCaptured l.rule (f ∷ []) l.term l.formula) → IsTrue b ↔ IsCapturedAt lines l
+pub captured_at : (lines : List LineTree) (l : LineTree) → HasRuleForm l → reference_count l.rule ≡ 1 → (f : FormulaTree) → Some f ≡ premise_at lines l.refs 0 → (P : Type 0) → (P ↔ IsCaptured l.rule (f ∷ []) l.term l.formula) → P ↔ IsCapturedAt lines l
 captured_at lines l form n f e b h =
     let one : length l.refs ≡ 1 = form.references ∙ n in
     let found : formulas_at lines l.refs ≡ Some (f ∷ []) = one_premise lines l.refs one ∙ rw (← e) in (
@@ -304,8 +300,17 @@ captured_at lines l form n f e b h =
           h.1 (subst (λ fs. IsCaptured l.rule fs l.term l.formula) s w.2),
     )
 
-pub not_captured_at : (lines : List LineTree) (l : LineTree) → HasRuleForm l → reference_count l.rule ≡ 1 → None ≡ premise_at lines l.refs 0 → IsTrue false ↔ IsCapturedAt lines l
-not_captured_at lines l form n e =
+-- a line whose reference is not known has no form, and no substitution is asked for
+pub no_form_without : (lines : List LineTree) (l : LineTree) → HasRuleForm l → reference_count l.rule ≡ 1 → None ≡ premise_at lines l.refs 0 → HasFormAt lines l → ⊥
+no_form_without lines l form n e w =
     let one : length l.refs ≡ 1 = form.references ∙ n in
     let none : formulas_at lines l.refs ≡ None = one_premise lines l.refs one ∙ rw (← e) in
-    (λ t. absurd (cc t), λ w. let d = w.1 in absurd (cc (d, none)))
+    let d = w.1 in
+    absurd (cc (d, none))
+
+pub not_captured_without : (lines : List LineTree) (l : LineTree) → HasRuleForm l → reference_count l.rule ≡ 1 → None ≡ premise_at lines l.refs 0 → IsCapturedAt lines l → ⊥
+not_captured_without lines l form n e w =
+    let one : length l.refs ≡ 1 = form.references ∙ n in
+    let none : formulas_at lines l.refs ≡ None = one_premise lines l.refs one ∙ rw (← e) in
+    let d = w.1 in
+    absurd (cc (d, none))

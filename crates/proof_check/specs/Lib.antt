@@ -5,3 +5,5 @@ pub mod Numbered
 pub mod Rests
 pub mod Kinds
 pub mod Results
+pub mod Sizes
+pub mod Costs

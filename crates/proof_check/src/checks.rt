@@ -1,10 +1,12 @@
-ghost use Rattle.std.specs.Prelude.{◌≡◌, ◌↔◌, ℕ, [], map, IfErr, IfOk, OnOk, MatchOption};
+ghost use Rattle.std.specs.Prelude.{◌≡◌, ◌↔◌, ◌+◌, ◌*◌, ◌<◌, ◌≤◌, ℕ, [], length, map, IfErr, IfOk, IsNone, OnOk, MatchOption};
+ghost use Rattle.nal_term.specs.Size.{node_count};
 ghost use Rattle.nal_term.specs.Trees.{formula_tree};
 ghost use Rattle.proof_lines.specs.Lines.{line_trees};
 ghost use Rattle.nal_rules.specs.Derivation.{Derives};
 ghost use Rattle.nal_rules.specs.Faults.{HasLowestFault, IsFaultless, formulas_where, is_ask, is_label, numbers_from};
 ghost use Rattle.proof_check.specs.Rests.{AreColumns};
 ghost use Rattle.proof_check.specs.Results.{IsRightError};
+ghost use Rattle.proof_check.specs.Sizes.{greatest_in, greatest_size, line_steps, proof_steps};
 ghost use Rattle.proof_check.specs.Sound.{IsSoundAt};
 
 use crate::columns::columns;
@@ -12,9 +14,11 @@ use crate::faults::line_fault;
 use crate::lists::LineList;
 use crate::numbers::{Kind, numbers_of};
 use nal_rules::Fault;
-use nal_term::Formula;
+use nal_term::{Formula, Steps};
 use proof_lines::Proof;
 use std::alloc::Global;
+use std::marker::Brand;
+use std::sync::ledger::{Blank, Ledger};
 
 /// What is asked of the world before a proof that was accepted counts: the numbers of its label lines
 /// and of its ask lines, counted from 1.
@@ -56,13 +60,62 @@ pub fn check(alloc: Global, proof: &Proof, goal: &Formula) -> Result<Checked, Ch
     ensures derives { OnOk result
         (Derives (formulas_where is_label (line_trees proof.now)) (formulas_where is_ask (line_trees proof.now)) (formula_tree goal.now)) }
 {
+    check_uncounted::<Brand>(alloc, proof, goal, Blank::new(1))
+}
+
+// The counted call, with a counter that nothing reads.
+fn check_uncounted<L: Ledger>(
+    alloc: Global,
+    proof: &Proof,
+    goal: &Formula,
+    blank: Blank,
+) -> Result<Checked, CheckError>
+    requires name { blank.name ≡ L.name }
+    requires parts { blank.parts ≡ L.parts }
+    requires some { 0 < blank.parts }
+    ensures empty { (result ≡ Err CheckError.Empty) ↔ (proof.now ≡ []) }
+    ensures line { IfErr result (λ e. IsRightError (line_trees proof.now) (formula_tree goal.now) e) }
+    ensures faultless { OnOk result
+        ((k : ℕ) → IsFaultless (line_trees proof.now) (formula_tree goal.now) k) }
+    ensures labels { IfOk result (λ c. c.labels ≡ numbers_from is_label 1 (line_trees proof.now)) }
+    ensures asks { IfOk result (λ c. c.asks ≡ numbers_from is_ask 1 (line_trees proof.now)) }
+    ensures derives { OnOk result
+        (Derives (formulas_where is_label (line_trees proof.now)) (formulas_where is_ask (line_trees proof.now)) (formula_tree goal.now)) }
+{
+    let mut steps = Steps::<L>::start(blank);
+    check_counted(alloc, proof, goal, &mut steps)
+}
+
+/// As `check`, with a step for each look at the kind of a node where two terms or two formulas are
+/// compared, a formula is looked through for a variable or for a name of a scope, or a substitution is
+/// made. Where the proof has n lines and no formula or term of it and of the goal more than z nodes,
+/// there are at most `n * (z * z + (n + 8) * z)` steps. Where the answer is `Ok` there are at least as
+/// many as the goal has nodes.
+#[tactic(auto, using(crate::proofs::Costs::steps_with_goal))]
+pub fn check_counted<L: Ledger>(
+    alloc: Global,
+    proof: &Proof,
+    goal: &Formula,
+    steps: &mut Steps<L>,
+) -> Result<Checked, CheckError>
+    ensures empty { (result ≡ Err CheckError.Empty) ↔ (proof.now ≡ []) }
+    ensures line { IfErr result (λ e. IsRightError (line_trees proof.now) (formula_tree goal.now) e) }
+    ensures faultless { OnOk result
+        ((k : ℕ) → IsFaultless (line_trees proof.now) (formula_tree goal.now) k) }
+    ensures labels { IfOk result (λ c. c.labels ≡ numbers_from is_label 1 (line_trees proof.now)) }
+    ensures asks { IfOk result (λ c. c.asks ≡ numbers_from is_ask 1 (line_trees proof.now)) }
+    ensures derives { OnOk result
+        (Derives (formulas_where is_label (line_trees proof.now)) (formulas_where is_ask (line_trees proof.now)) (formula_tree goal.now)) }
+    ensures most { steps.new ≤ steps.old + proof_steps (length proof.now) (greatest_size (line_trees proof.now) (formula_tree goal.now)) }
+    ensures least { OnOk result (steps.old + node_count (formula_tree goal.now) ≤ steps.new) }
+{
     if proof.count() == 0 {
         return Err(CheckError::Empty);
     }
     let Ok(columns) = columns(alloc, proof) else {
         return Err(CheckError::Memory);
     };
-    if let Some(faulty) = lowest_fault(proof, goal, columns.as_slice()) {
+    if let Some(faulty) = lowest_fault(proof, goal, columns.as_slice(), steps) {
         return Err(CheckError::Line {
             line: faulty.number,
             fault: faulty.fault,
@@ -78,14 +131,21 @@ pub fn check(alloc: Global, proof: &Proof, goal: &Formula) -> Result<Checked, Ch
 }
 
 /// The lowest line that has a fault. None exactly where no line has one.
-fn lowest_fault(proof: &Proof, goal: &Formula, columns: &[Vec<bool>]) -> Option<FaultyLine>
+fn lowest_fault<L: Ledger>(
+    proof: &Proof,
+    goal: &Formula,
+    columns: &[Vec<bool>],
+    steps: &mut Steps<L>,
+) -> Option<FaultyLine>
     requires columns { AreColumns (line_trees proof.now) (map (λ c. c.items) columns.now) }
-    ensures { MatchOption result
+    ensures lowest { MatchOption result
         ((k : ℕ) → IsSoundAt (line_trees proof.now) (formula_tree goal.now) k)
         (λ faulty. HasLowestFault (line_trees proof.now) (formula_tree goal.now) faulty.number faulty.fault) }
+    ensures most { steps.new ≤ steps.old + proof_steps (length proof.now) (greatest_in (line_trees proof.now)) }
+    ensures least { IsNone result → 0 < length proof.now → steps.old + node_count (formula_tree goal.now) ≤ steps.new }
 {
     for number in 1..proof.count() + 1 {
-        if let Some(fault) = line_fault(proof, goal, columns, number) {
+        if let Some(fault) = line_fault(proof, goal, columns, number, steps) {
             return Some(FaultyLine { number, fault });
         }
     }

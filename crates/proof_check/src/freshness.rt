@@ -1,68 +1,85 @@
-ghost use Rattle.std.specs.Prelude.{◌≡◌, ◌↔◌, Some, None, true, length, map, IsTrue};
+ghost use Rattle.std.specs.Prelude.{◌≡◌, ◌↔◌, ◌+◌, ◌*◌, ◌≤◌, Some, None, true, length, map, IsTrue};
+ghost use Rattle.nal_term.specs.Size.{node_count};
 ghost use Rattle.nal_term.specs.Free.{is_free_in};
 ghost use Rattle.nal_term.specs.Trees.{FormulaTree, formula_tree};
 ghost use Rattle.proof_check.specs.Rests.{AreColumns, is_kept};
+ghost use Rattle.proof_check.specs.Sizes.{greatest_in};
 ghost use Rattle.proof_lines.specs.Lines.{HasRuleForm, line_tree, line_trees};
 ghost use Rattle.nal_rules.specs.Faults.{IsFreeBelow, IsNotFresh, formula_at};
 ghost use Rattle.proof_lines.specs.declared.rules.Rule.TheVariants.{ExistsE, ForallI};
 
 use crate::columns::rests_on;
 use crate::premises::formula_at;
-use nal_term::{Formula, Name, free_in};
+use nal_term::{Formula, Name, Steps, free_in_counted};
 use proof_lines::{Line, Proof, Rule};
+use std::sync::ledger::Ledger;
 
 /// Whether the rule asks for a fresh variable, and the quantifier's is not.
-pub fn is_not_fresh(proof: &Proof, columns: &[Vec<bool>], line: &Line) -> bool
+pub fn is_not_fresh<L: Ledger>(
+    proof: &Proof,
+    columns: &[Vec<bool>],
+    line: &Line,
+    steps: &mut Steps<L>,
+) -> bool
     requires form { HasRuleForm (line_tree line.now) }
     requires columns { AreColumns (line_trees proof.now) (map (λ c. c.items) columns.now) }
-    ensures { IsTrue result
+    ensures fresh { IsTrue result
         ↔ IsNotFresh (line_trees proof.now) line.now.rule line.now.refs (formula_tree line.now.formula) }
+    ensures least { steps.old ≤ steps.new }
+    ensures most { steps.new ≤ steps.old + node_count (formula_tree line.now.formula) + (length proof.now + 1) * greatest_in (line_trees proof.now) }
 {
     let refs = line.refs.as_slice();
     match line.rule {
-        Rule::ForallI => is_not_fresh_for_all(proof, columns, refs, &line.formula),
-        Rule::ExistsE => is_not_fresh_for_some(proof, columns, refs, &line.formula),
+        Rule::ForallI => is_not_fresh_for_all(proof, columns, refs, &line.formula, steps),
+        Rule::ExistsE => is_not_fresh_for_some(proof, columns, refs, &line.formula, steps),
         _ => false,
     }
 }
 
-fn is_not_fresh_for_all(
+fn is_not_fresh_for_all<L: Ledger>(
     proof: &Proof,
     columns: &[Vec<bool>],
     refs: &[u64],
     conclusion: &Formula,
+    steps: &mut Steps<L>,
 ) -> bool
     requires one { length refs.now ≡ 1 }
     requires columns { AreColumns (line_trees proof.now) (map (λ c. c.items) columns.now) }
-    ensures { IsTrue result
+    ensures fresh { IsTrue result
         ↔ IsNotFresh (line_trees proof.now) ForallI refs.now (formula_tree conclusion.now) }
+    ensures least { steps.old ≤ steps.new }
+    ensures most { steps.new ≤ steps.old + (length proof.now + 1) * greatest_in (line_trees proof.now) }
 {
     let [premise] = refs else {
         return false;
     };
     match conclusion {
-        Formula::Forall(x, _) => is_free_below(proof, columns, *premise, None, x),
+        Formula::Forall(x, _) => is_free_below(proof, columns, *premise, None, x, steps),
         _ => false,
     }
 }
 
-fn is_not_fresh_for_some(
+fn is_not_fresh_for_some<L: Ledger>(
     proof: &Proof,
     columns: &[Vec<bool>],
     refs: &[u64],
     conclusion: &Formula,
+    steps: &mut Steps<L>,
 ) -> bool
     requires three { length refs.now ≡ 3 }
     requires columns { AreColumns (line_trees proof.now) (map (λ c. c.items) columns.now) }
-    ensures { IsTrue result
+    ensures fresh { IsTrue result
         ↔ IsNotFresh (line_trees proof.now) ExistsE refs.now (formula_tree conclusion.now) }
+    ensures least { steps.old ≤ steps.new }
+    ensures most { steps.new ≤ steps.old + node_count (formula_tree conclusion.now) + (length proof.now + 1) * greatest_in (line_trees proof.now) }
 {
     let [some, assumed, concluded] = refs else {
         return false;
     };
     match formula_at(proof, *some) {
         Some(Formula::Exists(x, _)) => {
-            free_in(conclusion, x) || is_free_below(proof, columns, *concluded, Some(*assumed), x)
+            free_in_counted(conclusion, x, steps)
+                || is_free_below(proof, columns, *concluded, Some(*assumed), x, steps)
         }
         _ => false,
     }
@@ -70,20 +87,23 @@ fn is_not_fresh_for_some(
 
 /// Whether the variable is free in the formula of a hypothesis on which the line with this number rests,
 /// the discharged one set aside.
-fn is_free_below(
+fn is_free_below<L: Ledger>(
     proof: &Proof,
     columns: &[Vec<bool>],
     number: u64,
     discharged: Option<u64>,
     x: &Name,
+    steps: &mut Steps<L>,
 ) -> bool
     requires columns { AreColumns (line_trees proof.now) (map (λ c. c.items) columns.now) }
-    ensures { IsTrue result ↔ IsFreeBelow (line_trees proof.now) number discharged x.now }
+    ensures free { IsTrue result ↔ IsFreeBelow (line_trees proof.now) number discharged x.now }
+    ensures least { steps.old ≤ steps.new }
+    ensures most { steps.new ≤ steps.old + (length proof.now + 1) * greatest_in (line_trees proof.now) }
 {
     for hypothesis in 0..proof.count() + 1 {
         if is_kept(hypothesis, discharged)
             && rests_on(proof, columns, number, hypothesis)
-            && is_free_at(proof, hypothesis, x)
+            && is_free_at(proof, hypothesis, x, steps)
         {
             return true;
         }
@@ -101,12 +121,14 @@ fn is_kept(hypothesis: u64, discharged: Option<u64>) -> bool
 }
 
 /// Whether the variable is free in the formula of the line with this number.
-fn is_free_at(proof: &Proof, number: u64, x: &Name) -> bool
-    ensures { IsTrue result
+fn is_free_at<L: Ledger>(proof: &Proof, number: u64, x: &Name, steps: &mut Steps<L>) -> bool
+    ensures free { IsTrue result
         ↔ ((f : FormulaTree) × (formula_at (line_trees proof.now) number ≡ Some f) × (is_free_in x.now f ≡ true)) }
+    ensures least { steps.old ≤ steps.new }
+    ensures most { steps.new ≤ steps.old + greatest_in (line_trees proof.now) }
 {
     match formula_at(proof, number) {
-        Some(f) => free_in(f, x),
+        Some(f) => free_in_counted(f, x, steps),
         None => false,
     }
 }

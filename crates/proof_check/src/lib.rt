@@ -21,5 +21,5 @@ mod substitutions;
 #[cfg(test)]
 mod tests;
 
-pub use checks::{CheckError, Checked, check};
+pub use checks::{CheckError, Checked, check, check_counted};
 pub use lists::LineList;

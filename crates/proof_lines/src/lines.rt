@@ -1,10 +1,12 @@
-ghost use Rattle.std.specs.Prelude.{◌≡◌, ◌≤◌, ◌<◌, ◌↔◌, length, IfSome, IsNone, IsTrue, slice_get};
+ghost use Rattle.std.specs.Prelude.{◌≡◌, ◌≤◌, ◌<◌, ◌↔◌, length, IfOk, IfSome, IsNone, IsTrue, option_map, slice_get};
 ghost use Rattle.std.specs.Option.{option_copied};
+ghost use Rattle.nal_term.specs.Trees.{term_tree};
 ghost use Rattle.proof_lines.specs.Lines.{HasRuleForm, line_tree};
 
 use crate::rules::Rule;
 use arrayvec::ArrayVec;
 use nal_term::{Formula, Term};
+use std::alloc::{AllocError, Global};
 use std::marker::Model;
 
 /// The references of a line: at most five numbers of lines, which contracts see as a list.
@@ -65,6 +67,15 @@ impl Refs {
         }
     }
 
+    /// A copy of the references. An `Err` says that there was no memory for it.
+    pub fn copy(&self) -> Result<Refs, AllocError>
+        ensures { IfOk result (λ copy. copy ≡ self.now) }
+    {
+        Ok(Refs {
+            numbers: self.numbers.clone()?,
+        })
+    }
+
     /// The references as a slice.
     pub fn as_slice(&self) -> &[u64]
         ensures items { result.now ≡ self.now }
@@ -75,11 +86,33 @@ impl Refs {
 }
 
 impl Line {
+    /// A copy of the line. An `Err` says that there was no memory for it.
+    pub fn copy(&self, alloc: Global) -> Result<Line, AllocError>
+        ensures { IfOk result (λ copy. line_tree copy ≡ line_tree self.now) }
+    {
+        Ok(Line {
+            rule: self.rule,
+            refs: self.refs.copy()?,
+            term: copy_of_term(alloc, &self.term)?,
+            formula: self.formula.copy(alloc)?,
+        })
+    }
+
     /// Whether the line has as many references as its rule, and a term exactly where its rule has one.
     pub fn has_rule_form(&self) -> bool
         ensures { IsTrue result ↔ HasRuleForm (line_tree self.now) }
     {
         self.refs.count() == self.rule.reference_count()
             && self.term.is_some() == self.rule.takes_term()
+    }
+}
+
+/// A copy of the term, where there is one.
+fn copy_of_term(alloc: Global, term: &Option<Term>) -> Result<Option<Term>, AllocError>
+    ensures { IfOk result (λ copy. option_map term_tree copy ≡ option_map term_tree term.now) }
+{
+    match term {
+        None => Ok(None),
+        Some(term) => Ok(Some(term.copy(alloc)?)),
     }
 }

@@ -1,9 +1,9 @@
-ghost use Rattle.std.specs.Prelude.{◌≡◌, ◌≢◌, ◌≤◌, ◌↔◌, ◌++◌, ◌∷◌, [], ◌-◌, length, OnOk, OnErr, slice_get, All, ◌<◌};
+ghost use Rattle.std.specs.Prelude.{◌≡◌, ◌≢◌, ◌≤◌, ◌↔◌, ◌++◌, ◌∷◌, [], ◌-◌, length, IfOk, OnOk, OnErr, slice_get, All, ◌<◌};
 ghost use Rattle.std.specs.Option.{option_copied};
 ghost use Rattle.proof_lines.specs.Lines.{HasRuleForm, line_tree, line_trees};
 
 use crate::lines::Line;
-use std::alloc::Global;
+use std::alloc::{AllocError, Global};
 use std::marker::Model;
 
 /// How many lines a proof may have.
@@ -53,6 +53,17 @@ impl Proof {
         Proof {
             lines: Vec::new(alloc),
         }
+    }
+
+    /// A copy of the proof. An `Err` says that there was no memory for it.
+    pub fn copy(&self, alloc: Global) -> Result<Proof, AllocError>
+        ensures { IfOk result (λ copy. line_trees copy ≡ line_trees self.now) }
+    {
+        let mut lines = Vec::new(alloc);
+        for line in &self.lines {
+            lines.push(line.copy(alloc)?)?;
+        }
+        Ok(Proof { lines })
     }
 
     /// Adds a line at the end. `Shape` exactly where the line lacks the form of its rule, else `Full`

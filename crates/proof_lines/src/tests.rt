@@ -30,6 +30,7 @@ fn rules_and_lines_of_their_form(rt: HostRuntime) -> Result<(), Fail> {
         assert_eq!(rt; proof.push(line), answer, "{rule:?}");
     }
     assert_eq!(rt; proof.count(), 5);
+    let proof = proof.copy(rt.alloc())?;
     assert_eq!(rt; proof.as_slice().len(), 5);
     assert!(rt; proof.line(0).is_none() && proof.line(6).is_none());
     assert!(rt;
@@ -77,6 +78,7 @@ fn references_in_their_order(rt: HostRuntime) -> Result<(), Fail> {
     let refs = Refs::of(&[9, 8, 7, 7, 7]).ok_or("five references fit")?;
     assert_eq!(rt; refs.count(), 5);
     assert_eq!(rt; refs.as_slice(), [9, 8, 7, 7, 7].as_slice());
+    assert_eq!(rt; refs.copy()?.as_slice(), [9, 8, 7, 7, 7].as_slice());
     assert_eq!(rt; (refs.get(1), refs.get(5)), (Some(&8), None));
     Ok(())
 }

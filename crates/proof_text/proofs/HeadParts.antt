@@ -8,7 +8,8 @@ use Rattle.nal_term.specs.Trees.{TermTree}
 use Rattle.proof_lines.specs.declared.rules.Rule.{Rule}
 use Rattle.proof_lines.specs.declared.rules.Rule.TheVariants.{Label, Ask, Hyp, TrueI, AndI, AndL, AndR, OrL, OrR, OrE, ImpI, ImpE, FalseE, ForallI, ForallE, ExistsI, ExistsE, EqRefl, EqSym, EqTrans, Arith, LtTrans, SaysI, Deduce, SaysJoin, SfRefl, SfTrans, SfSub, SfE, SfOnE, SfWeak, Handoff, HandoffOn}
 use Rattle.proof_lines.specs.Lines.{reference_count, takes_term}
-use Rattle.proof_text.specs.ProofText.{Head, HasHead, rule_name, BeginsWithRun, BeginsWithNumber, BeginsWithNumbers, BeginsWithOptionalTerm, BeginsWithTerm, bracket_length, trimmed}
+use Rattle.proof_text.specs.ProofText.{Head, HasHead, BeginsWithRun, BeginsWithNumber, BeginsWithNumbers, BeginsWithOptionalTerm, BeginsWithTerm, bracket_length, trimmed}
+use Rattle.proof_text.specs.RuleNames.{rule_name}
 use Rattle.proof_text.specs.Reading.{Reads, NoForm, BeginsWithBracket, BeginsWithColon, all_rules, rule_named}
 use Rattle.nal_parse.specs.Grammar.{IsTermText}
 

@@ -6,3 +6,6 @@ pub mod Pieces
 pub mod Places
 pub mod Texts
 pub mod Walk
+pub mod Fits
+pub mod PrintedBytes
+pub mod PrintedProofs

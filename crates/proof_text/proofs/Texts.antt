@@ -3,7 +3,7 @@ use Rattle.std.proofs.Common.{◌≡◌, ℕ, ◌≤◌, inl, inr, List, ◌∷�
 use Rattle.proof_lines.specs.Lines.{LineTree}
 use Rattle.proof_text.specs.declared.read.ProofError.{ProofError}
 use Rattle.proof_text.specs.declared.read.ProofError.TheVariants as error
-use Rattle.proof_text.specs.ProofText.{AreLines, AreWrong, IsHeader, IsTail, IsWrong, IsProofText, IsRefused, segments}
+use Rattle.proof_text.specs.ProofText.{AreLines, AreWrong, IsHeader, IsTail, IsWrong, SpellsProof, IsMisspelled, segments}
 use Rattle.proof_text.specs.ProofText.AreWrong.{header, body}
 use Rattle.proof_text.specs.Bodies.{IsBody}
 use Rattle.proof_text.proofs.Walk.{wrong_lines}
@@ -21,16 +21,16 @@ pub refutes : (b : Bool) (P : Type 0) → (P → IsTrue b) → b ≡ false → P
 refutes b P f e h = let t = f h in cc
 
 module _ (bytes first : List ℕ) (others : List (List ℕ)) (cut : segments bytes ≡ first ∷ others) where
-  pub body_of : (ls : List LineTree) → IsProofText bytes ls → IsBody others ls
+  pub body_of : (ls : List LineTree) → SpellsProof bytes ls → IsBody others ls
   body_of ls p =
       let e : first ∷ others ≡ p.header ∷ p.others = sym cut ∙ p.cut in
       let same : p.others ≡ others = cc in
       record { after = p.after; body = subst (λ x. AreLines 1 x ls p.after) same p.body; tail = p.tail }
 
-  pub header_refused : length bytes ≤ 32768 → (IsHeader first → ⊥) → IsRefused bytes error.BadHeader
+  pub header_refused : length bytes ≤ 32768 → (IsHeader first → ⊥) → IsMisspelled bytes error.BadHeader
   header_refused le no_header = inr (le, subst (λ x. AreWrong x error.BadHeader) (sym cut) (header no_header))
 
-  pub body_refused : length bytes ≤ 32768 → IsHeader first → (e : ProofError) → IsWrong 1 others e → IsRefused bytes e
+  pub body_refused : length bytes ≤ 32768 → IsHeader first → (e : ProofError) → IsWrong 1 others e → IsMisspelled bytes e
   body_refused le is e w = inr (le, subst (λ x. AreWrong x e) (sym cut) (body is w))
 
 wrong_segments : {ss : List (List ℕ)} {e : ProofError} → AreWrong ss e → (first : List ℕ) (others : List (List ℕ)) → ss ≡ first ∷ others → IsHeader first → (ls : List LineTree) (after : List (List ℕ)) → AreLines 1 others ls after → IsTail after → ⊥
@@ -41,8 +41,8 @@ wrong_segments (body {segment = seg} {others = rest} has wrong) first others cut
     let same : others ≡ rest = cc (cut) in
     wrong_lines wrong ls after (subst (λ x. AreLines 1 x ls after) same lines) tail
 
--- no text is both refused and a proof
-pub not_both : (bytes : List ℕ) (e : ProofError) → IsRefused bytes e → (ls : List LineTree) → IsProofText bytes ls → ⊥
+-- no text both spells a proof and spells none
+pub not_both : (bytes : List ℕ) (e : ProofError) → IsMisspelled bytes e → (ls : List LineTree) → SpellsProof bytes ls → ⊥
 not_both bytes e refused ls p =
     elim refused [
       | inl w ↦ absurd (omega (arith, w.0, p.length_limit))

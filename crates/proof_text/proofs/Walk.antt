@@ -8,7 +8,8 @@ use Rattle.proof_lines.specs.Lines.{LineTree, line_tree, line_trees, reference_c
 use Rattle.std.proofs.lemmas.List.{length_push}
 use Rattle.proof_text.specs.declared.read.ProofError.{ProofError}
 use Rattle.proof_text.specs.declared.read.ProofError.TheVariants as error
-use Rattle.proof_text.specs.ProofText.{Head, HasHead, IsLineText, AreLines, IsTail, IsWrong, BeginsWithRun, BeginsWithNumbers, BeginsWithOptionalTerm, bracket_length, rule_name}
+use Rattle.proof_text.specs.ProofText.{Head, HasHead, IsLineText, AreLines, IsTail, IsWrong, BeginsWithRun, BeginsWithNumbers, BeginsWithOptionalTerm, bracket_length}
+use Rattle.proof_text.specs.RuleNames.{rule_name}
 use Rattle.proof_text.specs.ProofText.AreLines.{end, line}
 use Rattle.proof_text.specs.ProofText.IsWrong.{nothing, no_end, blank_end, after as wrong_end, bad_line, bad_number, too_many, formula as bad_formula, further}
 use Rattle.proof_text.specs.Bodies.{IsBody, ReadsLine, IsWrongLine}

@@ -1,4 +1,6 @@
 pub mod Bodies
+pub mod CanonicalProof
 pub mod Places
 pub mod ProofText
 pub mod Reading
+pub mod RuleNames

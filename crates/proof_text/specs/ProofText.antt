@@ -7,8 +7,9 @@ use Rattle.nal_parse.specs.Grammar.{IsFormulaText, IsTermText}
 use Rattle.nal_parse.specs.declared.parse.ParseError.{ParseError}
 use Rattle.nal_parse.specs.declared.parse.ParseError.TheVariants as parse
 use Rattle.proof_lines.specs.declared.rules.Rule.{Rule}
-use Rattle.proof_lines.specs.declared.rules.Rule.TheVariants.{Label, Ask, Hyp, TrueI, AndI, AndL, AndR, OrL, OrR, OrE, ImpI, ImpE, FalseE, ForallI, ForallE, ExistsI, ExistsE, EqRefl, EqSym, EqTrans, Arith, LtTrans, SaysI, Deduce, SaysJoin, SfRefl, SfTrans, SfSub, SfE, SfOnE, SfWeak, Handoff, HandoffOn}
 use Rattle.proof_lines.specs.Lines.{LineTree, reference_count, takes_term}
+use Rattle.proof_text.specs.RuleNames.{rule_name}
+use Rattle.proof_text.specs.CanonicalProof.{proof_text}
 use Rattle.proof_text.specs.declared.read.ProofError.{ProofError}
 use Rattle.proof_text.specs.declared.read.ProofError.TheVariants.{BadHeader, BadLine, BadNumber, TooManyLines, TooLong, Formula, NoEnd, After}
 
@@ -36,42 +37,6 @@ pieces (b ∷ bs) = if is_cut b then [] ∷ pieces bs else with_first b (pieces 
 -- the segments: the pieces without the blanks at their ends
 abbrev pub segments : List ℕ → List (List ℕ)
 segments bs = map trimmed (pieces bs)
-
--- the names of the rules
-abbrev pub rule_name : Rule → List ℕ
-rule_name Label = codes "label"
-rule_name Ask = codes "ask"
-rule_name Hyp = codes "hyp"
-rule_name TrueI = codes "true_i"
-rule_name AndI = codes "and_i"
-rule_name AndL = codes "and_l"
-rule_name AndR = codes "and_r"
-rule_name OrL = codes "or_l"
-rule_name OrR = codes "or_r"
-rule_name OrE = codes "or_e"
-rule_name ImpI = codes "imp_i"
-rule_name ImpE = codes "imp_e"
-rule_name FalseE = codes "false_e"
-rule_name ForallI = codes "forall_i"
-rule_name ForallE = codes "forall_e"
-rule_name ExistsI = codes "exists_i"
-rule_name ExistsE = codes "exists_e"
-rule_name EqRefl = codes "eq_refl"
-rule_name EqSym = codes "eq_sym"
-rule_name EqTrans = codes "eq_trans"
-rule_name Arith = codes "arith"
-rule_name LtTrans = codes "lt_trans"
-rule_name SaysI = codes "says_i"
-rule_name Deduce = codes "deduce"
-rule_name SaysJoin = codes "says_join"
-rule_name SfRefl = codes "sf_refl"
-rule_name SfTrans = codes "sf_trans"
-rule_name SfSub = codes "sf_sub"
-rule_name SfE = codes "sf_e"
-rule_name SfOnE = codes "sf_on_e"
-rule_name SfWeak = codes "sf_weak"
-rule_name Handoff = codes "handoff"
-rule_name HandoffOn = codes "handoff_on"
 
 -- the text begins, after blanks, with this run of letters, digits and `_`, which `rest` follows
 abbrev pub BeginsWithRun : List ℕ → List ℕ → List ℕ → Type 0
@@ -150,8 +115,8 @@ pub data AreLines : ℕ → List (List ℕ) → List LineTree → List (List ℕ
   line : {k : ℕ} {segment : List ℕ} {line : LineTree} {others after : List (List ℕ)} {lines : List LineTree}
       → k ≤ 256 → IsLineText k segment line → AreLines (k + 1) others lines after → AreLines k (segment ∷ others) (line ∷ lines) after
 
--- the text is read as the proof with these lines
-pub record IsProofText (bytes : List ℕ) (lines : List LineTree) : Type 0 where
+-- the text spells the proof with these lines, in at most 32,768 bytes
+pub record SpellsProof (bytes : List ℕ) (lines : List LineTree) : Type 0 where
   pub header : List ℕ
   pub others : List (List ℕ)
   pub after : List (List ℕ)
@@ -160,6 +125,11 @@ pub record IsProofText (bytes : List ℕ) (lines : List LineTree) : Type 0 where
   pub header_form : IsHeader header
   pub body : AreLines 1 others lines after
   pub tail : IsTail after
+
+-- the text is read as the proof with these lines: it spells it, and its canonical text keeps the same limit
+pub record IsProofText (bytes : List ℕ) (lines : List LineTree) : Type 0 where
+  pub spelled : SpellsProof bytes lines
+  pub canonical_limit : length (proof_text lines) ≤ 32768
 
 -- `IsWrong k segments error`: the segments from that of line k on are wrong in this way, and the lowest wrong
 -- one decides
@@ -184,6 +154,11 @@ pub data AreWrong : List (List ℕ) → ProofError → Type 0 where
   header : {segment : List ℕ} {others : List (List ℕ)} → ¬ IsHeader segment → AreWrong (segment ∷ others) BadHeader
   body : {segment : List ℕ} {others : List (List ℕ)} {error : ProofError} → IsHeader segment → IsWrong 1 others error → AreWrong (segment ∷ others) error
 
--- the text is refused with this error: too long, or else its lowest wrong segment decides
+-- the text spells no proof, and this is why: it is too long, or else its lowest wrong segment decides
+abbrev pub IsMisspelled : List ℕ → ProofError → Type 0
+IsMisspelled bytes error = ((32768 < length bytes) × (error ≡ TooLong)) ⊎ ((length bytes ≤ 32768) × AreWrong (segments bytes) error)
+
+-- the text is refused with this error: it spells no proof, or one whose canonical text is too long
 abbrev pub IsRefused : List ℕ → ProofError → Type 0
-IsRefused bytes error = ((32768 < length bytes) × (error ≡ TooLong)) ⊎ ((length bytes ≤ 32768) × AreWrong (segments bytes) error)
+IsRefused bytes error =
+    IsMisspelled bytes error ⊎ ((lines : List LineTree) × SpellsProof bytes lines × (32768 < length (proof_text lines)) × (error ≡ TooLong))

@@ -6,7 +6,8 @@ use Rattle.nal_parse.specs.Tokens.{after_blanks}
 use Rattle.proof_lines.specs.declared.rules.Rule.{Rule}
 use Rattle.proof_lines.specs.declared.rules.Rule.TheVariants.{Label, Ask, Hyp, TrueI, AndI, AndL, AndR, OrL, OrR, OrE, ImpI, ImpE, FalseE, ForallI, ForallE, ExistsI, ExistsE, EqRefl, EqSym, EqTrans, Arith, LtTrans, SaysI, Deduce, SaysJoin, SfRefl, SfTrans, SfSub, SfE, SfOnE, SfWeak, Handoff, HandoffOn}
 use Rattle.nal_term.specs.Trees.{term_tree}
-use Rattle.proof_text.specs.ProofText.{Head, segments, trimmed, rule_name, bracket_length}
+use Rattle.proof_text.specs.ProofText.{Head, segments, trimmed, bracket_length}
+use Rattle.proof_text.specs.RuleNames.{rule_name}
 use Rattle.proof_text.specs.declared.heads.LineHead.{LineHead}
 
 -- the segments after a segment: those of the text after its cut, and none at the end

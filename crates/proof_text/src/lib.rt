@@ -1,15 +1,21 @@
-//! The texts of proofs.
+//! The texts of proofs: what they spell, and the canonical text of each.
 #![tactic(auto)]
 
 mod heads;
+mod lengths;
 mod lines;
 mod names;
 mod parts;
+mod printer;
 mod read;
 mod segments;
 
+pub use lengths::{proof_fits, proof_length};
+pub use printer::print_proof;
 pub use read::{ProofError, read_proof};
 pub use segments::{end_segment, segment_line};
 
+#[cfg(test)]
+mod printing_tests;
 #[cfg(test)]
 mod tests;

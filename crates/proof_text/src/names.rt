@@ -1,5 +1,5 @@
 ghost use Rattle.std.specs.Prelude.{◌≡◌};
-ghost use Rattle.proof_text.specs.ProofText.{rule_name};
+ghost use Rattle.proof_text.specs.RuleNames.{rule_name};
 ghost use Rattle.proof_text.specs.Reading.{rule_named};
 
 use proof_lines::Rule;

@@ -1,10 +1,11 @@
 ghost use Rattle.std.specs.Prelude.{◌≡◌, ◌≢◌, ◌<◌, ◌↔◌, ◌++◌, ◌∷◌, [], length, IfOk, IfErr, OnOk, IsTrue, List, ℕ, codes};
 ghost use Rattle.std.specs.Option.{option_copied};
 ghost use Rattle.proof_lines.specs.Lines.{LineTree, HasRuleForm, line_tree, line_trees};
-ghost use Rattle.proof_text.specs.ProofText.{IsHeader, IsTail, IsWrong, IsProofText, IsRefused};
+ghost use Rattle.proof_text.specs.ProofText.{IsHeader, IsTail, IsWrong, IsMisspelled, IsProofText, IsRefused, SpellsProof};
 ghost use Rattle.proof_text.specs.Bodies.{IsBody, NoInnerMemory};
 ghost use Rattle.proof_text.specs.Reading.{segments_after};
 
+use crate::lengths::proof_length;
 use crate::lines::line;
 use crate::segments::next_segment;
 use nal_parse::ParseError;
@@ -12,7 +13,7 @@ use proof_lines::{Line, Proof, PushError};
 use std::alloc::Global;
 
 /// How many bytes a proof's text may have.
-const MOST_BYTES: usize = 32_768;
+const MOST_BYTES: u64 = 32_768;
 
 /// Why a proof's text was not read. A segment's number is that of its line, counted from 1.
 /// `docs/FORMATS.md`, "Proof text", says which comes.
@@ -26,7 +27,7 @@ pub enum ProofError {
     BadNumber { line: u64 },
     /// There is a 257th line.
     TooManyLines,
-    /// The text has more than 32,768 bytes.
+    /// The text, or the proof's canonical text, has more than 32,768 bytes.
     TooLong,
     /// The formula of this line is refused; places count from its first byte.
     Formula { line: u64, error: ParseError },
@@ -39,7 +40,8 @@ pub enum ProofError {
 }
 
 /// Reads a proof's text: a header, the lines numbered from 1, and `end`. `TooLong` where it has more than
-/// 32,768 bytes, and else the error of its lowest wrong segment; `Memory` where there is none for the proof.
+/// 32,768 bytes, else the error of its lowest wrong segment, else `TooLong` where its canonical text has more
+/// than 32,768 bytes; `Memory` where there is none for the proof.
 /// `docs/FORMATS.md`, "Proof text", states the form and says which error comes.
 pub fn read_proof(alloc: Global, text: &[u8]) -> Result<Proof, ProofError>
     ensures ok { IfOk result (λ p. IsProofText text.now (line_trees p)) }
@@ -49,7 +51,26 @@ pub fn read_proof(alloc: Global, text: &[u8]) -> Result<Proof, ProofError>
         (λ e. e ≢ ProofError.Memory → (ls : List LineTree) → ¬ IsProofText text.now ls) }
     ensures inner { IfErr result NoInnerMemory }
 {
-    if text.len() > MOST_BYTES {
+    let proof = match read_spelled(alloc, text) {
+        Ok(proof) => proof,
+        Err(error) => return Err(error),
+    };
+    if proof_length(&proof) > MOST_BYTES {
+        return Err(ProofError::TooLong);
+    }
+    Ok(proof)
+}
+
+/// Reads the proof that a text of at most 32,768 bytes spells, whatever the length of its canonical text.
+fn read_spelled(alloc: Global, text: &[u8]) -> Result<Proof, ProofError>
+    ensures ok { IfOk result (λ p. SpellsProof text.now (line_trees p)) }
+    ensures only { IfOk result (λ p. (ls : List LineTree) → SpellsProof text.now ls → ls ≡ line_trees p) }
+    ensures err { IfErr result (λ e. e ≢ ProofError.Memory → IsMisspelled text.now e) }
+    ensures refused { IfErr result
+        (λ e. e ≢ ProofError.Memory → (ls : List LineTree) → ¬ SpellsProof text.now ls) }
+    ensures inner { IfErr result NoInnerMemory }
+{
+    if text.len() as u64 > MOST_BYTES {
         return Err(ProofError::TooLong);
     }
     let (header, rest) = next_segment(text);

@@ -7,30 +7,30 @@ use Rattle.proof_check.proofs.Shapes.{two_known, two_unknown_first, two_unknown_
 use Rattle.proof_check.proofs.faults.is_within_scope_at.Goals as goal
 
 pub returns-in_default-clause-met : goal.returns-in_default-clause-met
-returns-in_default-clause-met c =
+returns-in_default-clause-met g c =
     let size : length c.args.line.now.refs ≡ 2 = c.requires.form.references ∙ ap reference_count c.requires.rule in
-    let none = two_unknown_first (line_trees c.args.proof.now) c.args.line.now.refs size c.in_default.ensures in
+    let none = two_unknown_first (line_trees c.args.proof.now) c.args.line.now.refs size c.in_default.ensures.formula in
     λ t premises e. absurd (cc (none, e))
 
 pub returns-in_default-premise_at-clause-met : goal.returns-in_default-premise_at-clause-met
-returns-in_default-premise_at-clause-met c =
+returns-in_default-premise_at-clause-met g c =
     let size : length c.args.line.now.refs ≡ 2 = c.requires.form.references ∙ ap reference_count c.requires.rule in
-    let none = two_unknown_second (line_trees c.args.proof.now) c.args.line.now.refs size _ c.in-Some.ensures c.in_default-premise_at.ensures in
+    let none = two_unknown_second (line_trees c.args.proof.now) c.args.line.now.refs size _ c.in-Some.ensures.formula c.in_default-premise_at.ensures.formula in
     λ t premises e. absurd (cc (none, e))
 
 pub returns-clause-met : goal.returns-clause-met
-returns-clause-met c =
+returns-clause-met g c =
     let f = formula_tree c.in-Some.first.now in
-    let g = formula_tree c.in-Some-premise_at.second.now in
+    let h = formula_tree c.in-Some-premise_at.second.now in
     let size : length c.args.line.now.refs ≡ 2 = c.requires.form.references ∙ ap reference_count c.requires.rule in
-    let found = two_known (line_trees c.args.proof.now) c.args.line.now.refs size f g c.in-Some.ensures c.in-Some-premise_at.ensures in
-    λ t premises e. let same : f ∷ g ∷ [] ≡ premises = cc (found, e) in
-    subst (λ fs. IsWithinScope c.args.line.now.rule fs) same (subst (λ r. IsWithinScope r (f ∷ g ∷ [])) (sym c.requires.rule) (c.is_within_scope.ensures.met t))
+    let found = two_known (line_trees c.args.proof.now) c.args.line.now.refs size f h c.in-Some.ensures.formula c.in-Some-premise_at.ensures.formula in
+    λ t premises e. let same : f ∷ h ∷ [] ≡ premises = cc (found, e) in
+    subst (λ fs. IsWithinScope c.args.line.now.rule fs) same (subst (λ r. IsWithinScope r (f ∷ h ∷ [])) (sym c.requires.rule) (c.is_within_scope.ensures.met t))
 
 pub returns-clause-unmet : goal.returns-clause-unmet
-returns-clause-unmet c =
+returns-clause-unmet g c =
     let f = formula_tree c.in-Some.first.now in
-    let g = formula_tree c.in-Some-premise_at.second.now in
+    let h = formula_tree c.in-Some-premise_at.second.now in
     let size : length c.args.line.now.refs ≡ 2 = c.requires.form.references ∙ ap reference_count c.requires.rule in
-    let found = two_known (line_trees c.args.proof.now) c.args.line.now.refs size f g c.in-Some.ensures c.in-Some-premise_at.ensures in
-    λ t. (f ∷ g ∷ [], found, subst (λ r. IsOutOfScope r (f ∷ g ∷ [])) (sym c.requires.rule) (c.is_within_scope.ensures.unmet t))
+    let found = two_known (line_trees c.args.proof.now) c.args.line.now.refs size f h c.in-Some.ensures.formula c.in-Some-premise_at.ensures.formula in
+    λ t. (f ∷ h ∷ [], found, subst (λ r. IsOutOfScope r (f ∷ h ∷ [])) (sym c.requires.rule) (c.is_within_scope.ensures.unmet t))

@@ -3,6 +3,6 @@ use Rattle.nal_term.specs.Trees.{formula_tree, term_tree}
 use Rattle.proof_check.proofs.Shapes.{sf_on_e_spec}
 use Rattle.proof_check.proofs.statement_forms.has_sf_on_e_form.Goals as goal
 
-pub returns-in-SpeaksForOn-Says-Says : goal.returns-in-SpeaksForOn-Says-Says
-returns-in-SpeaksForOn-Says-Says c =
-    sf_on_e_spec _ _ _ (term_tree c.in-SpeaksForOn-Says-Says.p) (term_tree c.in-SpeaksForOn-Says-Says.q) (term_tree c.in-SpeaksForOn-Says-Says.r) (term_tree c.in-SpeaksForOn-Says-Says.s) c.in-SpeaksForOn-Says-Says.field-2-0 (formula_tree c.in-SpeaksForOn-Says-Says.f.value) (formula_tree c.in-SpeaksForOn-Says-Says.g.value) (ap formula_tree c.in-SpeaksForOn-Says-Says.is-0) (ap formula_tree c.in-SpeaksForOn-Says-Says.is-1) (ap formula_tree c.in-SpeaksForOn-Says-Says.is-2) _ (rw (c.deref.ensures, c.deref-in-SpeaksForOn-Says-Says.ensures) at c.are_same_said.ensures)
+pub returns-in-SpeaksForOn-Says-Says-clause-form : goal.returns-in-SpeaksForOn-Says-Says-clause-form
+returns-in-SpeaksForOn-Says-Says-clause-form g c =
+    sf_on_e_spec _ _ _ (term_tree c.in-SpeaksForOn-Says-Says.p) (term_tree c.in-SpeaksForOn-Says-Says.q) (term_tree c.in-SpeaksForOn-Says-Says.r) (term_tree c.in-SpeaksForOn-Says-Says.s) c.in-SpeaksForOn-Says-Says.field-2-0 (formula_tree c.in-SpeaksForOn-Says-Says.f.value) (formula_tree c.in-SpeaksForOn-Says-Says.g.value) (ap formula_tree c.in-SpeaksForOn-Says-Says.is-0) (ap formula_tree c.in-SpeaksForOn-Says-Says.is-1) (ap formula_tree c.in-SpeaksForOn-Says-Says.is-2) _ (rw (c.deref.ensures, c.deref-in-SpeaksForOn-Says-Says.ensures) at c.are_same_said.ensures.same)

@@ -1,0 +1,40 @@
+-- The names of the rules, as they stand in the texts of proofs.
+use Rattle.std.specs.Prelude.{ℕ, List, codes}
+use Rattle.proof_lines.specs.declared.rules.Rule.{Rule}
+use Rattle.proof_lines.specs.declared.rules.Rule.TheVariants.{Label, Ask, Hyp, TrueI, AndI, AndL, AndR, OrL, OrR, OrE, ImpI, ImpE, FalseE, ForallI, ForallE, ExistsI, ExistsE, EqRefl, EqSym, EqTrans, Arith, LtTrans, SaysI, Deduce, SaysJoin, SfRefl, SfTrans, SfSub, SfE, SfOnE, SfWeak, Handoff, HandoffOn}
+
+-- the names of the rules
+abbrev pub rule_name : Rule → List ℕ
+rule_name Label = codes "label"
+rule_name Ask = codes "ask"
+rule_name Hyp = codes "hyp"
+rule_name TrueI = codes "true_i"
+rule_name AndI = codes "and_i"
+rule_name AndL = codes "and_l"
+rule_name AndR = codes "and_r"
+rule_name OrL = codes "or_l"
+rule_name OrR = codes "or_r"
+rule_name OrE = codes "or_e"
+rule_name ImpI = codes "imp_i"
+rule_name ImpE = codes "imp_e"
+rule_name FalseE = codes "false_e"
+rule_name ForallI = codes "forall_i"
+rule_name ForallE = codes "forall_e"
+rule_name ExistsI = codes "exists_i"
+rule_name ExistsE = codes "exists_e"
+rule_name EqRefl = codes "eq_refl"
+rule_name EqSym = codes "eq_sym"
+rule_name EqTrans = codes "eq_trans"
+rule_name Arith = codes "arith"
+rule_name LtTrans = codes "lt_trans"
+rule_name SaysI = codes "says_i"
+rule_name Deduce = codes "deduce"
+rule_name SaysJoin = codes "says_join"
+rule_name SfRefl = codes "sf_refl"
+rule_name SfTrans = codes "sf_trans"
+rule_name SfSub = codes "sf_sub"
+rule_name SfE = codes "sf_e"
+rule_name SfOnE = codes "sf_on_e"
+rule_name SfWeak = codes "sf_weak"
+rule_name Handoff = codes "handoff"
+rule_name HandoffOn = codes "handoff_on"
