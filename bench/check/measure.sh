@@ -22,7 +22,7 @@ python3 "$here/inputs.py" "$work"
 "$nexus" check <"$here/../../examples/check/first/input" >/dev/null
 program=$here/../../crates/nexus_main/out/nexus_main
 
-# best NAME INPUT COMMAND..: runs the command five times on the input; leaves its least seconds and its peak of memory.
+# best INPUT COMMAND..: runs the command five times on the input; leaves its least seconds and its peak of memory.
 best() {
     local input=$1
     shift
@@ -39,7 +39,8 @@ rate() {
     awk -v bytes="$1" -v seconds="$2" 'BEGIN { if (seconds < 0.005) seconds = 0.005; printf "%.2f", bytes / 1e6 / seconds }'
 }
 
-best /dev/null metamath "read $library" "verify proof *" exit
+cd "$(dirname "$library")"
+best /dev/null metamath "read $(basename "$library")" "verify proof *" exit
 peer=$(rate "$(stat -c %s "$library")" "$seconds")
 echo "metamath  $(stat -c %s "$library") bytes  $seconds s  $peer MB/s"
 

@@ -1,5 +1,5 @@
 -- What is allowed is derived from what is held.
-use Rattle.std.proofs.Common.{◌≡◌, ℕ, suc, List, [], ◌∷◌, filter, Bool, true, false, Contains, Some, codes, refl}
+use Rattle.std.proofs.Common.{◌≡◌, ℕ, suc, List, [], ◌∷◌, Bool, true, false, Contains, Some, codes, refl}
 use Rattle.std.specs.List.{slice_get, All}
 use Rattle.std.proofs.lemmas.List.Elements.{All-nil, All-cons}
 use Rattle.nal_term.specs.Trees.{TermTree, FormulaTree}
