@@ -77,9 +77,30 @@ fn formulas_are_refused_at_their_places(rt: HostRuntime) {
         ),
         ("p and 01 = 1", ParseError::BadNumber { place: 6 }),
         ("p 1a", ParseError::BadNumber { place: 2 }),
+        ("00", ParseError::BadNumber { place: 0 }),
+        ("1_", ParseError::BadNumber { place: 0 }),
+        (
+            "a = 99999999999999999999",
+            ParseError::BadNumber { place: 4 },
+        ),
+        ("((7x", ParseError::BadNumber { place: 2 }),
         ("a speaksfor b on ()", ParseError::Unexpected { place: 18 }),
         ("p(?true)", ParseError::BadName { place: 2 }),
+        ("?", ParseError::BadName { place: 0 }),
+        ("p ?1", ParseError::BadName { place: 2 }),
+        ("forall ? x : p", ParseError::BadName { place: 7 }),
+        ("a says ?_x = 1", ParseError::BadName { place: 7 }),
+        (") ?says", ParseError::Unexpected { place: 0 }),
+        ("(p ??x", ParseError::BadName { place: 3 }),
         ("p(\"a;b\")", ParseError::BadText { place: 2 }),
+        ("\"", ParseError::BadText { place: 0 }),
+        ("\"a\\b\" = 1", ParseError::BadText { place: 0 }),
+        ("a = \"b\tc\"", ParseError::BadText { place: 4 }),
+        ("p \"q", ParseError::BadText { place: 2 }),
+        ("a.\"b", ParseError::BadText { place: 2 }),
+        ("p and \u{e9}", ParseError::Unexpected { place: 6 }),
+        ("not forall ?x : p", ParseError::Unexpected { place: 4 }),
+        ("a speaksfor b on c.d", ParseError::Unexpected { place: 18 }),
     ] {
         let found = match parse_formula(rt.alloc(), text.as_bytes()) {
             Ok(_) => None,
@@ -128,6 +149,18 @@ fn limits(rt: HostRuntime) -> Result<(), Fail> {
             Err(ParseError::BadName { place: 0 })
         )
     );
+    for (length, is_read) in [(256, true), (257, false)] {
+        let mut quoted = vec![in alloc; b'"'; 1]?;
+        for _ in 0..length {
+            quoted.push(b't')?;
+        }
+        quoted.push(b'"')?;
+        assert_eq!(rt;
+            parse_term(alloc, quoted.as_slice()).is_ok(),
+            is_read,
+            "{length} bytes"
+        );
+    }
     let mut text = vec![in alloc; b' '; 1023]?;
     text.push(b'p')?;
     assert!(rt; parse_formula(alloc, text.as_slice()).is_ok());
@@ -144,6 +177,22 @@ fn limits(rt: HostRuntime) -> Result<(), Fail> {
         ("not ", 64, "p", None),
         ("not ", 64, "p(1)", Some(ParseError::TooDeep { place: 257 })),
         ("not ", 65, "p", Some(ParseError::TooDeep { place: 256 })),
+        ("forall ?x:", 64, "p", None),
+        (
+            "forall ?x:",
+            65,
+            "p",
+            Some(ParseError::TooDeep { place: 640 }),
+        ),
+        ("exists ?x:", 64, "p", None),
+        (
+            "exists ?x:",
+            65,
+            "p",
+            Some(ParseError::TooDeep { place: 640 }),
+        ),
+        ("a says ", 64, "p", None),
+        ("a says ", 65, "p", Some(ParseError::TooDeep { place: 450 })),
         ("(", 65, "p", Some(ParseError::TooDeep { place: 64 })),
         ("(p) and ", 65, "p", None),
         ("p => ", 64, "p", None),
