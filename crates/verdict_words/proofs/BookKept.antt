@@ -1,0 +1,242 @@
+-- The rule is kept where the view of the book's seat changes, and what each step of that seat owes.
+use Rattle.std.proofs.Common.{◌≡◌, ◌≢◌, ◌⊎◌, ℕ, zero, suc, ◌+◌, ◌-◌, ◌%◌, ◌^◌, ◌<◌, ◌≤◌, eqb, List, [], ◌∷◌, ◌++◌, length, set, get_or, refl, sym, ap, ◌∙◌, subst, inl, inr, ⊎_elim, arith, length-append, length-set, get_or-set_other, get_or-set_same, Option, Some, None, Bool, true, false, true≢false}
+use Rattle.std.specs.Prelude.{cond}
+use Rattle.std.proofs.lemmas.Bool.{ne_eqb, eq-eqb}
+use mathlib.Core.Logic.{dite}
+use mathlib.Core.Option.{some, none, some-injective, some-ne-none}
+use native.Mathlib.Decide.{ℕ_discrete}
+use lib.ListN.{get_elem?}
+use Rattle.atomic_table.specs.Table.{State, step, keeps, Allows}
+use Rattle.atomic_table.proofs.Lists.{set_here}
+use Rattle.verdict_words.specs.Histories.{EachFrom, Untouched}
+use Rattle.verdict_words.specs.Words.{most_entries, Sound}
+use Rattle.verdict_words.specs.Rule.{last_met, IsLoading, PassOk, IsSeated, BookOk, RegionOk, WordsOk, ViewOk, IsKept}
+use Rattle.verdict_words.specs.Steps.{after_entry, raised_region, published}
+use Rattle.verdict_words.specs.declared.places.Held.{Held}
+use Rattle.verdict_words.specs.declared.views.Origin.{Origin}
+use Rattle.verdict_words.specs.declared.views.Loading.{Loading}
+use Rattle.verdict_words.specs.declared.views.Loading.TheVariants.{Nothing, Slot, Count, Object}
+use Rattle.verdict_words.specs.declared.views.PassView.{PassView}
+use Rattle.verdict_words.specs.declared.views.BookView.{BookView}
+use Rattle.verdict_words.specs.declared.views.View.{View}
+use Rattle.verdict_words.specs.declared.views.View.TheVariants.{Book, Pass, Spent}
+use Rattle.verdict_words.proofs.Growing.{prefix_grows, each_none, each_snoc}
+use Rattle.verdict_words.proofs.Kept.{sound_grows, each_set}
+
+pub there_below : {A : Type 0} (l : List A) (i : ℕ) (a : A) → get_elem? l i ≡ some a → i < length l
+there_below [] i a e = absurd (some-ne-none a (sym e))
+there_below (x ∷ xs) zero a e = omega arith
+there_below (x ∷ xs) (suc i) a e = let h = there_below xs i a e in omega arith
+
+-- an item of a list with one more at its end stands in the list, or is the last
+pub at_last_or_before : {A : Type 0} (l : List A) (a b : A) (j : ℕ) → get_elem? (l ++ a ∷ []) j ≡ some b → (get_elem? l j ≡ some b) ⊎ ((j ≡ length l) × (a ≡ b))
+at_last_or_before [] a b zero e = inr (refl, some-injective a b e)
+at_last_or_before [] a b (suc j) e = absurd (some-ne-none b (sym e))
+at_last_or_before (x ∷ xs) a b zero e = inl e
+at_last_or_before (x ∷ xs) a b (suc j) e = ⊎_elim (λ t. inl t) (λ t. inr (ap suc t.0, t.1)) (at_last_or_before xs a b j e)
+
+abbrev pub some_or : {A : Type 0} → A → Option A → A
+some_or d (Some x) = x
+some_or d None = d
+
+abbrev is_some : {A : Type 0} → Option A → Bool
+is_some (Some x) = true
+is_some None = false
+
+pub none_is_some : {A : Type 0} (x : A) → None ≡ Some x → ⊥
+none_is_some x e = true≢false (sym (ap is_some e))
+
+-- the function that is x at i
+abbrev pub put : (ℕ → ℕ) → ℕ → ℕ → ℕ → ℕ
+put f i x j = cond (eqb j i) x (f j)
+
+pub put_here : (f : ℕ → ℕ) (i x : ℕ) → put f i x i ≡ x
+put_here f i x = rw (eq-eqb i i refl) refl
+
+pub put_else : (f : ℕ → ℕ) (i x j : ℕ) → j ≢ i → put f i x j ≡ f j
+put_else f i x j ne = rw (ne_eqb j i ne) refl
+
+module _ {E H : Type 0} (session : E → ℕ) (o : Origin E H) (entries : List E) (next turn : ℕ) where
+  -- the history grows by an entry of the session that was met last
+  pub seated_grows : (e : E) → IsSeated session o entries next turn → turn ≢ 0 → session e ≡ turn → IsSeated session o (entries ++ e ∷ []) next turn
+  seated_grows e u some_turn is = let range = u.met some_turn in record {
+    begins = prefix_grows o.opening entries (e ∷ []) u.begins;
+    counted = u.counted;
+    order = u.order;
+    below = each_snoc (λ before y. session y < next) 0 entries e u.below (let r = range.1 in omega arith);
+    new = each_snoc (λ before y. o.first ≤ session y) (length o.opening) entries e u.new (let r = range.0 in omega arith);
+    met = u.met;
+  }
+
+  -- a session is met
+  pub seated_meets : (s : ℕ) → IsSeated session o entries next turn → o.first ≤ s → s < next → IsSeated session o entries next s
+  seated_meets s u low high = record { begins = u.begins; counted = u.counted; order = u.order; below = u.below; new = u.new; met = λ _. (low, high) }
+
+  -- there is one session more
+  pub seated_next : IsSeated session o entries next turn → IsSeated session o entries (next + 1) turn
+  seated_next u = record {
+    begins = u.begins;
+    counted = u.counted;
+    order = let l = u.order in omega arith;
+    below = λ before e after eq far. let l = u.below before e after eq far in omega arith;
+    new = u.new;
+    met = λ t. let m = u.met t in let m₁ = m.1 in (m.0, omega arith);
+  }
+
+  -- no entry is of the next session
+  pub next_unused : IsSeated session o entries next turn → EachFrom 0 entries (λ before e. session e ≢ next)
+  next_unused u before e after eq far is = let l = u.below before e after eq far in absurd (omega arith)
+
+module _ {E H : Type 0} (session : E → ℕ) (right : List E → ℕ → Held → Type 0) (touches : List E → E → ℕ → Type 0) (o : Origin E H) where
+  abbrev St : Type 0
+  St = State (Unit {0}) (View E H)
+
+  abbrev K : St → Type 0
+  K = IsKept session right touches o
+
+  abbrev P : BookView E H → PassView E H → Type 0
+  P = PassOk session right touches o
+
+  abbrev W : BookView E H → List ℕ → Type 0
+  W = WordsOk right touches
+
+  abbrev V : BookView E H → ℕ → (ℕ → ℕ) → ℕ → View E H → Type 0
+  V = ViewOk session right touches o
+
+  -- the rule, of a seat that is known to be the book's
+  pub record Known (id : ℕ) (b : BookView E H) (s : St) : Type 0 where
+    pub holder : ℕ → ℕ
+    pub book_ok : BookOk session o b
+    pub words_ok : W b s.words
+    pub views_ok : (j : ℕ) (v : View E H) → get_elem? s.views j ≡ some v → V b id holder j v
+    pub held_ok : (p : PassView E H) → b.held ≡ Some p → V b id holder id (Pass p)
+
+  pub known_book : (s : St) (k : K s) (id : ℕ) (b : BookView E H) → get_elem? s.views id ≡ some (Book b) → Known id b s
+  known_book s k id b at = let is = k.views_ok id (Book b) at in
+      subst (λ (z : ℕ × BookView E H). Known z.0 z.1 s) (λ i. (sym is.0 i, sym is.1 i)) record { holder = k.holder; book_ok = k.book_ok; words_ok = k.words_ok; views_ok = k.views_ok; held_ok = k.held_ok }
+
+  -- what is known of another seat's view, where the passes that are not spoken of keep what is known of them
+  pub view_moves : (b c : BookView E H) (id j : ℕ) (holder holder' : ℕ → ℕ) (v : View E H) → j ≢ id → ((p : PassView E H) → v ≡ Pass p → holder p.session ≡ j → P b p → (holder' p.session ≡ j) × P c p) → V b id holder j v → V c id holder' j v
+  view_moves b c id j holder holder' (Book d) ne move ok = absurd (ne ok.0)
+  view_moves b c id j holder holder' (Pass p) ne move ok = move p refl ok.0 ok.1
+  view_moves b c id j holder holder' Spent ne move ok = tt
+
+  -- a step of the book that makes and takes no pass
+  pub book_step : (s : St) (id : ℕ) (b c : BookView E H) → Known id b s → get_elem? s.views id ≡ some (Book b) → BookOk session o c → (words : List ℕ) → W c words
+      → ((p : PassView E H) → P b p → P c p) → ((p : PassView E H) → c.held ≡ Some p → b.held ≡ Some p) → K record { words = words; homes = s.homes; views = set s.views id (Book c) }
+  book_step s id b c k at ok words words_ok move held = record {
+    seat = id;
+    book = c;
+    holder = k.holder;
+    place = set_here s.views id (Book c) (there_below s.views id (Book b) at);
+    book_ok = ok;
+    words_ok = words_ok;
+    views_ok = each_set (V c id k.holder) s.views id (Book c) (refl, refl) (λ j v ne e. view_moves b c id j k.holder k.holder v ne (λ p _ h u. (h, move p u)) (k.views_ok j v e));
+    held_ok = λ p e. let h = k.held_ok p (held p e) in (h.0, move p h.1);
+  }
+
+  -- the words after a region was raised
+  words_raised : (b : BookView E H) (words : List ℕ) (r : ℕ) → r < 512 → b.raised ≡ None → W b words → W (record b { raised = Some r }) (set words (8193 + r) (length b.history + 1))
+  words_raised b words r low free ok =
+      let x : ℕ = length b.history + 1 in record {
+        wide = length-set words (8193 + r) x ∙ ok.wide;
+        count = get_or-set_other words (8193 + r) 0 x 0 (λ e. omega arith) ∙ ok.count;
+        slots = λ k lt. subst (Sound right b.history) (sym (get_or-set_other words (8193 + r) (1 + k) x 0 (λ e. omega arith))) (ok.slots k lt);
+        regions = λ q lt. dite (ℕ_discrete q r)
+            (λ e. subst (λ (z : ℕ × ℕ). RegionOk touches (record b { raised = Some r }) z.0 z.1) (λ i. (sym e i, sym (ap (λ (z : ℕ). get_or (set words (8193 + r) x) (8193 + z) 0) e ∙ get_or-set_same words (8193 + r) x 0 (let w = ok.wide in omega arith)) i))
+            record { still = each_none (λ before e. ¬ touches before e r) x b.history (omega arith); raised = λ _. refl; else = λ n. absurd (n refl) })
+            (λ ne. subst (RegionOk touches (record b { raised = Some r }) q) (sym (get_or-set_other words (8193 + r) (8193 + q) x 0 (λ e. ne (omega arith))))
+            (let was = ok.regions q lt in record { still = was.still; raised = λ e. absurd (ne (sym (ap (some_or 0) e))); else = λ _. was.else (λ e. absurd (none_is_some q (sym free ∙ e))) }));
+      }
+
+  -- a region is raised
+  pub raises : (id : ℕ) (b : BookView E H) (r : ℕ) → r < 512 → b.raised ≡ None → length b.history < most_entries
+      → Allows K 0 id (Book b, []) (8193 + r) (λ _. length b.history + 1) (λ _. raised_region (step 0 (8193 + r) (length b.history + 1) 0 none) (Book b, []) (length b.history + 1))
+  raises id b r low free room s k sized at fits =
+      let known = known_book s k id b at in
+      let c : BookView E H = record b { raised = Some r } in (
+        Book c,
+        keeps,
+        tt,
+        book_step s id b c known at
+            (let u = known.book_ok in record { same = u.same; short = u.short; seated = u.seated })
+            (set s.words (8193 + r) (length b.history + 1)) (words_raised b s.words r low free known.words_ok)
+            (λ p u. record { same = u.same; begins = u.begins; seen = u.seen; above = u.above; below = u.below; met = u.met; own = u.own; trail = u.trail; loading = u.loading })
+            (λ p e. e),
+        (let same : r ≡ (8193 + r) - 8193 = omega arith in λ i. (Book (record b { raised = Some (same i) }), [])),
+      )
+
+  -- the words after an entry was published
+  words_published : (b : BookView E H) (words : List ℕ) (e : E) → ((r : ℕ) → r < 512 → touches b.history e r → b.raised ≡ Some r) → W b words
+      → W (after_entry session (Some e) b) (set words 0 (length b.history + 1))
+  words_published b words e raises ok =
+      let x : ℕ = length b.history + 1 in
+      let h : List E = b.history ++ e ∷ [] in
+      let longer : length h ≡ x = length-append b.history (e ∷ []) in record {
+        wide = length-set words 0 x ∙ ok.wide;
+        count = get_or-set_same words 0 x 0 (let w = ok.wide in omega arith) ∙ sym longer;
+        slots = λ k lt. subst (Sound right h) (sym (get_or-set_other words 0 (1 + k) x 0 (λ q. omega arith)))
+            (sound_grows right b.history h (get_or words (1 + k) 0) (e ∷ [], refl) (ok.slots k lt));
+        regions = λ r lt. subst (RegionOk touches (after_entry session (Some e) b) r) (sym (get_or-set_other words 0 (8193 + r) x 0 (λ q. omega arith)))
+            (region r (get_or words (8193 + r) 0) (raises r lt) (ok.regions r lt));
+      }
+    where
+      still : (r word : ℕ) (raised : Option ℕ) → (touches b.history e r → raised ≡ Some r) → Untouched touches b.history word r → (raised ≡ Some r → word ≡ length b.history + 1)
+          → Untouched touches (b.history ++ e ∷ []) word r
+      still r word None raises was rise = each_snoc (λ before y. ¬ touches before y r) word b.history e was (λ t. none_is_some r (raises t))
+      still r word (Some q) raises was rise = dite (ℕ_discrete q r)
+          (λ same. each_none (λ before y. ¬ touches before y r) word (b.history ++ e ∷ []) (let w = rise (ap Some same) in omega (arith, length-append b.history (e ∷ []))))
+          (λ ne. each_snoc (λ before y. ¬ touches before y r) word b.history e was (λ t. ne (ap (some_or q) (raises t))))
+
+      low : (r word : ℕ) (raised : Option ℕ) → (raised ≡ Some r → word ≡ length b.history + 1) → (raised ≢ Some r → word ≤ length b.history) → word ≤ length b.history + 1
+      low r word None rise else = let w = else (none_is_some r) in omega arith
+      low r word (Some q) rise else = dite (ℕ_discrete q r) (λ same. let w = rise (ap Some same) in omega arith) (λ ne. let w = else (λ t. ne (ap (some_or q) t)) in omega arith)
+
+      region : (r word : ℕ) → (touches b.history e r → b.raised ≡ Some r) → RegionOk touches b r word → RegionOk touches (after_entry session (Some e) b) r word
+      region r word raises was = record {
+        still = still r word b.raised raises was.still was.raised;
+        raised = λ q. absurd (none_is_some r q);
+        else = λ _. let l = low r word b.raised was.raised was.else in omega (arith, length-append b.history (e ∷ []));
+      }
+
+  loading_grows : (h : List E) (e : E) (seen : List E) (l : Loading) → IsLoading right touches h seen l → IsLoading right touches (h ++ e ∷ []) seen l
+  loading_grows h e seen Nothing ok = tt
+  loading_grows h e seen (Slot place slot) ok = sound_grows right h (h ++ e ∷ []) slot (e ∷ [], refl) ok
+  loading_grows h e seen (Count place slot count) ok = ok
+  loading_grows h e seen (Object place slot count object) ok = ok
+
+  -- an entry is published
+  pub publishes : (id : ℕ) (b : BookView E H) (said : Option E) (e : E) → said ≡ Some e → b.turn ≢ 0 → session e ≡ b.turn → length b.history < most_entries
+      → ((r : ℕ) → r < 512 → touches b.history e r → b.raised ≡ Some r)
+      → Allows K 0 id (Book b, []) 0 (λ n. (n + 1) % 2 ^ 64) (published session said (step 0 0 1 0 none) (Book b, []))
+  publishes id b said e is some_turn turn room raises s k sized at fits =
+      let known = known_book s k id b at in
+      let u = known.book_ok in
+      let h : List E = b.history ++ e ∷ [] in
+      let c : BookView E H = after_entry session (Some e) b in
+      let now : (get_or s.words 0 0 + 1) % 2 ^ 64 ≡ length b.history + 1 = (let n = known.words_ok.count in omega arith) in (
+        Book c,
+        keeps,
+        tt,
+        subst (λ (x : ℕ). K record { words = set s.words 0 x; homes = s.homes; views = set s.views id (Book c) }) (sym now)
+            (book_step s id b c known at
+            record {
+              same = u.same;
+              short = omega (arith, length-append b.history (e ∷ []));
+              seated = seated_grows session o b.history b.next b.turn e u.seated some_turn turn;
+            }
+            (set s.words 0 (length b.history + 1)) (words_published b s.words e raises known.words_ok)
+            (λ p v. record {
+              same = v.same;
+              begins = v.begins;
+              seen = prefix_grows p.seen b.history (e ∷ []) v.seen;
+              above = v.above;
+              below = v.below;
+              met = v.met;
+              own = λ out. each_snoc (λ before y. session y ≢ p.session) (last_met p.trail) b.history e (v.own (λ j d lt. out (suc j) d (omega arith))) (out 0 (session e) (omega arith));
+              trail = v.trail;
+              loading = loading_grows b.history e p.seen p.loading v.loading;
+            })
+            (λ p q. q)),
+        (λ i. (Book (after_entry session (sym is i) b), [])),
+      )

@@ -1,0 +1,10 @@
+pub mod Answering
+pub mod Growing
+pub mod Kept
+pub mod Looking
+pub mod PassSteps
+pub mod BookKept
+pub mod Seated
+pub mod Meetings
+pub mod Opening
+pub mod LastMet

@@ -1,0 +1,134 @@
+-- What a look knows after each of its loads, and why a hit is right.
+use Rattle.std.proofs.Common.{◌≡◌, ℕ, ◌+◌, ◌*◌, ◌<◌, ◌≤◌, List, [], ◌∷◌, ◌++◌, length, take, refl, sym, ap, ◌∙◌, subst, inl, inr, arith, Option, Some}
+use mathlib.Core.Option.{none}
+use Rattle.atomic_table.specs.Table.{Me, Step, step}
+use Rattle.verdict_words.specs.Histories.{IsPrefix, Untouched}
+use Rattle.verdict_words.specs.Words.{slot_word, most_entries, Sound, Spells, IsSlot, object_region, store_region}
+use Rattle.verdict_words.specs.Steps.{loaded_slot, loaded_count, loaded_object, loaded_store, counted, with_object, with_store, SlotSound, ObjectStill, StoreStill}
+use Rattle.verdict_words.specs.Values.{Identity, PassValue, seen_of, trail_of}
+use Rattle.verdict_words.specs.declared.views.Origin.{Origin}
+use Rattle.verdict_words.specs.Answers.{IsAnswer, HitIsRight}
+use Rattle.verdict_words.specs.declared.places.Held.{Held}
+use Rattle.verdict_words.specs.declared.places.CasePlace.{CasePlace}
+use Rattle.verdict_words.specs.declared.places.Look.{Look}
+use Rattle.verdict_words.specs.declared.places.Look.TheVariants.{Hit, Miss}
+use Rattle.verdict_words.specs.declared.views.Item.{Item}
+use Rattle.verdict_words.specs.declared.views.Item.TheVariants.{Loaded}
+use Rattle.verdict_words.specs.declared.views.Loading.TheVariants.{Nothing, Slot, Count, Object}
+use Rattle.verdict_words.specs.declared.views.PassView.{PassView}
+use Rattle.verdict_words.specs.declared.views.View.{View}
+use Rattle.verdict_words.specs.declared.views.View.TheVariants.{Pass}
+use Rattle.verdict_words.specs.Steps.{stored_slot}
+use Rattle.verdict_words.specs.declared.views.Item.TheVariants.{Filled}
+use Rattle.verdict_words.specs.declared.views.Loading.{Loading}
+use Rattle.verdict_words.proofs.Growing.{each_later}
+use Rattle.verdict_words.proofs.PassSteps.{slot_is, filled_is}
+
+abbrev any : Step (Unit {0})
+any = step 0 0 0 0 none
+
+module _ {E H : Type 0} where
+  pub after_slot : (m m' : Me (Unit {0}) (View E H)) (p : PassView E H) (said : Option CasePlace) (place : CasePlace) (found : ℕ) → m ≡ (Pass p, []) → said ≡ Some place
+      → loaded_slot said (step 0 (slot_word place.case) 0 0 none) m found m' → m' ≡ (Pass (record p { loading = Slot place found }), [])
+  after_slot m m' p said place found is told saw = subst (λ (z : Me (Unit {0}) (View E H)). loaded_slot said (step 0 (slot_word place.case) 0 0 none) z found m') is saw ∙ ap (λ (l : Loading). (Pass (record p { loading = l }), [])) (slot_is said place found told)
+
+  pub after_store : (m m' : Me (Unit {0}) (View E H)) (p : PassView E H) (said : Option Item) (case at : ℕ) (held : Held) → m ≡ (Pass p, []) → said ≡ Some (Filled case at held)
+      → stored_slot said (step 0 (slot_word case) 0 0 none) m 0 m' → m' ≡ (Pass (record p { trail = p.trail ++ Filled case at held ∷ [] }), [])
+  after_store m m' p said case at held is told saw = subst (λ (z : Me (Unit {0}) (View E H)). stored_slot said (step 0 (slot_word case) 0 0 none) z 0 m') is saw ∙ ap (λ (l : List Item). (Pass (record p { trail = l }), [])) (filled_is said case at held p.trail told)
+
+  -- the value of the pass after a step that adds an item to its trail
+  pub item_value : (old : PassValue E H) (board : Identity E H) (session : ℕ) (m : Me (Unit {0}) (View E H)) (origin : Origin E H) (seen : List E) (trail : List Item) (item : Item)
+      → record { board = board; session = session; seen = seen; trail = trail } ≡ old
+      → m ≡ (Pass record { origin = origin; session = session; seen = seen; trail = trail ++ item ∷ []; loading = Nothing }, [])
+      → record { board = board; session = session; seen = seen_of m.0; trail = trail_of m.0 } ≡ record old { trail = old.trail ++ item ∷ [] }
+  item_value old board session m origin seen trail item view is =
+      (λ i. record { board = board; session = session; seen = seen_of (is i).0; trail = trail_of (is i).0 }) ∙ (λ i. record (view i) { trail = (view i).trail ++ item ∷ [] })
+
+  -- the value of the pass after a look
+  pub look_value : (old : PassValue E H) (board : Identity E H) (session : ℕ) (m : Me (Unit {0}) (View E H)) (origin : Origin E H) (before seen : List E) (trail : List Item) (place : CasePlace) (slot count object store : ℕ)
+      → record { board = board; session = session; seen = before; trail = trail } ≡ old
+      → m ≡ (Pass record { origin = origin; session = session; seen = seen; trail = trail ++ Loaded place slot count object store ∷ []; loading = Nothing }, []) → length seen ≡ count
+      → record { board = board; session = session; seen = seen_of m.0; trail = trail_of m.0 } ≡ record old { seen = seen_of m.0; trail = old.trail ++ Loaded place slot (length (seen_of m.0)) object store ∷ [] }
+  look_value old board session m origin before seen trail place slot count object store view is long =
+      let told : trail_of m.0 ≡ trail ++ Loaded place slot count object store ∷ [] = ap (λ (z : Me (Unit {0}) (View E H)). trail_of z.0) is in
+      let n : count ≡ length (seen_of m.0) = sym long ∙ ap length (sym (ap (λ (z : Me (Unit {0}) (View E H)). seen_of z.0) is)) in
+      let both = told ∙ ap (λ k. trail ++ Loaded place slot k object store ∷ []) n in
+      (λ i. record { board = board; session = session; seen = seen_of m.0; trail = both i }) ∙ (λ i. record (view i) { seen = seen_of m.0; trail = (view i).trail ++ Loaded place slot (length (seen_of m.0)) object store ∷ [] })
+
+  module _ (right : H → List E → ℕ → Held → Type 0) (touches : H → List E → E → ℕ → Type 0) where
+    pub record Counted (m' : Me (Unit {0}) (View E H)) (p : PassView E H) (place : CasePlace) (slot found : ℕ) : Type 0 where
+      pub seen : List E
+      pub view : m' ≡ (Pass (record p { seen = seen; loading = Count place slot found }), [])
+      pub grows : IsPrefix p.seen seen
+      pub long : length seen ≡ found
+      pub short : found ≤ most_entries
+      pub sound : Sound (right p.origin.setting) seen slot
+
+    pub after_count : (m m' : Me (Unit {0}) (View E H)) (p : PassView E H) (place : CasePlace) (slot found : ℕ) → m ≡ (Pass p, []) → p.loading ≡ Slot place slot
+        → loaded_count right touches any m found m' → Counted m' p place slot found
+    after_count m m' p place slot found is loads saw = let t = subst (λ (z : Me (Unit {0}) (View E H)). loaded_count right touches any z found m') is saw in record {
+      seen = t.0;
+      view = t.1 ∙ (λ i. (Pass (record p { seen = t.0; loading = counted (loads i) found }), []));
+      grows = t.2;
+      long = t.3;
+      short = t.4;
+      sound = subst (SlotSound right touches p.origin.setting t.0) loads t.5;
+    }
+
+    pub after_object : (m m' : Me (Unit {0}) (View E H)) (p : PassView E H) (place : CasePlace) (slot count found : ℕ) → m ≡ (Pass p, []) → p.loading ≡ Count place slot count
+        → loaded_object right touches any m found m' → (m' ≡ (Pass (record p { loading = Object place slot count found }), [])) × Untouched (touches p.origin.setting) p.seen found (object_region place.object)
+    after_object m m' p place slot count found is loads saw = let t = subst (λ (z : Me (Unit {0}) (View E H)). loaded_object right touches any z found m') is saw in
+        (t.0 ∙ (λ i. (Pass (record p { loading = with_object (loads i) found }), [])), subst (ObjectStill right touches p.origin.setting p.seen found) loads t.1)
+
+    pub after_look : (m m' : Me (Unit {0}) (View E H)) (p : PassView E H) (place : CasePlace) (slot count object found : ℕ) → m ≡ (Pass p, []) → p.loading ≡ Object place slot count object
+        → loaded_store right touches any m found m'
+        → (m' ≡ (Pass (record p { trail = p.trail ++ Loaded place slot count object found ∷ []; loading = Nothing }), [])) × Untouched (touches p.origin.setting) p.seen found (store_region place.store)
+    after_look m m' p place slot count object found is loads saw = let t = subst (λ (z : Me (Unit {0}) (View E H)). loaded_store right touches any z found m') is saw in
+        (t.0 ∙ (λ i. (Pass (record p { trail = with_store (loads i) found p.trail; loading = Nothing }), [])), subst (StoreStill right touches p.origin.setting p.seen found) loads t.1)
+
+-- a word spells one case, one point and one verdict
+digits : (f l c k v f' l' c' k' v' : ℕ) → v < 1048576 → v' < 1048576 → k < 1048576 → k' < 1048576 → c < 16 → c' < 16 → l < 4096 → l' < 4096
+    → f * 72057594037927936 + l * 17592186044416 + c * 1099511627776 + k * 1048576 + v ≡ f' * 72057594037927936 + l' * 17592186044416 + c' * 1099511627776 + k' * 1048576 + v'
+    → (f ≡ f') × (l ≡ l') × (c ≡ c') × (k ≡ k') × (v ≡ v')
+digits f l c k v f' l' c' k' v' lv lv' lk lk' lc lc' ll ll' e =
+    let a : ℕ = f * 68719476736 + l * 16777216 + c * 1048576 + k in
+    let a' : ℕ = f' * 68719476736 + l' * 16777216 + c' * 1048576 + k' in
+    let ea : a ≡ a' = omega arith in
+    let b : f * 65536 + l * 16 + c ≡ f' * 65536 + l' * 16 + c' = omega (arith, ea) in
+    let d : f * 4096 + l ≡ f' * 4096 + l' = omega (arith, b) in
+    let ef : f ≡ f' = omega (arith, d) in
+    let el : l ≡ l' = omega (arith, d, ef) in
+    let ec : c ≡ c' = omega (arith, b, d) in
+    let ek : k ≡ k' = omega (arith, ea, b) in
+    (ef, el, ec, ek, omega (arith, e, ea))
+
+pub spells_once : (word case at case' at' : ℕ) (held held' : Held) → Spells word case at held → Spells word case' at' held' → (case ≡ case') × (at ≡ at') × (held ≡ held')
+spells_once word case at case' at' held held' s t =
+    let s₀ = s.0 in let s₁ = s.1 in let t₀ = t.0 in let t₁ = t.1 in
+    let sc = s.2.1 in let sl = s.2.2 in let tc = t.2.1 in let tl = t.2.2 in
+    let d = digits held.fault held.line held.code case at held'.fault held'.line held'.code case' at' (omega arith) (omega arith) (omega arith) (omega arith) (omega arith) (omega arith) (omega arith) (omega arith) (sym s.3 ∙ t.3) in
+    (d.3, d.4, (λ i. record { code = d.2 i; line = d.1 i; fault = d.0 i }))
+
+pub is_slot : {E : Type 0} (right : List E → ℕ → Held → Type 0) (seen : List E) (word : ℕ) → Sound right seen word → IsSlot word
+is_slot right seen word sound = elim sound [ inl z ↦ inl z | inr t ↦ inr (t.0, t.1, t.2, t.3) ]
+
+-- what a sound word spells is right at its point
+pub right_there : {E : Type 0} (right : List E → ℕ → Held → Type 0) (seen : List E) (word case at : ℕ) (held : Held) → Sound right seen word → Spells word case at held → (at ≤ length seen) × right (take at seen) case held
+right_there right seen word case at held sound spells = elim sound [
+  | inl z ↦ absurd (let c = spells.2.0 in let e = spells.3 in omega arith)
+  | inr t ↦ let same = spells_once word t.0 t.1 case at t.2 held t.3 spells in
+      (subst (λ (n : ℕ). n ≤ length seen) same.1 t.4, subst (λ (z : ℕ × ℕ × Held). right (take z.1 seen) z.0 z.2) (λ i. (same.0 i, same.1 i, same.2 i)) t.5)
+]
+
+-- a hit is right: nothing that was seen behind its point touches a region of its case
+pub hit_is_right : {E : Type 0} (right : List E → ℕ → Held → Type 0) (touches : List E → E → ℕ → Type 0) (seen : List E) (place : CasePlace) (slot count object store : ℕ) (answer : Look)
+    → ((at : ℕ) (held : Held) → at ≤ length seen → right (take at seen) place.case held → Untouched touches seen at (object_region place.object) → Untouched touches seen at (store_region place.store) → right seen place.case held)
+    → Sound right seen slot → Untouched touches seen object (object_region place.object) → Untouched touches seen store (store_region place.store)
+    → IsAnswer place.case slot count object store answer → HitIsRight (right seen place.case) answer
+hit_is_right right touches seen place slot count object store Miss law sound o s answers = tt
+hit_is_right right touches seen place slot count object store (Hit at held) law sound o s answers =
+    let t = ((answers at held).0 refl).1 in
+    let there = right_there right seen slot place.case t.0 held sound t.1 in
+    law t.0 held there.0 there.1
+    (each_later (λ before e. ¬ touches before e (object_region place.object)) object t.0 seen t.2 o)
+    (each_later (λ before e. ¬ touches before e (store_region place.store)) store t.0 seen t.3 s)

@@ -1,0 +1,89 @@
+-- The rule holds as the board is made.
+use Rattle.std.proofs.Common.{◌≡◌, ℕ, zero, suc, ◌+◌, ◌-◌, ◌<◌, ◌≤◌, List, [], ◌∷◌, ◌++◌, length, take, get_or, replicate, refl, sym, ap, ◌∙◌, subst, inl, arith, length-append}
+use Rattle.std.specs.Prelude.{All}
+use Rattle.std.proofs.lemmas.List.{take_all, get_or-replicate, get_or_append_left, get_or-append_right}
+use mathlib.Core.Option.{some, some-injective, some-ne-none}
+use lib.ListN.{get_elem?, length-replicate}
+use Rattle.atomic_table.specs.Table.{opening}
+use Rattle.verdict_words.specs.Words.{most_entries}
+use Rattle.verdict_words.specs.Rule.{origin_of, first_book, IsSeated, RegionOk, WordsOk, ViewOk, IsKept}
+use Rattle.verdict_words.specs.declared.places.Held.{Held}
+use Rattle.verdict_words.specs.declared.views.Key.{Key}
+use Rattle.verdict_words.specs.declared.views.Origin.{Origin}
+use Rattle.verdict_words.specs.declared.views.View.{View}
+use Rattle.verdict_words.specs.declared.views.View.TheVariants.{Book}
+use Rattle.verdict_words.proofs.Growing.{prefix_whole, each_none, each_of_all}
+use Rattle.verdict_words.proofs.BookKept.{none_is_some}
+
+-- the words of a new board
+abbrev pub front : ℕ → List ℕ
+front count = count ∷ replicate 8192 0
+
+abbrev pub first_words : ℕ → List ℕ
+first_words count = front count ++ replicate 512 count
+
+front_length : (count : ℕ) → length (front count) ≡ 8193
+front_length count = omega (arith, length-replicate {A = ℕ} 8192 0)
+
+-- the words as they are filled in
+pub filled : (count n m : ℕ) (a b c d : List ℕ) → a ≡ [] → b ≡ a ++ count ∷ [] → n ≡ 1 → c ≡ take 8193 b ++ replicate (8193 - n) 0 → m ≡ 8193 → d ≡ take 8705 c ++ replicate (8705 - m) count → d ≡ first_words count
+filled count n m a b c d ea eb en ec em ed =
+    let b' : b ≡ count ∷ [] = eb ∙ ap (λ (l : List ℕ). l ++ count ∷ []) ea in
+    let n' : 8193 - n ≡ 8192 = omega arith in
+    let m' : 8705 - m ≡ 512 = omega arith in
+    let c' : c ≡ front count = ec ∙ (λ i. take_all 8193 b (omega (arith, ap length b')) i ++ replicate (n' i) 0) ∙ (λ i. b' i ++ replicate 8192 0) in
+    ed ∙ (λ i. take_all 8705 c (omega (arith, ap length c', front_length count)) i ++ replicate (m' i) count) ∙ (λ i. c' i ++ replicate 512 count)
+
+pub words_length : (count : ℕ) → length (first_words count) ≡ 8705
+words_length count = omega (arith, length-append (front count) (replicate 512 count), front_length count, length-replicate 512 count)
+
+pub words_count : (count : ℕ) → get_or (first_words count) 0 0 ≡ count
+words_count count = refl
+
+pub words_slot : (count k : ℕ) → k < 8192 → get_or (first_words count) (1 + k) 0 ≡ 0
+words_slot count k low = get_or_append_left (front count) (replicate 512 count) 0 (1 + k) (omega (arith, front_length count))
+    ∙ (let e : 1 + k ≡ suc k = omega arith in ap (λ (j : ℕ). get_or (front count) j 0) e ∙ get_or-replicate 8192 k 0 0 low)
+
+pub words_region : (count r : ℕ) → r < 512 → get_or (first_words count) (8193 + r) 0 ≡ count
+words_region count r low = get_or-append_right (front count) (replicate 512 count) 8193 (8193 + r) 0 (front_length count) (omega arith)
+    ∙ get_or-replicate 512 ((8193 + r) - 8193) count 0 (omega arith)
+
+module _ {E H : Type 0} (session : E → ℕ) where
+  pub seated_first : (o : Origin E H) → 1 ≤ o.first → All (λ e. session e < o.first) o.opening → IsSeated session o o.opening o.first 0
+  seated_first o numbered below = record {
+    begins = prefix_whole o.opening;
+    counted = numbered;
+    order = omega arith;
+    below = each_of_all (λ e. session e < o.first) o.opening below;
+    new = each_none (λ before e. o.first ≤ session e) (length o.opening) o.opening (omega arith);
+    met = λ n. absurd (n refl);
+  }
+
+module _ {E H : Type 0} (session : E → ℕ) (right : List E → ℕ → Held → Type 0) (touches : List E → E → ℕ → Type 0) where
+  pub opens : (key : Key E H) (words : List ℕ) → words ≡ first_words (length (origin_of key).opening) → 1 ≤ key.first → All (λ e. session e < key.first) (origin_of key).opening → length (origin_of key).opening ≤ most_entries
+      → IsKept session right touches (origin_of key) (opening words [] (Book (first_book key)))
+  opens key words is numbered below short =
+      let o : Origin E H = origin_of key in
+      let n : ℕ = length o.opening in record {
+        seat = 0;
+        book = first_book key;
+        holder = λ s. 0;
+        place = refl;
+        book_ok = record { same = refl; short = short; seated = seated_first session o numbered below };
+        words_ok = subst (WordsOk right touches (first_book key)) (sym is) record {
+          wide = words_length n;
+          count = words_count n;
+          slots = λ k lt. inl (words_slot n k (omega arith));
+          regions = λ r lt. subst (RegionOk touches (first_book key) r) (sym (words_region n r lt)) record {
+            still = each_none (λ before e. ¬ touches before e r) n o.opening (omega arith);
+            raised = λ e. absurd (none_is_some r e);
+            else = λ _. omega arith;
+          };
+        };
+        views_ok = only o (first_book key);
+        held_ok = λ p e. absurd (none_is_some p e);
+      }
+    where
+      only : (o : Origin E H) (b : _) (j : ℕ) (v : View E H) → get_elem? (Book b ∷ []) j ≡ some v → ViewOk session right touches o b 0 (λ s. 0) j v
+      only o b zero v e = subst (ViewOk session right touches o b 0 (λ s. 0) 0) (some-injective (Book b) v e) (refl, refl)
+      only o b (suc j) v e = absurd (some-ne-none v (sym e))

@@ -1,0 +1,30 @@
+use Rattle.std.proofs.Common.{rules, refl, ◌≡◌, ◌+◌, ◌%◌, ◌≤◌, sym, ap, ◌∙◌, subst, arith, List, length, take, Some}
+use mathlib.Core.Option.{none}
+use Rattle.atomic_table.specs.Table.{step}
+use Rattle.verdict_words.specs.Steps.{stored_slot}
+use Rattle.verdict_words.specs.Values.{seen_of}
+use Rattle.verdict_words.proofs.Looking.{after_store, item_value}
+use Rattle.verdict_words.proofs.PassSteps.{asked, stores_slot}
+use Rattle.verdict_words.proofs.board.Board.fill_said.Goals as goal
+
+pub store-requires : goal.store-requires
+store-requires g c = (
+  search rules,
+  search rules,
+  let case : _ = c.args.place.now.case in
+      let setting = c.pass.inside.board.value.origin.setting in
+      let board : c.pass.inside.board.value ≡ c.args.self.now = ap (λ v. v.board) c.pass.view_is ∙ c.requires.board in
+      let before : c.args.at ≤ length (seen_of c.pass.inside.place.me.0) = subst (λ l. c.args.at ≤ length l) (sym (ap (λ v. v.seen) c.pass.view_is)) c.requires.at in
+      let own : c.self.inside.words.shared.key.setting.value ≡ c.args.self.now.origin.setting = ap (λ b. b.origin.setting) c.self.view_is in
+      let right = subst (λ (z : g.row.M-Setting.Denot × List g.row.M-Entry.Denot). g.M.Matter.right z.0 (take c.args.at z.1) case c.args.held.now) (λ i. (sym own i, sym (ap (λ v. v.seen) c.pass.view_is) i)) c.requires.right in
+      let i₂ = c.pass.invariant.count in let i₃ = c.pass.invariant.short in
+      asked g.M.Matter.session g.M.Matter.right g.M.Matter.touches _ _ _ _ _ _ (λ _. c.spelled.result) (λ n m _. stored_slot g.W.Said.said (step n (1 + case % 4096) c.spelled.result 0 none) m c.spelled.result) c.self.invariant.1 c.pass.invariant.view
+      (stores_slot g.M.Matter.session g.M.Matter.right g.M.Matter.touches _ _ _ g.W.Said.said case c.args.at c.args.held.now c.spelled.result (c.requires.said.0 ∙ ap Some c.requires.said.1) refl
+      (c.requires.place.0, omega arith, c.requires.held, c.spelled.ensures) before right),
+)
+
+pub returns : goal.returns
+returns g c =
+    let said = c.requires.said.0 ∙ ap Some c.requires.said.1 in
+    let now = after_store _ _ _ _ _ _ _ c.pass.invariant.view said c.store.ensures.2 in
+    item_value _ _ _ _ _ _ _ _ c.pass.view_is now

@@ -1,0 +1,7 @@
+pub mod Histories
+pub mod Words
+pub mod Values
+pub mod Rule
+pub mod Steps
+pub mod Answers
+pub mod Flags

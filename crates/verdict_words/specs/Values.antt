@@ -1,0 +1,85 @@
+-- What contracts see of a board, of the seat of its book, and of its passes.
+use Rattle.std.specs.Prelude.{◌≡◌, ℕ, ◌≤◌, List, [], length, take, Option, None}
+use Rattle.atomic_table.specs.Seated.{TableId}
+use Rattle.atomic_table.specs.declared.shared.Seat.{Seat}
+use Rattle.verdict_words.specs.Words.{most_entries}
+use Rattle.verdict_words.specs.Rule.{last_met, IsSeated}
+use Rattle.verdict_words.specs.declared.views.Origin.{Origin}
+use Rattle.verdict_words.specs.declared.views.Item.{Item}
+use Rattle.verdict_words.specs.declared.views.Loading.TheVariants.{Nothing}
+use Rattle.verdict_words.specs.declared.views.View.{View}
+use Rattle.verdict_words.specs.declared.views.View.TheVariants.{Book, Pass, Spent}
+
+-- Which board it is: its table, and what it was made with
+pub record Identity (E H : Type 0) : Type 0 where
+  pub table : TableId
+  pub origin : Origin E H
+
+-- What contracts see of the seat: its board, the history, the number of the next session, the session that was met last or 0, the sessions that have published since they were met, and the region that is raised
+pub record SeatValue (E H : Type 0) : Type 0 where
+  pub board : Identity E H
+  pub entries : List E
+  pub next : ℕ
+  pub turn : ℕ
+  pub lag : List ℕ
+  pub raised : Option ℕ
+
+-- What contracts see of a pass: its board, its session, the history that it has seen, and its steps so far
+pub record PassValue (E H : Type 0) : Type 0 where
+  pub board : Identity E H
+  pub session : ℕ
+  pub seen : List E
+  pub trail : List Item
+
+module _ {E H : Type 0} where
+  -- what a pass had seen when it was last met
+  abbrev pub met_seen : PassValue E H → List E
+  met_seen pass = take (last_met pass.trail) pass.seen
+
+  abbrev pub seen_of : View E H → List E
+  seen_of (Pass p) = p.seen
+  seen_of (Book b) = b.history
+  seen_of Spent = []
+
+  abbrev pub trail_of : View E H → List Item
+  trail_of (Pass p) = p.trail
+  trail_of (Book b) = []
+  trail_of Spent = []
+
+  abbrev pub turn_of : View E H → ℕ
+  turn_of (Book b) = b.turn
+  turn_of (Pass p) = 0
+  turn_of Spent = 0
+
+  abbrev pub lag_of : View E H → List ℕ
+  lag_of (Book b) = b.lag
+  lag_of (Pass p) = []
+  lag_of Spent = []
+
+  abbrev pub raised_of : View E H → Option ℕ
+  raised_of (Book b) = b.raised
+  raised_of (Pass p) = None
+  raised_of Spent = None
+
+  -- what the seat of a resting pass knows
+  abbrev pub resting : Origin E H → ℕ → List E → List Item → View E H
+  resting origin session seen trail = Pass record { origin = origin; session = session; seen = seen; trail = trail; loading = Nothing }
+
+  -- what the seat of a resting book knows
+  abbrev pub presiding : Origin E H → List E → ℕ → ℕ → List ℕ → Option ℕ → View E H
+  presiding origin entries next turn lag raised = Book record { origin = origin; history = entries; next = next; turn = turn; lag = lag; raised = raised; held = None }
+
+-- what holds of every pass: its seat is of its board, and rests
+pub record IsPass {E H : Type 0} (board : Identity E H) (place : Seat (Unit {0}) (View E H)) (session at : ℕ) : Type 0 where
+  pub table : place.table_id ≡ board.table
+  pub view : place.me ≡ (resting board.origin session (seen_of place.me.0) (trail_of place.me.0), [])
+  pub count : at ≡ length (seen_of place.me.0)
+  pub short : at ≤ most_entries
+
+-- what holds of every seat of a book: it is of its board, and rests
+pub record IsBookSeat {E H : Type 0} (session : E → ℕ) (board : Identity E H) (place : Seat (Unit {0}) (View E H)) (next count : ℕ) : Type 0 where
+  pub table : place.table_id ≡ board.table
+  pub view : place.me ≡ (presiding board.origin (seen_of place.me.0) next (turn_of place.me.0) (lag_of place.me.0) (raised_of place.me.0), [])
+  pub long : count ≡ length (seen_of place.me.0)
+  pub short : count ≤ most_entries
+  pub seated : IsSeated session board.origin (seen_of place.me.0) next (turn_of place.me.0)

@@ -1,0 +1,31 @@
+//! Atomic words under a stated rule, for any subject matter.
+//!
+//! One owner lets a history grow, entry by entry, behind a lock of its own. Any number of sessions keep verdicts of cases
+//! in slots, and find them again without the lock. A verdict that is found is right on a beginning of the history that
+//! the finder has then seen, under every schedule.
+//!
+//! The owner holds the `BookSeat`, each session a `Pass`; the `Board` is shared. None but `Board::make` takes memory.
+#![tactic(auto)]
+
+mod board;
+mod book;
+mod look;
+mod mark;
+mod matter;
+mod naming;
+mod pass;
+mod places;
+mod registers;
+mod rule;
+mod seat;
+#[cfg(test)]
+mod tests;
+mod views;
+
+pub use board::Board;
+pub use matter::Matter;
+pub use naming::Naming;
+pub use pass::Pass;
+pub use places::{CasePlace, Held, Look};
+pub use seat::BookSeat;
+pub use views::{Item, Origin, RegisterStep};

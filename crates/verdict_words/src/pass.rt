@@ -1,0 +1,45 @@
+//! What a session steps with.
+ghost use Rattle.std.specs.Prelude.{◌≡◌, ◌≤◌, length};
+ghost use Rattle.verdict_words.specs.Words.{most_entries};
+
+use crate::board::Board;
+use crate::mark::Mark;
+use crate::matter::Matter;
+use crate::rule::Place;
+use std::marker::Model;
+
+/// A session's right to step on a board. Contracts see its session, the history that it has seen, and its steps so far.
+#[derive(Drop)]
+pub struct Pass<M: Matter> {
+    pub(crate) place: Place<M>,
+    pub(crate) session: u64,
+    pub(crate) at: u64,
+    pub(crate) board: Mark<Board<M>>,
+}
+
+impl<M: Matter> Model for Pass<M> {
+    ghost use Rattle.verdict_words.specs.Values.{PassValue, IsPass, seen_of, trail_of};
+
+    ghost Value = { PassValue M.Entry M.Setting };
+
+    ghost view = { λ p. record { board = p.board.value; session = p.session; seen = seen_of p.place.me.0; trail = trail_of p.place.me.0 } };
+
+    ghost invariant = { λ p. IsPass p.board.value p.place p.session p.at };
+}
+
+impl<M: Matter> Pass<M> {
+    /// The number of its session.
+    pub fn session(&self) -> u64
+        ensures { result ≡ self.now.session }
+    {
+        self.session
+    }
+
+    /// The length of the history that it has seen.
+    pub fn at(&self) -> u64
+        ensures length { result ≡ length self.now.seen }
+        ensures most { result ≤ most_entries }
+    {
+        self.at
+    }
+}
