@@ -1,7 +1,7 @@
 #!/usr/bin/env bash
-# Proves and builds a Rattle program of bench/ over the repository's crates, in a copy of them, and runs it.
+# Proves and builds a Rattle program of bench/, whose source lies there as text, over the repository's crates, in a copy of them, and runs it.
 #
-#   bench/rattle.sh PROGRAM CRATES [INPUT]     PROGRAM is a file main.rt, CRATES the crates that it stands on
+#   bench/rattle.sh PROGRAM CRATES [INPUT]     PROGRAM is the source of a main.rt, CRATES the crates that it stands on
 set -eu
 
 top=$(cd "$(dirname "$0")/.." && pwd)

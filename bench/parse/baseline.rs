@@ -1,5 +1,5 @@
 //! A plain parser of the same grammar, by hand, in Rust: what `measure.sh` compares `parse_formula` with. It reads the
-//! lines of standard input as `main.rt` does, and prints the same lines.
+//! lines of standard input as `parse_bench.txt` does, and prints the same lines.
 use std::hint::black_box;
 use std::io::Read;
 use std::time::Instant;

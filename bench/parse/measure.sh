@@ -35,7 +35,7 @@ with open(sys.argv[1] + "-names", "w") as file:
 PYTHON
 
 rustc -O --edition 2024 -o "$work/baseline" "$here/baseline.rs"
-"$here/../rattle.sh" "$here/main.rt" "nal_parse anyhow" "$work/lines" >"$work/own"
+"$here/../rattle.sh" "$here/parse_bench.txt" "nal_parse anyhow" "$work/lines" >"$work/own"
 "$work/baseline" <"$work/lines" >"$work/peer"
 paste -d '|' "$work/lines-names" "$work/own" "$work/peer" | awk -F '|' '
     function rate(line, words) { split(line, words, " "); return words[2] * words[4] / words[7] * 1000 }
