@@ -1,1 +1,4 @@
 pub mod Closed
+pub mod EntryRows
+pub mod NamePlaces
+pub mod Places

@@ -4,3 +4,4 @@ pub mod Free
 pub mod Closed
 pub mod Size
 pub mod Secrets
+pub mod TreeKeys

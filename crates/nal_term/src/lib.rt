@@ -3,6 +3,7 @@
 
 mod formulas;
 mod free;
+mod keys;
 mod lists;
 mod names;
 mod scopes;

@@ -1,0 +1,2 @@
+pub mod HeldGoals
+pub mod HeldPorts

@@ -1,0 +1,2 @@
+pub mod GoalRows
+pub mod Held

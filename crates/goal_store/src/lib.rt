@@ -1,0 +1,8 @@
+//! The store of goals: the goal of each operation on an object, and the ports of the authorities.
+#![tactic(auto)]
+
+mod goals;
+#[cfg(test)]
+mod tests;
+
+pub use goals::GoalStore;

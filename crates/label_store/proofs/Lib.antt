@@ -1,0 +1,2 @@
+pub mod HeldLabels
+pub mod HeldCounts

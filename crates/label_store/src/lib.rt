@@ -1,0 +1,9 @@
+//! The store of labels: which principal holds which label, under which number.
+#![tactic(auto)]
+
+mod counts;
+mod labels;
+#[cfg(test)]
+mod tests;
+
+pub use labels::{LabelRefusal, LabelStore};

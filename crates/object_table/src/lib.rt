@@ -1,0 +1,8 @@
+//! The table of objects: which objects there are, under which numbers, and who owns each.
+#![tactic(auto)]
+
+mod objects;
+#[cfg(test)]
+mod tests;
+
+pub use objects::{MOST_OBJECTS, ObjectTable};

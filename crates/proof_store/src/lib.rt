@@ -1,0 +1,8 @@
+//! The store of proofs: the proof of each subject, operation and object, under its case number.
+#![tactic(auto)]
+
+mod cases;
+#[cfg(test)]
+mod tests;
+
+pub use cases::{MOST_CASES, ProofStore};
