@@ -1,14 +1,16 @@
 -- What the tokens after an item of a list say of the lists that a text spells.
-use Rattle.std.proofs.Common.{◌≡◌, ◌≢◌, ◌<◌, ◌≤◌, ◌-◌, ◌+◌, ◌++◌, ◌⊎◌, inl, inr, ℕ, List, [], ◌∷◌, length, Bool, IsTrue, refl, sym, ap, ◌∙◌, arith, append_assoc, length-append}
-use denote.Ref.{Bor}
-use Rattle.nal_parse.specs.declared.tokens.Token.{Token}
-use Rattle.nal_parse.specs.declared.tokens.Token.TheVariants as rust
+use Rattle.std.proofs.Common.{◌≡◌, ◌≢◌, ◌<◌, ◌-◌, ◌+◌, ◌++◌, ◌⊎◌, inl, inr, ℕ, List, [], ◌∷◌, length, Bool, IsTrue, refl, sym, ap, ◌∙◌, arith, append_assoc, length-append, subst, Err}
+use Rattle.nal_parse.specs.declared.stops.Stop.{Stop}
+use Rattle.nal_term.specs.Names.{IsName}
 use Rattle.nal_parse.specs.Tokens.{Lexeme, Cut, next_cut, lexeme_of}
 use Rattle.nal_parse.specs.Tokens as lexeme
 use Rattle.nal_parse.specs.Grammar.{ReadsList, last, more, ReadsName}
-use Rattle.nal_parse.specs.Reading.{ReadsOnly, ReadsNothing, ReadsMore, first_lexeme, anything}
-use Rattle.nal_parse.proofs.Readings.{SameReadings}
-use Rattle.nal_parse.proofs.TokenLexemes.{same_lexeme, same_rest, no_close, no_comma, no_name}
+use Rattle.nal_parse.specs.Errors.{BeginsWith, none, next}
+use Rattle.nal_parse.specs.Reading.{Readings, ReadsOnly, ReadsNothing, ReadsHere, ReadsMore, IsReading, IsStopAt, IsWritable, first_lexeme, anything}
+use Rattle.nal_parse.proofs.Readings.{SameReadings, Step, level, same_level, Handed, begins_append, begins_split, one_token, written, writable_append, stopped}
+use Rattle.nal_parse.proofs.TermReadings.{name_writable, nothing_between}
+use Rattle.nal_parse.proofs.Written.{sign_cut, after_space}
+use Rattle.nal_parse.proofs.TokenLexemes.{same_lexeme, same_rest}
 
 -- a list has an item, and after it a closing bracket or a comma and the others
 pub record LastItem {A : Type 0} (Item : List ℕ → A → List ℕ → Type 0) (bytes : List ℕ) (xs : List A) (rest : List ℕ) : Type 0 where
@@ -36,7 +38,7 @@ ReadsList-inverted (more lt item e r) = inr (record { x = _; a = _; b = _; other
 module _ {A : Type 0} (Item : List ℕ → A → List ℕ → Type 0) (ends : Lexeme → Bool) (by_closes : IsTrue (ends lexeme.closes)) (by_comma : IsTrue (ends lexeme.comma))
     (before : List A) (bytes : List ℕ) (room : length before < 8) where
   -- without an item there is no list
-  pub no_list : ReadsNothing ends (Item bytes) → ReadsNothing anything (ReadsMore Item before bytes)
+  pub no_list : ReadsNothing ends (Item bytes) → ReadsNothing anything (ReadsMore Item before 0 bytes)
   no_list n = record {
     none = λ all other m any. elim (ReadsList-inverted m.1) [
       | inl i ↦ n.none i.x i.a i.item (rw (first_lexeme, i.closes) by_closes)
@@ -46,7 +48,7 @@ module _ {A : Type 0} (Item : List ℕ → A → List ℕ → Type 0) (ends : Le
 
   module _ (x : A) (a : List ℕ) (first : ReadsOnly ends (Item bytes) x a) where
     -- an item and a closing bracket end the list
-    closed_from : (after : List ℕ) → next_cut a ≡ (lexeme.closes, after) → (all : List A) (other : List ℕ) → ReadsMore Item before bytes all other
+    closed_from : (after : List ℕ) → next_cut a ≡ (lexeme.closes, after) → (all : List A) (other : List ℕ) → ReadsMore Item before 0 bytes all other
         → (all ≡ before ++ x ∷ []) × (other ≡ after)
     closed_from after e all other m = elim (ReadsList-inverted m.1) [
       | inl i ↦
@@ -60,19 +62,19 @@ module _ {A : Type 0} (Item : List ℕ → A → List ℕ → Type 0) (ends : Le
           let l = same_lexeme comma e in cc
     ]
 
-    pub closed : (after : List ℕ) → next_cut a ≡ (lexeme.closes, after) → ReadsOnly anything (ReadsMore Item before bytes) (before ++ x ∷ []) after
+    pub closed : (after : List ℕ) → next_cut a ≡ (lexeme.closes, after) → ReadsOnly anything (ReadsMore Item before 0 bytes) (before ++ x ∷ []) after
     closed after e = record {
       reads = (x ∷ [], last (omega arith) first.reads e, refl);
       only = λ all other m any. closed_from after e all other m;
     }
 
     -- an item and a comma: the list goes on
-    more_to : (b : List ℕ) → next_cut a ≡ (lexeme.comma, b) → (all : List A) (other : List ℕ) → ReadsMore Item (before ++ x ∷ []) b all other → ReadsMore Item before bytes all other
+    more_to : (b : List ℕ) → next_cut a ≡ (lexeme.comma, b) → (all : List A) (other : List ℕ) → ReadsMore Item (before ++ x ∷ []) 0 b all other → ReadsMore Item before 0 bytes all other
     more_to b e all other m =
         let k : 8 - length (before ++ x ∷ []) ≡ 8 - length before - 1 = omega (arith, length-append before (x ∷ [])) in
         (x ∷ m.0, more (omega arith) first.reads e (rw k at m.1), m.2 ∙ append_assoc before (x ∷ []) m.0)
 
-    more_from : (b : List ℕ) → next_cut a ≡ (lexeme.comma, b) → (all : List A) (other : List ℕ) → ReadsMore Item before bytes all other → ReadsMore Item (before ++ x ∷ []) b all other
+    more_from : (b : List ℕ) → next_cut a ≡ (lexeme.comma, b) → (all : List A) (other : List ℕ) → ReadsMore Item before 0 bytes all other → ReadsMore Item (before ++ x ∷ []) 0 b all other
     more_from b e all other m = elim (ReadsList-inverted m.1) [
       | inl i ↦
           let only = first.only i.x i.a i.item (rw (first_lexeme, i.closes) by_closes) in
@@ -87,11 +89,11 @@ module _ {A : Type 0} (Item : List ℕ → A → List ℕ → Type 0) (ends : Le
           (i.others, rw (p, k) at i.goes_on, m.2 ∙ ap (λ ys. before ++ ys) q ∙ sym (append_assoc before (x ∷ []) i.others))
     ]
 
-    pub goes_on : (b : List ℕ) → next_cut a ≡ (lexeme.comma, b) → SameReadings anything (ReadsMore Item (before ++ x ∷ []) b) (ReadsMore Item before bytes)
+    pub goes_on : (b : List ℕ) → next_cut a ≡ (lexeme.comma, b) → SameReadings anything (ReadsMore Item (before ++ x ∷ []) 0 b) (ReadsMore Item before 0 bytes)
     goes_on b e = record { to = λ all other m. more_to b e all other m; from = λ all other m any. more_from b e all other m }
 
     -- an item and neither: there is no list; a comma after the eighth item goes on to no other
-    stuck_from : first_lexeme a ≢ lexeme.closes → (first_lexeme a ≡ lexeme.comma → length before + 1 ≡ 8) → (all : List A) (other : List ℕ) → ReadsMore Item before bytes all other → ⊥
+    stuck_from : first_lexeme a ≢ lexeme.closes → (first_lexeme a ≡ lexeme.comma → length before + 1 ≡ 8) → (all : List A) (other : List ℕ) → ReadsMore Item before 0 bytes all other → ⊥
     stuck_from not_closes at_most all other m = elim (ReadsList-inverted m.1) [
       | inl i ↦
           let only = first.only i.x i.a i.item (rw (first_lexeme, i.closes) by_closes) in
@@ -107,49 +109,110 @@ module _ {A : Type 0} (Item : List ℕ → A → List ℕ → Type 0) (ends : Le
         none_at_zero k z (last lt item e) = omega arith
         none_at_zero k z (more lt item e r) = omega arith
 
-    pub stuck : first_lexeme a ≢ lexeme.closes → (first_lexeme a ≡ lexeme.comma → length before + 1 ≡ 8) → ReadsNothing anything (ReadsMore Item before bytes)
+    pub stuck : first_lexeme a ≢ lexeme.closes → (first_lexeme a ≡ lexeme.comma → length before + 1 ≡ 8) → ReadsNothing anything (ReadsMore Item before 0 bytes)
     stuck not_closes at_most = record { none = λ all other m any. stuck_from not_closes at_most all other m }
 
-    -- the same, from the token that follows the item, with the items so far and the new one in one list
-    pub closed_at : (token : Token) (after : List ℕ) (longer : List A) → (lexeme_of token, after) ≡ next_cut a → token ≡ rust.Close → longer ≡ before ++ x ∷ []
-        → ReadsOnly anything (ReadsMore Item before bytes) longer after
-    closed_at token after longer cut is all = rw all (closed after (let e : next_cut a ≡ (lexeme_of token, after) = sym cut in let l : lexeme_of token ≡ lexeme.closes = cc in rw (← l) e))
+pub closes_writable : IsWritable lexeme.closes
+closes_writable tail = (41 ∷ 32 ∷ tail, after_space (41 ∷ 32 ∷ tail) ∙ sign_cut 41 (32 ∷ tail) refl refl)
 
-    pub goes_on_at : (token : Token) (b : List ℕ) (longer : List A) → (lexeme_of token, b) ≡ next_cut a → token ≡ rust.Comma → longer ≡ before ++ x ∷ []
-        → SameReadings anything (ReadsMore Item longer b) (ReadsMore Item before bytes)
-    goes_on_at token b longer cut is all = rw all (goes_on b (let e : next_cut a ≡ (lexeme_of token, b) = sym cut in let l : lexeme_of token ≡ lexeme.comma = cc in rw (← l) e))
+pub comma_writable : IsWritable lexeme.comma
+comma_writable tail = (44 ∷ 32 ∷ tail, after_space (44 ∷ 32 ∷ tail) ∙ sign_cut 44 (32 ∷ tail) refl refl)
 
-    pub full_at : (token : Token) (b : List ℕ) (longer : List A) → (lexeme_of token, b) ≡ next_cut a → token ≡ rust.Comma → longer ≡ before ++ x ∷ [] → 8 ≤ length longer
-        → ReadsNothing anything (ReadsMore Item before bytes)
-    full_at token b longer cut is all full =
-        let l : lexeme_of token ≡ lexeme.comma = cc in
-        let size = rw all at full in
-        stuck (rw (first_lexeme, ← cut, l) (λ e. cc)) (λ e. omega (arith, length-append before (x ∷ [])))
+pub closes_cut : (tail : List ℕ) → next_cut (32 ∷ 41 ∷ 32 ∷ tail) ≡ (lexeme.closes, 32 ∷ tail)
+closes_cut tail = after_space (41 ∷ 32 ∷ tail) ∙ sign_cut 41 (32 ∷ tail) refl refl
 
-    pub stuck_at : (token : Token) (b : List ℕ) → (lexeme_of token, b) ≡ next_cut a → (token ≡ rust.Close → ⊥) → (token ≡ rust.Comma → ⊥)
-        → ReadsNothing anything (ReadsMore Item before bytes)
-    stuck_at token b cut not_close not_comma = stuck (rw (first_lexeme, ← cut) (no_close token not_close)) (λ e. absurd (no_comma token not_comma (let f = rw (first_lexeme, ← cut) at e in f)))
+module _ {A : Type 0} (Item : List ℕ → A → List ℕ → Type 0) (ends : Lexeme → Bool) (by_closes : IsTrue (ends lexeme.closes)) (by_comma : IsTrue (ends lexeme.comma)) where
+  -- the items, whatever the levels
+  abbrev pub Items : Readings A
+  Items n = Item
+
+  module _ (before : List A) (room : length before < 8) where
+    -- without an item there is no list, and an item and a closing bracket are one
+    pub item_handed : Handed ends anything Items (ReadsMore Item before) 0
+    item_handed = record {
+      nothing = λ bytes m le h. no_list Item ends by_closes by_comma before bytes room h;
+      completes = λ tail. (41 ∷ 32 ∷ tail, λ bytes m b le r. (before ++ b ∷ [], (b ∷ [], last (omega arith) r (closes_cut tail), refl)));
+    }
+
+    module _ (source : List ℕ) (x : A) (a : List ℕ) (item : ReadsHere ends Items 0 source x a) where
+      -- an item and a closing bracket end the list
+      pub list_closed : (after : List ℕ) → next_cut a ≡ (lexeme.closes, after) → ReadsHere anything (ReadsMore Item before) 0 source (before ++ x ∷ []) after
+      list_closed after e = record {
+        tokens = item.tokens ++ lexeme.closes ∷ [];
+        begins = begins_append item.begins (next e none);
+        writable = writable_append item.tokens (lexeme.closes ∷ []) item.writable (closes_writable, tt);
+        reads = λ bytes other m le b. (closed_at bytes other b).reads;
+        only = λ bytes other m le b f. closed_at bytes other b;
+      }
+        where
+          closed_at : (bytes other : List ℕ) → BeginsWith bytes (item.tokens ++ lexeme.closes ∷ []) other → ReadsOnly anything (ReadsMore Item before 0 bytes) (before ++ x ∷ []) other
+          closed_at bytes other b =
+              let i = begins_split item.tokens b in
+              let f = one_token i.2 in
+              let first = item.only bytes i.0 0 (omega arith) i.1 (rw (first_lexeme, f, e) refl) in
+              closed Item ends by_closes by_comma before bytes room x i.0 first other f
+
+      -- an item and a comma: the list goes on
+      pub list_step : (b : List ℕ) → next_cut a ≡ (lexeme.comma, b) → Step anything (ReadsMore Item (before ++ x ∷ [])) (ReadsMore Item before) level 0 source b
+      list_step b e = record {
+        front = item.tokens ++ lexeme.comma ∷ [];
+        begins = begins_append item.begins (next e none);
+        writable = writable_append item.tokens (lexeme.comma ∷ []) item.writable (comma_writable, tt);
+        levels = same_level 0;
+        to = λ bytes other m le h all rest r. (goes_at bytes other h).to all rest r;
+        from = λ bytes other m le h f all rest r k. (goes_at bytes other h).from all rest r k;
+      }
+        where
+          goes_at : (bytes other : List ℕ) → BeginsWith bytes (item.tokens ++ lexeme.comma ∷ []) other → SameReadings anything (ReadsMore Item (before ++ x ∷ []) 0 other) (ReadsMore Item before 0 bytes)
+          goes_at bytes other h =
+              let i = begins_split item.tokens h in
+              let f = one_token i.2 in
+              let first = item.only bytes i.0 0 (omega arith) i.1 (rw (first_lexeme, f, e) refl) in
+              goes_on Item ends by_closes by_comma before bytes room x i.0 first other f
+
+      -- an item and neither, or a comma too many: there is no list
+      pub list_stuck : {T : Type 0} (tree_of : T → List A) (l : Lexeme) → first_lexeme a ≡ l → l ≢ lexeme.closes → (l ≡ lexeme.comma → length before + 1 ≡ 8) → (stop : Stop) → IsStopAt l a stop
+          → IsReading tree_of anything (ReadsMore Item before) 0 source (Err stop)
+      list_stuck tree_of l e not_closes at_most stop is =
+          stopped tree_of anything (ReadsMore Item before) 0 source item.tokens a item.begins item.writable
+          (λ tail.
+          let w = written item.tokens item.writable (41 ∷ 32 ∷ tail) in
+          (w.0, 32 ∷ 41 ∷ 32 ∷ tail, before ++ x ∷ [], w.1, (x ∷ [], last (omega arith) (item.reads (32 ∷ w.0) (32 ∷ 41 ∷ 32 ∷ tail) 0 (omega arith) w.1) (closes_cut tail), refl)))
+          l e stop is
+          (λ bytes other m le b f.
+          let first = item.only bytes other 0 (omega arith) b (f ∙ sym e) in
+          stuck Item ends by_closes by_comma before bytes room x other first (λ c. not_closes (sym f ∙ c)) (λ c. at_most (sym f ∙ c)))
 
 -- the name in front of a text is its first token
 ReadsName-same : {c : Cut} {x y a other : List ℕ} → c ≡ (lexeme.name x, a) → c ≡ (lexeme.name y, other) → (y ≡ x) × (other ≡ a)
 ReadsName-same e f = let l = same_lexeme f e in (cc, same_rest f e)
 
-pub ReadsName-at : (bytes : List ℕ) {a : List ℕ} (x : Bor (List ℕ)) (token : Token) → (lexeme_of token, a) ≡ next_cut bytes → token ≡ rust.Name x
-    → ReadsOnly anything (ReadsName bytes) x.now a
-ReadsName-at bytes {a = a} x token cut is =
-    let l : lexeme_of token ≡ lexeme.name x.now = cc in
-    let e : next_cut bytes ≡ (lexeme.name x.now, a) = rw (← cut, l) refl in
-    record { reads = e; only = λ y other f any. ReadsName-same e f }
+pub name_here : (source : List ℕ) {a : List ℕ} (x : List ℕ) → IsName x → next_cut source ≡ (lexeme.name x, a) → ReadsHere anything (Items ReadsName anything refl refl) 0 source x a
+name_here source x ok e = record {
+  tokens = lexeme.name x ∷ [];
+  begins = next e none;
+  writable = (name_writable x ok, tt);
+  reads = λ bytes other m le b. one_token b;
+  only = λ bytes other m le b f. record { reads = one_token b; only = λ y rest r k. ReadsName-same (one_token b) r };
+}
 
-pub ReadsName-none : (bytes : List ℕ) {a : List ℕ} (token : Token) → (lexeme_of token, a) ≡ next_cut bytes → ((x : Bor (List ℕ)) → token ≡ rust.Name x → ⊥)
-    → ReadsNothing anything (ReadsName bytes)
-ReadsName-none bytes {a = a} token cut not_name =
-    record { none = λ y other f any. no_name token not_name y (let g = rw (← cut) at f in ap (λ (c : Cut). c.0) g) }
+-- with another token in front there is no name, and so no list of names
+pub names_stuck : {T : Type 0} (tree_of : T → List (List ℕ)) (before : List (List ℕ)) → length before < 8 → (source : List ℕ) (l : Lexeme) → first_lexeme source ≡ l → ((x : List ℕ) → l ≢ lexeme.name x) → (stop : Stop) → IsStopAt l source stop
+    → IsReading tree_of anything (ReadsMore ReadsName before) 0 source (Err stop)
+names_stuck tree_of before room source l e not_name stop is =
+    stopped tree_of anything (ReadsMore ReadsName before) 0 source [] source none tt
+    (λ tail.
+    let x = name_writable (97 ∷ []) refl (41 ∷ 32 ∷ tail) in
+    (x.0, 32 ∷ x.0, before ++ (97 ∷ []) ∷ [], none, ((97 ∷ []) ∷ [], last (omega arith) x.1 (closes_cut tail), refl)))
+    l e stop is
+    (λ bytes other m le b f.
+    no_list ReadsName anything refl refl before bytes room
+    (record { none = λ y rest r k. not_name y (sym (subst (λ z. first_lexeme z ≡ l) (sym (nothing_between b)) f) ∙ ap (λ (c : Cut). c.0) r) }))
 
 -- with no item so far the list that goes on is the whole list
-pub from_none : {A : Type 0} (Item : List ℕ → A → List ℕ → Type 0) {before : List A} {bytes : List ℕ} → before ≡ []
-    → SameReadings anything (ReadsMore Item before bytes) (ReadsList Item 8 bytes)
-from_none {A} Item {before} {bytes} e = rw e (record {
+pub from_none : {A : Type 0} (Item : List ℕ → A → List ℕ → Type 0) (before : List A) (bytes : List ℕ) → before ≡ []
+    → SameReadings anything (ReadsMore Item before 0 bytes) (ReadsList Item 8 bytes)
+from_none {A} Item before bytes e = rw e (record {
   to = λ all other m. rw m.2 m.1;
   from = λ all other r any. (all, r, refl);
 })

@@ -1,58 +1,81 @@
 -- What the token at the front of a text says of the scopes that it spells.
-use Rattle.std.proofs.Common.{◌≡◌, ◌≢◌, ◌<◌, ℕ, List, [], ◌∷◌, refl, arith}
-use denote.Ref.{Bor}
-use Rattle.nal_parse.specs.declared.tokens.Token.{Token}
-use Rattle.nal_parse.specs.declared.tokens.Token.TheVariants as rust
-use Rattle.nal_parse.specs.Tokens.{Lexeme, Cut, next_cut, lexeme_of}
+use Rattle.std.proofs.Common.{◌≡◌, ◌≢◌, ◌<◌, ◌∷◌, [], ℕ, List, length, Err, refl, sym, subst, ◌∙◌, arith}
+use Rattle.nal_term.specs.Names.{IsName}
+use Rattle.nal_parse.specs.declared.stops.Stop.{Stop}
+use Rattle.nal_parse.specs.declared.stops.Stop.TheVariants.{Refused}
+use Rattle.nal_parse.specs.declared.stops.Found.TheVariants.{TooDeep}
+use Rattle.nal_parse.specs.Tokens.{Lexeme, Cut, next_cut, after_blanks}
 use Rattle.nal_parse.specs.Tokens as lexeme
-use Rattle.nal_parse.specs.Grammar.{ReadsName, ReadsScope, one, several}
-use Rattle.nal_parse.specs.Reading.{ReadsOnly, ReadsNothing, ReadsMore, first_lexeme, anything}
-use Rattle.nal_parse.proofs.Readings.{SameReadings}
-use Rattle.nal_parse.proofs.TokenLexemes.{same_lexeme, same_rest, no_open, no_name}
+use Rattle.nal_parse.specs.Grammar.{ReadsName, last, ReadsScope, one, several}
+use Rattle.nal_parse.specs.Errors.{none, next}
+use Rattle.nal_parse.specs.Reading.{ReadsHere, ReadsMore, IsReading, IsStopAt, IsWritable, first_lexeme, anything}
+use Rattle.nal_parse.proofs.Readings.{Step, level, same_level, one_token, stopped, stopped_deep}
+use Rattle.nal_parse.proofs.TermReadings.{name_writable, nothing_between}
+use Rattle.nal_parse.proofs.ListReadings.{closes_cut}
+use Rattle.nal_parse.proofs.TokenLexemes.{same_lexeme, same_rest}
+use Rattle.nal_parse.proofs.Written.{sign_cut, after_space}
 
-module _ (n : ℕ) (bytes : List ℕ) where
-  one_from : {x a : List ℕ} → next_cut bytes ≡ (lexeme.name x, a) → {xs : List (List ℕ)} {other : List ℕ} → ReadsScope n bytes xs other → (xs ≡ x ∷ []) × (other ≡ a)
-  one_from e (one f) = let l = same_lexeme f e in (cc, same_rest f e)
-  one_from e (several lt f r) = let l = same_lexeme f e in cc
+pub opens_writable : IsWritable lexeme.opens
+opens_writable tail = (40 ∷ 32 ∷ tail, after_space (40 ∷ 32 ∷ tail) ∙ sign_cut 40 (32 ∷ tail) refl refl)
 
-  -- a name is a scope
-  pub one_at : (x : Bor (List ℕ)) (a : List ℕ) (token : Token) (xs : List (List ℕ)) → (lexeme_of token, a) ≡ next_cut bytes → token ≡ rust.Name x → xs ≡ x.now ∷ []
-      → ReadsOnly anything (ReadsScope n bytes) xs a
-  one_at x a token xs cut is all =
-      let l : lexeme_of token ≡ lexeme.name x.now = cc in
-      let e : next_cut bytes ≡ (lexeme.name x.now, a) = rw (← cut, l) refl in
-      rw all (record { reads = one e; only = λ ys other r any. one_from e r })
+one_from : {n : ℕ} {bytes x a : List ℕ} → next_cut bytes ≡ (lexeme.name x, a) → {xs : List (List ℕ)} {other : List ℕ} → ReadsScope n bytes xs other → (xs ≡ x ∷ []) × (other ≡ a)
+one_from e (one f) = let l = same_lexeme f e in (cc, same_rest f e)
+one_from e (several lt f r) = let l = same_lexeme f e in cc
 
-  several_from : {a : List ℕ} → next_cut bytes ≡ (lexeme.opens, a) → {xs : List (List ℕ)} {other : List ℕ} → ReadsScope n bytes xs other → ReadsMore ReadsName [] a xs other
-  several_from e (one f) = let l = same_lexeme f e in cc
-  several_from e {xs} {other} (several {a = a'} lt f r) = let p = same_rest f e in (xs, rw p at r, refl)
+-- a name is a scope
+pub scope_one : (n : ℕ) (source : List ℕ) {a : List ℕ} (x : List ℕ) → IsName x → next_cut source ≡ (lexeme.name x, a) → ReadsHere anything ReadsScope n source (x ∷ []) a
+scope_one n source x ok e = record {
+  tokens = lexeme.name x ∷ [];
+  begins = next e none;
+  writable = (name_writable x ok, tt);
+  reads = λ bytes other m le b. one (one_token b);
+  only = λ bytes other m le b f. record { reads = one (one_token b); only = λ ys rest r any. one_from (one_token b) r };
+}
 
-  -- after an opening bracket the scope is the names of the list
-  pub several_at : (a : List ℕ) (token : Token) → (lexeme_of token, a) ≡ next_cut bytes → token ≡ rust.Open → 0 < n
-      → SameReadings anything (ReadsMore ReadsName [] a) (ReadsScope n bytes)
-  several_at a token cut is room =
-      let l : lexeme_of token ≡ lexeme.opens = cc in
-      let e : next_cut bytes ≡ (lexeme.opens, a) = rw (← cut, l) refl in
-      record { to = λ xs other m. rw m.2 (several room e m.1); from = λ xs other r any. several_from e r }
+several_from : {n : ℕ} {bytes a : List ℕ} → next_cut bytes ≡ (lexeme.opens, a) → {xs : List (List ℕ)} {other : List ℕ} → ReadsScope n bytes xs other → (0 < n) × ReadsMore ReadsName [] 0 a xs other
+several_from e (one f) = let l = same_lexeme f e in cc
+several_from e {xs} {other} (several {a = a'} lt f r) = let p = same_rest f e in (lt, (xs, rw p at r, refl))
 
-  no_scope : first_lexeme bytes ≢ lexeme.opens → ((x : List ℕ) → first_lexeme bytes ≢ lexeme.name x) → {xs : List (List ℕ)} {other : List ℕ} → ReadsScope n bytes xs other → ⊥
-  no_scope not_open not_name (one {x = x} f) = not_name x (rw (first_lexeme, f) refl)
-  no_scope not_open not_name (several lt f r) = not_open (rw (first_lexeme, f) refl)
+-- after an opening bracket the scope is the names of the list
+pub scope_several : (n : ℕ) (source : List ℕ) {a : List ℕ} → next_cut source ≡ (lexeme.opens, a) → 0 < n → Step anything (ReadsMore ReadsName []) ReadsScope level n source a
+scope_several n source e room = record {
+  front = lexeme.opens ∷ [];
+  begins = next e none;
+  writable = (opens_writable, tt);
+  levels = same_level n;
+  to = λ bytes other m le b xs rest r. let lt : 0 < m = omega arith in rw r.2 (several lt (one_token b) r.1);
+  from = λ bytes other m le b first xs rest r k. (several_from (one_token b) r).1;
+}
 
-  -- with another token there is no scope
-  pub none_at : (a : List ℕ) (token : Token) → (lexeme_of token, a) ≡ next_cut bytes → ((x : Bor (List ℕ)) → token ≡ rust.Name x → ⊥) → (token ≡ rust.Open → ⊥)
-      → ReadsNothing anything (ReadsScope n bytes)
-  none_at a token cut not_name not_open = record {
-    none = λ xs other r any.
-        no_scope (rw (first_lexeme, ← cut) (no_open token not_open)) (λ x. rw (first_lexeme, ← cut) (no_name token not_name x)) r;
-  }
+no_scope : {n : ℕ} {bytes : List ℕ} → first_lexeme bytes ≢ lexeme.opens → ((x : List ℕ) → first_lexeme bytes ≢ lexeme.name x) → {xs : List (List ℕ)} {other : List ℕ} → ReadsScope n bytes xs other → ⊥
+no_scope not_open not_name (one {x = x} f) = not_name x (rw (first_lexeme, f) refl)
+no_scope not_open not_name (several lt f r) = not_open (rw (first_lexeme, f) refl)
 
-  too_deep : first_lexeme bytes ≡ lexeme.opens → n ≡ 0 → {xs : List (List ℕ)} {other : List ℕ} → ReadsScope n bytes xs other → ⊥
-  too_deep e z (one f) = let g = rw (first_lexeme, f) at e in cc
-  too_deep e z (several lt f r) = omega arith
+scope_goes_on : (n : ℕ) (tail : List ℕ) → (bytes : List ℕ) × ReadsScope n (32 ∷ bytes) ((97 ∷ []) ∷ []) (32 ∷ tail)
+scope_goes_on n tail = let x = name_writable (97 ∷ []) refl tail in (x.0, one x.1)
 
-  -- with no level left a bracket begins no scope
-  pub too_deep_at : (a : List ℕ) (token : Token) → (lexeme_of token, a) ≡ next_cut bytes → token ≡ rust.Open → n ≡ 0 → ReadsNothing anything (ReadsScope n bytes)
-  too_deep_at a token cut is z =
-      let l : lexeme_of token ≡ lexeme.opens = cc in
-      record { none = λ xs other r any. too_deep (rw (first_lexeme, ← cut) l) z r }
+-- with another token there is no scope
+pub scope_nothing : {T : Type 0} (tree_of : T → List (List ℕ)) (n : ℕ) (source : List ℕ) (l : Lexeme) → first_lexeme source ≡ l → ((x : List ℕ) → l ≢ lexeme.name x) → l ≢ lexeme.opens → (stop : Stop) → IsStopAt l source stop
+    → IsReading tree_of anything ReadsScope n source (Err stop)
+scope_nothing tree_of n source l e not_name not_open stop is =
+    stopped tree_of anything ReadsScope n source [] source none tt (λ tail. let g = scope_goes_on n tail in (g.0, 32 ∷ g.0, (97 ∷ []) ∷ [], none, g.1)) l e stop is
+    (λ bytes other m le b f.
+    let first : first_lexeme bytes ≡ l = subst (λ x. first_lexeme x ≡ l) (sym (nothing_between b)) f in
+    record { none = λ xs rest r any. no_scope (λ c. not_open (sym first ∙ c)) (λ x c. not_name x (sym first ∙ c)) r })
+
+no_room : {bytes : List ℕ} → first_lexeme bytes ≡ lexeme.opens → {xs : List (List ℕ)} {other : List ℕ} → ReadsScope 0 bytes xs other → ⊥
+no_room e (one f) = let g = rw (first_lexeme, f) at e in cc
+no_room e (several lt f r) = omega arith
+
+-- with no level left a bracket begins no scope
+pub scope_too_deep : {T : Type 0} (tree_of : T → List (List ℕ)) (source : List ℕ) → first_lexeme source ≡ lexeme.opens → (stop : Stop) → stop ≡ Refused TooDeep (length (after_blanks source))
+    → IsReading tree_of anything ReadsScope 0 source (Err stop)
+scope_too_deep tree_of source e stop is =
+    stopped_deep tree_of anything ReadsScope 0 source [] source none tt (λ tail. let g = scope_goes_on 0 tail in (g.0, 32 ∷ g.0, (97 ∷ []) ∷ [], none, g.1)) lexeme.opens e refl stop is
+    (λ bytes other b f.
+    let first : first_lexeme bytes ≡ lexeme.opens = subst (λ x. first_lexeme x ≡ lexeme.opens) (sym (nothing_between b)) f in
+    record { none = λ xs rest r any. no_room first r })
+    (λ tail.
+    let x = name_writable (97 ∷ []) refl (41 ∷ 32 ∷ tail) in
+    let o = opens_writable x.0 in
+    (1, o.0, 32 ∷ o.0, (97 ∷ []) ∷ [], omega arith, none, rw (first_lexeme, o.1) refl, several (omega arith) o.1 (last (omega arith) x.1 (closes_cut tail))))

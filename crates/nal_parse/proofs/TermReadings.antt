@@ -1,18 +1,21 @@
 -- What the tokens at the front of a text say of the terms that it spells.
-use Rattle.std.proofs.Common.{◌≡◌, ◌≢◌, ℕ, List, [], ◌∷◌, ◌++◌, length, IsTrue, Some, None, refl, sym}
-use denote.Ref.{Bor}
+use Rattle.std.proofs.Common.{arith, subst, ◌∙◌, ◌≡◌, ◌≢◌, ℕ, List, [], ◌∷◌, ◌++◌, length, IsTrue, Some, None, Err, refl, sym}
+use Rattle.std.specs.Fmt.{decimal}
 use Rattle.std.proofs.lemmas.List.{map-append, length-map}
+use Rattle.nal_parse.specs.declared.stops.Stop.{Stop}
+use Rattle.nal_term.specs.Names.{IsName}
 use Rattle.nal_term.specs.declared.terms.Term.{Term}
 use Rattle.nal_term.specs.Trees.{TermTree, term_tree, term_trees}
 use Rattle.nal_term.specs.Trees as tree
-use Rattle.nal_parse.specs.declared.tokens.Token.{Token}
-use Rattle.nal_parse.specs.declared.tokens.Token.TheVariants as rust
 use Rattle.nal_parse.specs.Tokens.{Lexeme, next_cut, lexeme_of}
 use Rattle.nal_parse.specs.Tokens as lexeme
 use Rattle.nal_parse.specs.Grammar.{ReadsTerm, number, name, text, variable, ReadsParts, done, part}
-use Rattle.nal_parse.specs.Reading.{ReadsOnly, ReadsNothing, first_lexeme, first_term, ends_term}
-use Rattle.nal_parse.proofs.Readings.{SameReadings}
-use Rattle.nal_parse.proofs.TokenLexemes.{no_dot, no_name, same_lexeme, same_rest}
+use Rattle.nal_parse.specs.Errors.{BeginsWith, none, next}
+use Rattle.nal_parse.specs.Reading.{ReadsOnly, ReadsNothing, ReadsHere, IsReading, IsStopAt, IsWritable, IsWellFormed, Parts, Terms, first_lexeme, first_term, ends_term}
+use Rattle.nal_parse.proofs.Written.{name_cut, number_cut, quoted_cut, variable_cut, sign_cut, after_space}
+use Rattle.nal_parse.proofs.PrintedTerms.{term_read}
+use Rattle.nal_parse.proofs.Readings.{Step, level, same_level, one_token, two_tokens, stopped}
+use Rattle.nal_parse.proofs.TokenLexemes.{same_lexeme, same_rest}
 
 -- a term begins with a token that is one, and the rest are its parts
 pub ReadsTerm-inverted : {bytes : List ℕ} {t : TermTree} {rest : List ℕ} → ReadsTerm bytes t rest
@@ -35,14 +38,8 @@ pub ReadsParts-only_none : {t u : TermTree} {bytes other : List ℕ} → first_l
 ReadsParts-only_none not_dot done = (refl, refl)
 ReadsParts-only_none not_dot (part e f r) = absurd (not_dot (rw (first_lexeme, e) refl))
 
-pub ReadsParts-none : {t : TermTree} {bytes rest : List ℕ} (token : Token) → (lexeme_of token, rest) ≡ next_cut bytes → (token ≡ rust.Dot → ⊥)
-    → ReadsOnly ends_term (ReadsParts t bytes) t bytes
-ReadsParts-none {bytes = bytes} token cut h =
-    let not_dot : first_lexeme bytes ≢ lexeme.dot = rw (first_lexeme, ← cut) (no_dot token h) in
-    record { reads = done; only = λ u other r e. ReadsParts-only_none not_dot r }
-
 -- after a dot and a name the parts go on
-ReadsParts-from_dot : {t u : TermTree} {x bytes a b other : List ℕ} → next_cut bytes ≡ (lexeme.dot, a) → next_cut a ≡ (lexeme.name x, b)
+pub ReadsParts-from_dot : {t u : TermTree} {x bytes a b other : List ℕ} → next_cut bytes ≡ (lexeme.dot, a) → next_cut a ≡ (lexeme.name x, b)
     → ReadsParts t bytes u other → IsTrue (ends_term (first_lexeme other)) → ReadsParts (tree.subprincipal t x) b u other
 ReadsParts-from_dot e f done ends = let h = rw (ends_term, first_lexeme, e) at ends in cc
 ReadsParts-from_dot {u = u} {x = x} {a = a} {b = b} {other = other} e f (part {a = a'} {b = b'} {x = x'} e' f' r) ends =
@@ -53,29 +50,15 @@ ReadsParts-from_dot {u = u} {x = x} {a = a} {b = b} {other = other} e f (part {a
     let s : b ≡ b' = same_rest f g in
     rw (q, s) r
 
-pub ReadsParts-dot : {t : TermTree} {x : Bor (List ℕ)} {bytes a b : List ℕ} {dot second : Token} → (lexeme_of dot, a) ≡ next_cut bytes → dot ≡ rust.Dot
-    → (lexeme_of second, b) ≡ next_cut a → second ≡ rust.Name x → SameReadings ends_term (ReadsParts (tree.subprincipal t x.now) b) (ReadsParts t bytes)
-ReadsParts-dot {x = x} {bytes = bytes} {a = a} {b = b} cut is_dot cut' is_name =
-    let e : next_cut bytes ≡ (lexeme.dot, a) = cc in
-    let f : next_cut a ≡ (lexeme.name x.now, b) = cc in
-    record { to = λ u other r. part e f r; from = λ u other r ends. ReadsParts-from_dot e f r ends }
-
 -- after a dot without a name nothing is read
-ReadsParts-not_named : {t u : TermTree} {bytes a other : List ℕ} → next_cut bytes ≡ (lexeme.dot, a) → ((x : List ℕ) → first_lexeme a ≢ lexeme.name x)
+pub ReadsParts-not_named : {t u : TermTree} {bytes a other : List ℕ} → next_cut bytes ≡ (lexeme.dot, a) → ((x : List ℕ) → first_lexeme a ≢ lexeme.name x)
     → ReadsParts t bytes u other → IsTrue (ends_term (first_lexeme other)) → ⊥
 ReadsParts-not_named e not_name done ends = let h = rw (ends_term, first_lexeme, e) at ends in cc
 ReadsParts-not_named {a = a} e not_name (part {a = a'} {x = x'} e' f' r) ends =
     let p : a' ≡ a = same_rest e' e in not_name x' (rw (first_lexeme, ← p, f') refl)
 
-pub ReadsParts-no_name : {t : TermTree} {bytes a b : List ℕ} {dot : Token} (second : Token) → (lexeme_of dot, a) ≡ next_cut bytes → dot ≡ rust.Dot
-    → (lexeme_of second, b) ≡ next_cut a → ((x : Bor (List ℕ)) → second ≡ rust.Name x → ⊥) → ReadsNothing ends_term (ReadsParts t bytes)
-ReadsParts-no_name {bytes = bytes} {a = a} second cut is_dot cut' h =
-    let e : next_cut bytes ≡ (lexeme.dot, a) = cc in
-    let not_name : (x : List ℕ) → first_lexeme a ≢ lexeme.name x = λ x. rw (first_lexeme, ← cut') (no_name second h x) in
-    record { none = λ u other r ends. ReadsParts-not_named e not_name r ends }
-
 -- a term is read as the parts of its first token
-ReadsTerm-from_first : {l : Lexeme} {u t : TermTree} (bytes : List ℕ) {a other : List ℕ} → next_cut bytes ≡ (l, a) → first_term l ≡ Some u
+pub ReadsTerm-from_first : {l : Lexeme} {u t : TermTree} (bytes : List ℕ) {a other : List ℕ} → next_cut bytes ≡ (l, a) → first_term l ≡ Some u
     → ((v : TermTree) × (first_term (next_cut bytes).0 ≡ Some v) × ReadsParts v (next_cut bytes).1 t other) → ReadsParts u a t other
 ReadsTerm-from_first {u = u} bytes e f i =
     let g = rw e at i.1 in
@@ -83,18 +66,92 @@ ReadsTerm-from_first {u = u} bytes e f i =
     let p : i.0 ≡ u = cc in
     rw (← p) h
 
-pub ReadsTerm-first : {u : TermTree} {bytes a : List ℕ} (token : Token) → (lexeme_of token, a) ≡ next_cut bytes → Some u ≡ first_term (lexeme_of token)
-    → SameReadings ends_term (ReadsParts u a) (ReadsTerm bytes)
-ReadsTerm-first token cut f =
-    record { to = λ t other r. ReadsTerm-made (lexeme_of token) (sym cut) (sym f) r; from = λ t other r ends. ReadsTerm-from_first _ (sym cut) (sym f) (ReadsTerm-inverted r) }
+-- tokens that can be written
+
+pub dot_writable : IsWritable lexeme.dot
+dot_writable tail = (46 ∷ 32 ∷ tail, after_space (46 ∷ 32 ∷ tail) ∙ sign_cut 46 (32 ∷ tail) refl refl)
+
+pub name_writable : (x : List ℕ) → IsName x → IsWritable (lexeme.name x)
+name_writable x ok tail = (x ++ 32 ∷ tail, after_space (x ++ 32 ∷ tail) ∙ name_cut x (32 ∷ tail) ok refl)
+
+pub variable_writable : (x : List ℕ) → IsName x → IsWritable (lexeme.variable x)
+variable_writable x ok tail = (63 ∷ x ++ 32 ∷ tail, after_space (63 ∷ x ++ 32 ∷ tail) ∙ variable_cut x (32 ∷ tail) ok refl)
+
+pub first_writable : (l : Lexeme) {u : TermTree} → first_term l ≡ Some u → IsWellFormed l → IsWritable l
+first_writable (lexeme.number n) f ok tail = (decimal n ++ 32 ∷ tail, after_space (decimal n ++ 32 ∷ tail) ∙ number_cut n (32 ∷ tail) ok refl)
+first_writable (lexeme.name x) f ok tail = name_writable x ok tail
+first_writable (lexeme.quoted x) f ok tail = (34 ∷ x ++ 34 ∷ 32 ∷ tail, after_space (34 ∷ x ++ 34 ∷ 32 ∷ tail) ∙ quoted_cut x (32 ∷ tail) ok)
+first_writable (lexeme.variable x) f ok tail = variable_writable x ok tail
+first_writable _ f ok tail = cc
+
+-- some term can be written before any other text
+pub term_goes_on : (tail : List ℕ) → (bytes : List ℕ) × ReadsTerm (32 ∷ bytes) (tree.number 0) (32 ∷ tail)
+term_goes_on tail = (decimal 0 ++ 32 ∷ tail, term_read (tree.number 0) (omega arith) (32 ∷ decimal 0 ++ 32 ∷ tail) (32 ∷ tail) refl (after_space (decimal 0 ++ 32 ∷ tail)))
+
+-- no token stands between
+pub nothing_between : {a b : List ℕ} → BeginsWith a [] b → a ≡ b
+nothing_between none = refl
+
+-- Parts
+
+-- with no dot in front the parts are none
+pub parts_end : (t : TermTree) (source : List ℕ) (l : Lexeme) {after : List ℕ} → (l, after) ≡ next_cut source → l ≢ lexeme.dot → ReadsHere ends_term (Parts t) 0 source t source
+parts_end t source l cut not_dot = record {
+  tokens = [];
+  begins = none;
+  writable = tt;
+  reads = λ bytes other m le b. subst (λ x. ReadsParts t bytes t x) (nothing_between b) done;
+  only = λ bytes other m le b e. subst (λ x. ReadsOnly ends_term (ReadsParts t bytes) t x) (nothing_between b)
+      (ends_there bytes (subst (λ x. first_lexeme x ≡ first_lexeme source) (sym (nothing_between b)) e));
+}
+  where
+    ends_there : (bytes : List ℕ) → first_lexeme bytes ≡ first_lexeme source → ReadsOnly ends_term (ReadsParts t bytes) t bytes
+    ends_there bytes e = record { reads = done; only = λ u rest r k. ReadsParts-only_none (λ d. not_dot (let h = sym e ∙ d in rw (first_lexeme, ← cut) at h)) r }
+
+-- after a dot and a name the parts go on
+pub parts_dot : (t : TermTree) (x : List ℕ) {source a b : List ℕ} → IsName x → next_cut source ≡ (lexeme.dot, a) → next_cut a ≡ (lexeme.name x, b) → Step ends_term (Parts (tree.subprincipal t x)) (Parts t) level 0 source b
+parts_dot t x ok e f = record {
+  front = lexeme.dot ∷ lexeme.name x ∷ [];
+  begins = next e (next f none);
+  writable = (dot_writable, (name_writable x ok, tt));
+  levels = same_level 0;
+  to = λ bytes other m le b u rest r. let i = two_tokens b in part i.1 i.2 r;
+  from = λ bytes other m le b first u rest r k. let i = two_tokens b in ReadsParts-from_dot i.1 i.2 r k;
+}
+
+-- after a dot without a name nothing is read
+pub parts_no_name : {T : Type 0} (tree_of : T → TermTree) (t : TermTree) (source a : List ℕ) → next_cut source ≡ (lexeme.dot, a) → (l : Lexeme) → first_lexeme a ≡ l → ((x : List ℕ) → l ≢ lexeme.name x) → (stop : Stop) → IsStopAt l a stop
+    → IsReading tree_of ends_term (Parts t) 0 source (Err stop)
+parts_no_name tree_of t source a e l first not_name stop is =
+    stopped tree_of ends_term (Parts t) 0 source (lexeme.dot ∷ []) a (next e none) (dot_writable, tt)
+    (λ tail.
+    let x = name_writable (97 ∷ []) refl tail in
+    let d = dot_writable x.0 in
+    (d.0, 32 ∷ x.0, tree.subprincipal t (97 ∷ []), next d.1 none, part d.1 x.1 done))
+    l first stop is
+    (λ bytes other m le b f. record { none = λ u rest r k. ReadsParts-not_named (one_token b) (λ x g. not_name x (sym f ∙ g)) r k })
+
+-- Terms
+
+-- a term is read as the parts of its first token
+pub term_first : (l : Lexeme) {u : TermTree} {source a : List ℕ} → next_cut source ≡ (l, a) → first_term l ≡ Some u → IsWellFormed l → Step ends_term (Parts u) Terms level 0 source a
+term_first l e f ok = record {
+  front = l ∷ [];
+  begins = next e none;
+  writable = (first_writable l f ok, tt);
+  levels = same_level 0;
+  to = λ bytes other m le b t rest r. ReadsTerm-made l (one_token b) f r;
+  from = λ bytes other m le b first t rest r k. ReadsTerm-from_first bytes (one_token b) f (ReadsTerm-inverted r);
+}
 
 -- with another token in front no term is read
-ReadsTerm-not_first : {l : Lexeme} {t : TermTree} (bytes : List ℕ) {a other : List ℕ} → next_cut bytes ≡ (l, a) → first_term l ≡ None
-    → ((v : TermTree) × (first_term (next_cut bytes).0 ≡ Some v) × ReadsParts v (next_cut bytes).1 t other) → ⊥
-ReadsTerm-not_first bytes e f i = let g = rw e at i.1 in cc
+pub term_not_first : {bytes : List ℕ} (l : Lexeme) → first_lexeme bytes ≡ l → first_term l ≡ None → ReadsNothing ends_term (ReadsTerm bytes)
+term_not_first {bytes} l e f = record { none = λ t rest r k. let i = ReadsTerm-inverted r in let g = rw e at i.1 in cc }
 
-pub ReadsTerm-nothing : {bytes a : List ℕ} (token : Token) → (lexeme_of token, a) ≡ next_cut bytes → None ≡ first_term (lexeme_of token) → ReadsNothing ends_term (ReadsTerm bytes)
-ReadsTerm-nothing token cut f = record { none = λ t other r ends. ReadsTerm-not_first _ (sym cut) (sym f) (ReadsTerm-inverted r) }
+pub term_nothing : {T : Type 0} (tree_of : T → TermTree) (source : List ℕ) (l : Lexeme) → first_lexeme source ≡ l → first_term l ≡ None → (stop : Stop) → IsStopAt l source stop → IsReading tree_of ends_term Terms 0 source (Err stop)
+term_nothing tree_of source l first f stop is =
+    stopped tree_of ends_term Terms 0 source [] source none tt (λ tail. let g = term_goes_on tail in (g.0, 32 ∷ g.0, tree.number 0, none, g.1)) l first stop is
+    (λ bytes other m le b e. term_not_first l (subst (λ x. first_lexeme x ≡ l) (sym (nothing_between b)) e) f)
 
 -- the trees of a list that has one term more
 pub term_trees-longer : (ts : List Term) (t : Term) (longer : List Term) → longer ≡ ts ++ t ∷ [] → term_trees longer ≡ term_trees ts ++ term_tree t ∷ []

@@ -50,3 +50,11 @@ same_lexeme e e' = ap (λ (c : Cut). c.0) (sym e ∙ e')
 -- and one rest
 pub same_rest : {c : Cut} {l l' : Lexeme} {a a' : List ℕ} → c ≡ (l, a) → c ≡ (l', a') → a ≡ a'
 same_rest e e' = ap (λ (c : Cut). c.1) (sym e ∙ e')
+
+-- the token that was cut is the first
+pub first_of_cut : {l : Lexeme} {a : List ℕ} (bytes : List ℕ) → (l, a) ≡ next_cut bytes → (next_cut bytes).0 ≡ l
+first_of_cut bytes e = rw (← e) refl
+
+pub no_variable : (t : Token) → ((x : Bor (List ℕ)) → t ≡ rust.Variable x → ⊥) → (x : List ℕ) → lexeme_of t ≢ lexeme.variable x
+no_variable (rust.Variable x) h y e = h x refl
+no_variable _ h y e = cc

@@ -1,4 +1,5 @@
 pub mod Tokens
 pub mod Canonical
 pub mod Grammar
+pub mod Errors
 pub mod Reading

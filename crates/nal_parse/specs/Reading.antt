@@ -1,16 +1,21 @@
 -- What a reader of a part of a text answers: the one reading there is, or that there is none. A reading counts
 -- where what follows it can go on after it.
-use Rattle.std.specs.Prelude.{◌≡◌, ◌≢◌, ℕ, ◌-◌, ◌++◌, ◌⊎◌, length, [], List, Bool, true, false, IsTrue, Option, Some, None, Result, Ok, Err}
+use Rattle.std.specs.Prelude.{◌≡◌, ◌≢◌, ◌<◌, ◌≤◌, ◌^◌, ℕ, ◌-◌, ◌++◌, ◌∷◌, ◌⊎◌, length, [], List, Bool, true, false, IsTrue, Option, Some, None, Result, Ok, Err}
 use denote.Ref.{Bor}
 use Rattle.nal_parse.specs.declared.stops.Stop.{Stop}
-use Rattle.nal_parse.specs.declared.stops.Stop.TheVariants.{Memory}
+use Rattle.nal_parse.specs.declared.stops.Stop.TheVariants.{Refused, Memory}
+use Rattle.nal_parse.specs.declared.stops.Found.{Found}
+use Rattle.nal_parse.specs.declared.stops.Found.TheVariants.{Unexpected, TooDeep, BadNumber, BadName, BadText}
+use Rattle.nal_parse.specs.declared.parse.ParseError.{ParseError}
+use Rattle.nal_parse.specs.declared.parse.ParseError.TheVariants as parse
+use Rattle.nal_parse.specs.Errors.{BeginsWith}
 use Rattle.nal_term.specs.Trees.{TermTree, FormulaTree}
 use Rattle.nal_term.specs.Trees as tree
 use Rattle.nal_term.specs.Names.{IsName, IsText}
 use Rattle.nal_parse.specs.declared.tokens.Keyword.TheVariants as word
-use Rattle.nal_parse.specs.Tokens.{Lexeme, keyword, name, number, variable, quoted, closes, dot, colon, arrow, end, next_cut}
+use Rattle.nal_parse.specs.Tokens.{Lexeme, keyword, name, number, variable, quoted, closes, dot, colon, arrow, end, bad_name, bad_number, bad_text, next_cut, after_blanks}
 use Rattle.nal_parse.specs.declared.tokens.Quantifier.{Quantifier}
-use Rattle.nal_parse.specs.Grammar.{ReadsList, ReadsTerm, ReadsScope, ReadsFormula, quantify}
+use Rattle.nal_parse.specs.Grammar.{ReadsList, ReadsTerm, ReadsParts, ReadsScope, ReadsFormula, ReadsPredicate, ReadsOrs, ReadsAnds, quantify}
 
 -- the lexeme with which a text begins
 abbrev pub first_lexeme : List ℕ → Lexeme
@@ -25,14 +30,74 @@ pub record ReadsOnly {A : Type 0} (ends : Lexeme → Bool) (R : A → List ℕ �
 pub record ReadsNothing {A : Type 0} (ends : Lexeme → Bool) (R : A → List ℕ → Type 0) : Type 0 where
   pub none : (b : A) (other : List ℕ) → R b other → IsTrue (ends (first_lexeme other)) → ⊥
 
--- a reader that stops, but for want of memory, has nothing to read
-pub record StopsWith {A : Type 0} (ends : Lexeme → Bool) (R : A → List ℕ → Type 0) (stop : Stop) : Type 0 where
-  pub nothing : stop ≢ Memory → ReadsNothing ends R
+-- what is read with so many levels from a text, and what follows it
+abbrev pub Readings : Type 0 → Type 1
+Readings A = ℕ → List ℕ → A → List ℕ → Type 0
 
--- what a reader answers: the one reading, or a stop
-abbrev pub IsReading : {T A : Type 0} → (T → A) → (Lexeme → Bool) → (A → List ℕ → Type 0) → Result (T × Bor (List ℕ)) Stop → Type 0
-IsReading tree_of ends R (Ok p) = ReadsOnly ends R (tree_of p.0) p.1.now
-IsReading tree_of ends R (Err stop) = StopsWith ends R stop
+-- the token can be written before any other text
+abbrev pub IsWritable : Lexeme → Type 0
+IsWritable l = (tail : List ℕ) → (bytes : List ℕ) × (next_cut (32 ∷ bytes) ≡ (l, 32 ∷ tail))
+
+abbrev pub AreWritable : List Lexeme → Type 0
+AreWritable [] = Unit {0}
+AreWritable (l ∷ ls) = IsWritable l × AreWritable ls
+
+-- `a` is what the tokens in front of the text spell, in this text and in every other one that begins with them and
+-- goes on with the same token
+pub record ReadsHere {A : Type 0} (ends : Lexeme → Bool) (R : Readings A) (n : ℕ) (text : List ℕ) (a : A) (rest : List ℕ) : Type 0 where
+  pub tokens : List Lexeme
+  pub begins : BeginsWith text tokens rest
+  pub writable : AreWritable tokens
+  pub reads : (bytes other : List ℕ) (m : ℕ) → n ≤ m → BeginsWith bytes tokens other → R m bytes a other
+  pub only : (bytes other : List ℕ) (m : ℕ) → n ≤ m → BeginsWith bytes tokens other → first_lexeme other ≡ first_lexeme rest → ReadsOnly ends (R m bytes) a other
+
+-- a malformed token
+abbrev pub is_malformed : Lexeme → Bool
+is_malformed bad_name = true
+is_malformed bad_number = true
+is_malformed bad_text = true
+is_malformed _ = false
+
+-- what was found is what the token is
+abbrev pub IsFound : Found → Lexeme → Type 0
+IsFound BadName l = l ≡ bad_name
+IsFound BadNumber l = l ≡ bad_number
+IsFound BadText l = l ≡ bad_text
+IsFound Unexpected l = is_malformed l ≡ false
+IsFound TooDeep l = is_malformed l ≡ false
+
+-- a reader stopped at a token: nothing is read from a text that begins with the tokens before it and goes on with it,
+-- and with other tokens something is
+pub record StopsHere {A : Type 0} (ends : Lexeme → Bool) (R : Readings A) (n : ℕ) (text : List ℕ) (found : Found) (left : ℕ) : Type 0 where
+  pub tokens : List Lexeme
+  pub stop : List ℕ
+  pub begins : BeginsWith text tokens stop
+  pub writable : AreWritable tokens
+  pub place : left ≡ length (after_blanks stop)
+  pub kind : IsFound found (first_lexeme stop)
+  pub refuses : (bytes other : List ℕ) (m : ℕ) → n ≤ m → (found ≡ TooDeep → m ≡ n) → BeginsWith bytes tokens other → first_lexeme other ≡ first_lexeme stop → ReadsNothing ends (R m bytes)
+  pub goes_on : (tail : List ℕ) → (bytes : List ℕ) × (other : List ℕ) × (a : A) × BeginsWith (32 ∷ bytes) tokens other × R n (32 ∷ bytes) a (32 ∷ tail)
+  pub deeper : found ≡ TooDeep → (tail : List ℕ) → (m : ℕ) × (bytes : List ℕ) × (other : List ℕ) × (a : A) × (n ≤ m) × BeginsWith (32 ∷ bytes) tokens other
+      × (first_lexeme other ≡ first_lexeme stop) × R m (32 ∷ bytes) a (32 ∷ tail)
+
+-- what a reader answers: the one reading, or a stop at a token, or want of memory
+abbrev pub IsReading : {T A : Type 0} → (T → A) → (Lexeme → Bool) → Readings A → ℕ → List ℕ → Result (T × Bor (List ℕ)) Stop → Type 0
+IsReading tree_of ends R n text (Ok p) = ReadsHere ends R n text (tree_of p.0) p.1.now
+IsReading tree_of ends R n text (Err (Refused found left)) = StopsHere ends R n text found left
+IsReading tree_of ends R n text (Err Memory) = Unit {0}
+
+-- the stop at the first token of a text, which no spelling allows there
+abbrev pub IsStopAt : Lexeme → List ℕ → Stop → Type 0
+IsStopAt l text stop = (found : Found) × IsFound found l × (found ≢ TooDeep) × (stop ≡ Refused found (length (after_blanks text)))
+
+-- the error that a stop is in a text of this length
+abbrev pub error_of : Stop → ℕ → ParseError
+error_of (Refused Unexpected left) size = parse.Unexpected (size - left)
+error_of (Refused TooDeep left) size = parse.TooDeep (size - left)
+error_of (Refused BadNumber left) size = parse.BadNumber (size - left)
+error_of (Refused BadName left) size = parse.BadName (size - left)
+error_of (Refused BadText left) size = parse.BadText (size - left)
+error_of Memory size = parse.Memory
 
 -- any lexeme may follow
 abbrev pub anything : Lexeme → Bool
@@ -86,11 +151,12 @@ abbrev pub IsWellFormed : Lexeme → Type 0
 IsWellFormed (name x) = IsName x
 IsWellFormed (variable x) = IsName x
 IsWellFormed (quoted x) = IsText x
+IsWellFormed (number n) = n < 2 ^ 64
 IsWellFormed _ = Unit {0}
 
 -- a list that goes on: the items so far are `before`, and the text spells the others
-abbrev pub ReadsMore : {A : Type 0} → (List ℕ → A → List ℕ → Type 0) → List A → List ℕ → List A → List ℕ → Type 0
-ReadsMore {A} Item before bytes all rest = (xs : List A) × ReadsList Item (8 - length before) bytes xs rest × (all ≡ before ++ xs)
+abbrev pub ReadsMore : {A : Type 0} → (List ℕ → A → List ℕ → Type 0) → List A → Readings (List A)
+ReadsMore {A} Item before n bytes all rest = (xs : List A) × ReadsList Item (8 - length before) bytes xs rest × (all ≡ before ++ xs)
 
 -- the names of a scope so far
 abbrev pub names_so_far : Option (List (List ℕ)) → List (List ℕ)
@@ -98,26 +164,48 @@ names_so_far None = []
 names_so_far (Some xs) = xs
 
 -- what `make` makes of a part that is read
-abbrev pub ReadsMade : {A B : Type 0} → (A → B) → (A → List ℕ → Type 0) → B → List ℕ → Type 0
-ReadsMade {A} make R b rest = (a : A) × R a rest × (b ≡ make a)
+abbrev pub ReadsMade : {A B : Type 0} → (A → B) → Readings A → Readings B
+ReadsMade {A} make R n bytes b rest = (a : A) × R n bytes a rest × (b ≡ make a)
 
 -- a part that is read, and then a lexeme
-abbrev pub ReadsThen : {A : Type 0} → (A → List ℕ → Type 0) → Lexeme → A → List ℕ → Type 0
-ReadsThen R l a rest = (between : List ℕ) × R a between × (next_cut between ≡ (l, rest))
-
--- a lexeme, and then a part
-abbrev pub ReadsAfter : {A : Type 0} → List ℕ → Lexeme → (List ℕ → A → List ℕ → Type 0) → A → List ℕ → Type 0
-ReadsAfter bytes l R a rest = (between : List ℕ) × (next_cut bytes ≡ (l, between)) × R between a rest
+abbrev pub ReadsThen : {A : Type 0} → Readings A → Lexeme → Readings A
+ReadsThen R l n bytes a rest = (between : List ℕ) × R n bytes a between × (next_cut between ≡ (l, rest))
 
 -- variable ":" formula, after a quantifier
-abbrev pub ReadsQuantified : Quantifier → ℕ → List ℕ → FormulaTree → List ℕ → Type 0
+abbrev pub ReadsQuantified : Quantifier → Readings FormulaTree
 ReadsQuantified q n bytes g rest =
     (x : List ℕ) × (f : FormulaTree) × (a : List ℕ) × (b : List ℕ) × (next_cut bytes ≡ (variable x, a)) × (next_cut a ≡ (colon, b))
     × ReadsFormula n b f rest × (g ≡ quantify q x f)
 
 -- "speaksfor" was read after the term `t`: term [ "on" scope ]
-abbrev pub ReadsDelegation : ℕ → TermTree → List ℕ → FormulaTree → List ℕ → Type 0
-ReadsDelegation n t bytes g rest =
-    ReadsMade (λ u. tree.speaks_for t u) (ReadsTerm bytes) g rest
+abbrev pub ReadsDelegation : TermTree → Readings FormulaTree
+ReadsDelegation t n bytes g rest =
+    ((u : TermTree) × ReadsTerm bytes u rest × (g ≡ tree.speaks_for t u))
     ⊎ ((u : TermTree) × (s : List (List ℕ)) × (a : List ℕ) × (b : List ℕ) × ReadsTerm bytes u a × (next_cut a ≡ (keyword word.On, b)) × ReadsScope n b s rest
     × (g ≡ tree.speaks_for_on t u s))
+
+-- the readings of a term, and of its parts, whatever the levels
+abbrev pub Terms : Readings TermTree
+Terms n = ReadsTerm
+
+abbrev pub Parts : TermTree → Readings TermTree
+Parts t n = ReadsParts t
+
+-- what follows the term `t` in a statement: a predicate, or nothing where it is a name
+abbrev pub ReadsRest : TermTree → Readings FormulaTree
+ReadsRest t n bytes f rest = ReadsPredicate n t bytes f rest ⊎ ((p : List ℕ) × (t ≡ tree.name p) × (f ≡ tree.atom p []) × (rest ≡ bytes))
+
+-- what follows the first token of a statement, which is the term `u`
+abbrev pub ReadsContinued : TermTree → Readings FormulaTree
+ReadsContinued u n bytes f rest = (t : TermTree) × (a : List ℕ) × ReadsParts u bytes t a × ReadsRest t n a f rest
+
+-- the arguments of an atom, after the opening bracket, whatever the levels
+abbrev pub Arguments : Readings (List TermTree)
+Arguments n = ReadsList ReadsTerm 8
+
+-- what follows a disjunct, or a conjunct, `f`
+abbrev pub Ors : FormulaTree → Readings FormulaTree
+Ors f n = ReadsOrs n f
+
+abbrev pub Ands : FormulaTree → Readings FormulaTree
+Ands f n = ReadsAnds n f

@@ -4,13 +4,13 @@ ghost use Rattle.nal_term.specs.Trees.{formula_tree, term_tree};
 ghost use Rattle.nal_term.specs.Trees as tree;
 ghost use Rattle.nal_parse.specs.Tokens as lexeme;
 ghost use Rattle.nal_parse.specs.Tokens.{lexeme_of, next_cut};
-ghost use Rattle.nal_parse.specs.Grammar.{ReadsFormula, ReadsImplication, ReadsDisjunction, ReadsOrs, ReadsConjunction, ReadsAnds, ReadsUnary, ReadsStatement, ReadsPredicate, quantifier_of, comparison_of};
-ghost use Rattle.nal_parse.specs.Reading.{IsReading, ReadsMade, ReadsThen, ReadsQuantified, ends_formula, ends_disjunction, ends_conjunction, ends_unary};
+ghost use Rattle.nal_parse.specs.Grammar.{ReadsFormula, ReadsImplication, ReadsDisjunction, ReadsConjunction, ReadsUnary};
+ghost use Rattle.nal_parse.specs.Reading.{IsReading, Ands, Ors, ReadsContinued, ReadsMade, ReadsQuantified, ReadsRest, ReadsThen, ends_formula, ends_disjunction, ends_conjunction, ends_unary};
 
 use crate::makers;
 use crate::statements::{read_atom, read_compared, read_delegation};
 use crate::stops::Stop;
-use crate::terms::read_term;
+use crate::terms::{first_term, name_of, read_parts};
 use crate::tokens::{Keyword, Quantifier, Token};
 use nal_term::{Formula, Term};
 use std::alloc::{AllocError, Global};
@@ -22,7 +22,7 @@ pub fn read_formula<'a>(
     levels: u8,
     text: &'a [u8],
 ) -> Result<(Formula, &'a [u8]), Stop>
-    ensures reading { IsReading formula_tree ends_formula (ReadsFormula levels text.now) result }
+    ensures reading { IsReading formula_tree ends_formula ReadsFormula levels text.now result }
     ensures shorter { IfOk result (λ p. length p.1.now < length text.now) }
 {
     let (token, rest) = Token::next(text);
@@ -45,7 +45,7 @@ fn read_quantified<'a>(
     levels: u8,
     text: &'a [u8],
 ) -> Result<(Formula, &'a [u8]), Stop>
-    ensures reading { IsReading formula_tree ends_formula (ReadsQuantified quantifier levels text.now) result }
+    ensures reading { IsReading formula_tree ends_formula (ReadsQuantified quantifier) levels text.now result }
     ensures shorter { IfOk result (λ p. length p.1.now < length text.now) }
 {
     let (token, rest) = Token::next(text);
@@ -72,7 +72,7 @@ fn read_implication<'a>(
     levels: u8,
     text: &'a [u8],
 ) -> Result<(Formula, &'a [u8]), Stop>
-    ensures reading { IsReading formula_tree ends_formula (ReadsImplication levels text.now) result }
+    ensures reading { IsReading formula_tree ends_formula ReadsImplication levels text.now result }
     ensures shorter { IfOk result (λ p. length p.1.now < length text.now) }
 {
     let (left, rest) = match read_disjunction(alloc, levels, text) {
@@ -102,7 +102,7 @@ fn read_disjunction<'a>(
     levels: u8,
     text: &'a [u8],
 ) -> Result<(Formula, &'a [u8]), Stop>
-    ensures reading { IsReading formula_tree ends_disjunction (ReadsDisjunction levels text.now) result }
+    ensures reading { IsReading formula_tree ends_disjunction ReadsDisjunction levels text.now result }
     ensures shorter { IfOk result (λ p. length p.1.now < length text.now) }
 {
     match read_conjunction(alloc, levels, text) {
@@ -119,7 +119,7 @@ fn read_ors<'a>(
     left: Formula,
     text: &'a [u8],
 ) -> Result<(Formula, &'a [u8]), Stop>
-    ensures reading { IsReading formula_tree ends_disjunction (ReadsOrs levels (formula_tree left) text.now) result }
+    ensures reading { IsReading formula_tree ends_disjunction (Ors (formula_tree left)) levels text.now result }
     ensures bound { IfOk result (λ p. length p.1.now ≤ length text.now) }
 {
     let (token, after) = Token::next(text);
@@ -143,7 +143,7 @@ fn read_conjunction<'a>(
     levels: u8,
     text: &'a [u8],
 ) -> Result<(Formula, &'a [u8]), Stop>
-    ensures reading { IsReading formula_tree ends_conjunction (ReadsConjunction levels text.now) result }
+    ensures reading { IsReading formula_tree ends_conjunction ReadsConjunction levels text.now result }
     ensures shorter { IfOk result (λ p. length p.1.now < length text.now) }
 {
     match read_unary(alloc, levels, text) {
@@ -160,7 +160,7 @@ fn read_ands<'a>(
     left: Formula,
     text: &'a [u8],
 ) -> Result<(Formula, &'a [u8]), Stop>
-    ensures reading { IsReading formula_tree ends_conjunction (ReadsAnds levels (formula_tree left) text.now) result }
+    ensures reading { IsReading formula_tree ends_conjunction (Ands (formula_tree left)) levels text.now result }
     ensures bound { IfOk result (λ p. length p.1.now ≤ length text.now) }
 {
     let (token, after) = Token::next(text);
@@ -177,10 +177,11 @@ fn read_ands<'a>(
     }
 }
 
-/// unary = "not" unary | "true" | "false" | "(" formula ")" | name "(" term { "," term } ")" | statement
+/// unary = "not" unary | "true" | "false" | "(" formula ")" | name "(" term { "," term } ")"
+///         | term predicate | name
 #[cycle(formula)]
 fn read_unary<'a>(alloc: Global, levels: u8, text: &'a [u8]) -> Result<(Formula, &'a [u8]), Stop>
-    ensures reading { IsReading formula_tree ends_unary (ReadsUnary levels text.now) result }
+    ensures reading { IsReading formula_tree ends_unary ReadsUnary levels text.now result }
     ensures shorter { IfOk result (λ p. length p.1.now < length text.now) }
 {
     let (token, rest) = Token::next(text);
@@ -207,21 +208,28 @@ fn read_unary<'a>(alloc: Global, levels: u8, text: &'a [u8]) -> Result<(Formula,
         Token::Name(name) => {
             let (second, after) = Token::next(rest);
             let Token::Open = second else {
-                return read_statement(alloc, levels, text);
+                return match name_of(alloc, name) {
+                    Ok(name) => read_continued(alloc, levels, Term::Name(name), rest),
+                    Err(AllocError) => Err(Stop::Memory),
+                };
             };
             if levels == 0 {
                 return Err(Stop::too_deep(rest));
             }
             read_atom(alloc, name, after)
         }
-        _ => read_statement(alloc, levels, text),
+        _ => match first_term(alloc, &token) {
+            Ok(Some(first)) => read_continued(alloc, levels, first, rest),
+            Ok(None) => Err(Stop::at(text, &token)),
+            Err(AllocError) => Err(Stop::Memory),
+        },
     }
 }
 
 /// unary, after `not`
 #[cycle(formula)]
 fn read_negated<'a>(alloc: Global, levels: u8, text: &'a [u8]) -> Result<(Formula, &'a [u8]), Stop>
-    ensures reading { IsReading formula_tree ends_unary (ReadsMade (λ f. tree.implies f tree.falsum) (ReadsUnary levels text.now)) result }
+    ensures reading { IsReading formula_tree ends_unary (ReadsMade (λ f. tree.implies f tree.falsum) ReadsUnary) levels text.now result }
     ensures shorter { IfOk result (λ p. length p.1.now < length text.now) }
 {
     match read_unary(alloc, levels, text) {
@@ -236,7 +244,7 @@ fn read_negated<'a>(alloc: Global, levels: u8, text: &'a [u8]) -> Result<(Formul
 /// formula ")", after the opening bracket
 #[cycle(formula)]
 fn read_group<'a>(alloc: Global, levels: u8, text: &'a [u8]) -> Result<(Formula, &'a [u8]), Stop>
-    ensures reading { IsReading formula_tree ends_unary (ReadsThen (ReadsFormula levels text.now) lexeme.closes) result }
+    ensures reading { IsReading formula_tree ends_unary (ReadsThen ReadsFormula lexeme.closes) levels text.now result }
     ensures shorter { IfOk result (λ p. length p.1.now < length text.now) }
 {
     let (formula, rest) = match read_formula(alloc, levels, text) {
@@ -250,24 +258,39 @@ fn read_group<'a>(alloc: Global, levels: u8, text: &'a [u8]) -> Result<(Formula,
     }
 }
 
-/// statement = term predicate | name
+/// { "." name } predicate, or nothing after a name alone: a statement after its first token, which is a term
 #[cycle(formula)]
-fn read_statement<'a>(
+fn read_continued<'a>(
     alloc: Global,
     levels: u8,
+    first: Term,
     text: &'a [u8],
 ) -> Result<(Formula, &'a [u8]), Stop>
-    ensures reading { IsReading formula_tree ends_unary (ReadsStatement levels text.now) result }
-    ensures shorter { IfOk result (λ p. length p.1.now < length text.now) }
+    ensures reading { IsReading formula_tree ends_unary (ReadsContinued (term_tree first)) levels text.now result }
+    ensures bound { IfOk result (λ p. length p.1.now ≤ length text.now) }
 {
-    let (term, rest) = match read_term(alloc, text) {
-        Ok(read) => read,
-        Err(stop) => return Err(stop),
-    };
-    let (token, after) = Token::next(rest);
+    match read_parts(alloc, first, text) {
+        Ok((term, rest)) => read_rest(alloc, levels, term, rest),
+        Err(stop) => Err(stop),
+    }
+}
+
+/// "says" unary | "speaksfor" term [ "on" scope ] | ("=" | "<" | "<=") term, or nothing after a name: a statement
+/// after its term
+#[cycle(formula)]
+fn read_rest<'a>(
+    alloc: Global,
+    levels: u8,
+    term: Term,
+    text: &'a [u8],
+) -> Result<(Formula, &'a [u8]), Stop>
+    ensures reading { IsReading formula_tree ends_unary (ReadsRest (term_tree term)) levels text.now result }
+    ensures bound { IfOk result (λ p. length p.1.now ≤ length text.now) }
+{
+    let (token, after) = Token::next(text);
     if token.is(Keyword::Says) {
         if levels == 0 {
-            return Err(Stop::too_deep(rest));
+            return Err(Stop::too_deep(text));
         }
         return read_said(alloc, levels - 1, term, after);
     }
@@ -277,8 +300,8 @@ fn read_statement<'a>(
     match makers::comparison(&token) {
         Some(compare) => read_compared(alloc, compare, term, after),
         None => match makers::atom(alloc, term) {
-            Some(formula) => Ok((formula, rest)),
-            None => Err(Stop::at(rest, &token)),
+            Some(formula) => Ok((formula, text)),
+            None => Err(Stop::at(text, &token)),
         },
     }
 }
@@ -291,7 +314,7 @@ fn read_said<'a>(
     speaker: Term,
     text: &'a [u8],
 ) -> Result<(Formula, &'a [u8]), Stop>
-    ensures reading { IsReading formula_tree ends_unary (ReadsMade (λ f. tree.says (term_tree speaker) f) (ReadsUnary levels text.now)) result }
+    ensures reading { IsReading formula_tree ends_unary (ReadsMade (λ f. tree.says (term_tree speaker) f) ReadsUnary) levels text.now result }
     ensures shorter { IfOk result (λ p. length p.1.now < length text.now) }
 {
     match read_unary(alloc, levels, text) {

@@ -1,7 +1,7 @@
-ghost use Rattle.std.specs.Prelude.{◌≡◌, ◌≢◌, ◌<◌, ◌⊎◌, length, IfOk, IfErr};
+ghost use Rattle.std.specs.Prelude.{◌≡◌, ◌≢◌, ◌<◌, length, IfOk, IfErr};
 ghost use Rattle.nal_term.specs.Trees.{FormulaTree, TermTree, formula_tree, term_tree};
-ghost use Rattle.nal_parse.specs.Canonical.{formula_text, term_text};
-ghost use Rattle.nal_parse.specs.Grammar.{IsFormulaText, IsTermText, SpellsFormula, SpellsTerm};
+ghost use Rattle.nal_parse.specs.Grammar.{IsFormulaText, IsTermText};
+ghost use Rattle.nal_parse.specs.Errors.{IsFormulaError, IsTermError};
 
 use crate::formulas::read_formula;
 use crate::lengths::{level_count, term_length, text_length};
@@ -44,7 +44,7 @@ pub fn parse_formula(alloc: Global, text: &[u8]) -> Result<Formula, ParseError>
     ensures only { IfOk result (λ f. (g : FormulaTree) → IsFormulaText text.now g → g ≡ formula_tree f) }
     ensures err { IfErr result (λ e. e ≢ ParseError.Memory → (g : FormulaTree) → ¬ IsFormulaText text.now g) }
     ensures long { 1024 < length text.now → result ≡ Err ParseError.TooLong }
-    ensures too_long { result ≡ Err ParseError.TooLong → (1024 < length text.now) ⊎ ((f : FormulaTree) × SpellsFormula 64 text.now f × (1024 < length (formula_text f))) }
+    ensures error { IfErr result (λ e. e ≢ ParseError.Memory → IsFormulaError text.now e) }
 {
     if text.len() as u64 > MOST_BYTES {
         return Err(ParseError::TooLong);
@@ -73,7 +73,7 @@ pub fn parse_term(alloc: Global, text: &[u8]) -> Result<Term, ParseError>
     ensures only { IfOk result (λ t. (u : TermTree) → IsTermText text.now u → u ≡ term_tree t) }
     ensures err { IfErr result (λ e. e ≢ ParseError.Memory → (u : TermTree) → ¬ IsTermText text.now u) }
     ensures long { 1024 < length text.now → result ≡ Err ParseError.TooLong }
-    ensures too_long { result ≡ Err ParseError.TooLong → (1024 < length text.now) ⊎ ((t : TermTree) × SpellsTerm text.now t × (1024 < length (term_text t))) }
+    ensures error { IfErr result (λ e. e ≢ ParseError.Memory → IsTermError text.now e) }
 {
     if text.len() as u64 > MOST_BYTES {
         return Err(ParseError::TooLong);

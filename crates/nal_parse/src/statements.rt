@@ -2,8 +2,7 @@ ghost use Rattle.std.specs.Prelude.{◌≡◌, ◌≢◌, ◌<◌, ◌≤◌, �
 ghost use Rattle.nal_term.specs.Names.{IsName};
 ghost use Rattle.nal_term.specs.Trees.{formula_tree, term_tree};
 ghost use Rattle.nal_term.specs.Trees as tree;
-ghost use Rattle.nal_parse.specs.Grammar.{ReadsTerm, ReadsList};
-ghost use Rattle.nal_parse.specs.Reading.{IsReading, ReadsMade, ReadsDelegation, ends_unary, anything};
+ghost use Rattle.nal_parse.specs.Reading.{IsReading, Arguments, ReadsMade, ReadsDelegation, Terms, ends_unary, anything};
 
 use crate::makers;
 use crate::stops::Stop;
@@ -19,7 +18,7 @@ pub fn read_atom<'a>(
     text: &'a [u8],
 ) -> Result<(Formula, &'a [u8]), Stop>
     requires { IsName predicate.now }
-    ensures reading { IsReading formula_tree anything (ReadsMade (λ ts. tree.atom predicate.now ts) (ReadsList ReadsTerm 8 text.now)) result }
+    ensures reading { IsReading formula_tree anything (ReadsMade (λ ts. tree.atom predicate.now ts) Arguments) 0 text.now result }
     ensures shorter { IfOk result (λ p. length p.1.now < length text.now) }
 {
     match read_arguments(alloc, Args::new(alloc), text) {
@@ -38,7 +37,7 @@ pub fn read_compared<'a>(
     left: Term,
     text: &'a [u8],
 ) -> Result<(Formula, &'a [u8]), Stop>
-    ensures reading { IsReading formula_tree ends_unary (ReadsMade (λ u. tree.test compare (term_tree left) u) (ReadsTerm text.now)) result }
+    ensures reading { IsReading formula_tree ends_unary (ReadsMade (λ u. tree.test compare (term_tree left) u) Terms) 0 text.now result }
     ensures shorter { IfOk result (λ p. length p.1.now < length text.now) }
 {
     match read_term(alloc, text) {
@@ -54,7 +53,7 @@ pub fn read_delegation<'a>(
     delegate: Term,
     text: &'a [u8],
 ) -> Result<(Formula, &'a [u8]), Stop>
-    ensures reading { IsReading formula_tree ends_unary (ReadsDelegation levels (term_tree delegate) text.now) result }
+    ensures reading { IsReading formula_tree ends_unary (ReadsDelegation (term_tree delegate)) levels text.now result }
     ensures shorter { IfOk result (λ p. length p.1.now < length text.now) }
 {
     let (delegator, rest) = match read_term(alloc, text) {
@@ -62,9 +61,9 @@ pub fn read_delegation<'a>(
         Err(stop) => return Err(stop),
     };
     let (token, after) = Token::next(rest);
-    let Token::Keyword(Keyword::On) = token else {
+    if !token.is(Keyword::On) {
         return Ok((Formula::SpeaksFor(delegate, delegator), rest));
-    };
+    }
     match read_scope(alloc, levels, after) {
         Ok((scope, rest)) => Ok((Formula::SpeaksForOn(delegate, delegator, scope), rest)),
         Err(stop) => Err(stop),

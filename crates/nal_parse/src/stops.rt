@@ -1,4 +1,6 @@
-ghost use Rattle.std.specs.Prelude.{◌≡◌, ◌≢◌, ◌↔◌};
+ghost use Rattle.std.specs.Prelude.{◌≡◌, length};
+ghost use Rattle.nal_parse.specs.Tokens.{after_blanks, lexeme_of};
+ghost use Rattle.nal_parse.specs.Reading.{IsStopAt, error_of};
 
 use crate::parse::ParseError;
 use crate::tokens::{Token, blank_length};
@@ -25,7 +27,7 @@ pub enum Stop {
 impl Stop {
     /// The stop at the first token of the text, which no spelling allows there.
     pub fn at(text: &[u8], token: &Token) -> Stop
-        ensures { result ≢ Stop.Memory }
+        ensures { IsStopAt (lexeme_of token.now) text.now result }
     {
         let found = match token {
             Token::BadName => Found::BadName,
@@ -41,8 +43,7 @@ impl Stop {
 
     /// The error that the stop is in the whole text, with its place counted from the front.
     pub fn error_in(self, text: &[u8]) -> ParseError
-        ensures memory { (result ≡ ParseError.Memory) ↔ (self ≡ Stop.Memory) }
-        ensures long { result ≢ ParseError.TooLong }
+        ensures { result ≡ error_of self (length text.now) }
     {
         let Stop::Refused { found, left } = self else {
             return ParseError::Memory;
@@ -59,7 +60,7 @@ impl Stop {
 
     /// The stop at the first token of the text, which would open a level too many.
     pub fn too_deep(text: &[u8]) -> Stop
-        ensures { result ≢ Stop.Memory }
+        ensures { result ≡ Stop.Refused Found.TooDeep (length (after_blanks text.now)) }
     {
         Stop::Refused {
             found: Found::TooDeep,

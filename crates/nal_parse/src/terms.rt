@@ -2,8 +2,8 @@ ghost use Rattle.std.specs.Prelude.{◌≡◌, ◌≢◌, ◌<◌, ◌≤◌, �
 ghost use Rattle.nal_term.specs.Names.{IsName, IsText};
 ghost use Rattle.nal_term.specs.Trees.{TermTree, subprincipal, term_tree, term_trees};
 ghost use Rattle.nal_parse.specs.Tokens.{lexeme_of};
-ghost use Rattle.nal_parse.specs.Grammar.{ReadsTerm, ReadsParts, ReadsName, ReadsScope};
-ghost use Rattle.nal_parse.specs.Reading.{IsReading, ends_term, anything, first_term, ReadsMore, names_so_far, IsWellFormed};
+ghost use Rattle.nal_parse.specs.Grammar.{ReadsTerm, ReadsName, ReadsScope};
+ghost use Rattle.nal_parse.specs.Reading.{IsReading, Parts, ReadsMore, Terms, IsWellFormed, anything, ends_term, first_term, names_so_far};
 
 use crate::stops::Stop;
 use crate::tokens::Token;
@@ -12,7 +12,7 @@ use std::alloc::{AllocError, Global};
 
 /// term = (number | name | text | variable) { "." name }
 pub fn read_term<'a>(alloc: Global, text: &'a [u8]) -> Result<(Term, &'a [u8]), Stop>
-    ensures reading { IsReading term_tree ends_term (ReadsTerm text.now) result }
+    ensures reading { IsReading term_tree ends_term Terms 0 text.now result }
     ensures shorter { IfOk result (λ p. length p.1.now < length text.now) }
 {
     let (token, rest) = Token::next(text);
@@ -24,7 +24,7 @@ pub fn read_term<'a>(alloc: Global, text: &'a [u8]) -> Result<(Term, &'a [u8]), 
 }
 
 /// The term that a token is by itself, if any.
-fn first_term(alloc: Global, token: &Token) -> Result<Option<Term>, AllocError>
+pub fn first_term(alloc: Global, token: &Token) -> Result<Option<Term>, AllocError>
     requires { IsWellFormed (lexeme_of token.now) }
     ensures { IfOk result (λ t. option_map term_tree t ≡ first_term (lexeme_of token.now)) }
 {
@@ -58,8 +58,8 @@ fn text_of(alloc: Global, text: &[u8]) -> Result<Text, AllocError>
 }
 
 /// { "." name } after a term: the subprincipals of the term so far.
-fn read_parts<'a>(alloc: Global, term: Term, text: &'a [u8]) -> Result<(Term, &'a [u8]), Stop>
-    ensures reading { IsReading term_tree ends_term (ReadsParts (term_tree term) text.now) result }
+pub fn read_parts<'a>(alloc: Global, term: Term, text: &'a [u8]) -> Result<(Term, &'a [u8]), Stop>
+    ensures reading { IsReading term_tree ends_term (Parts (term_tree term)) 0 text.now result }
     ensures bound { IfOk result (λ p. length p.1.now ≤ length text.now) }
 {
     let (token, rest) = Token::next(text);
@@ -94,7 +94,7 @@ pub fn read_arguments<'a>(
     text: &'a [u8],
 ) -> Result<(Args, &'a [u8]), Stop>
     requires { length args < 8 }
-    ensures reading { IsReading term_trees anything (ReadsMore ReadsTerm (term_trees args) text.now) result }
+    ensures reading { IsReading term_trees anything (ReadsMore ReadsTerm (term_trees args)) 0 text.now result }
     ensures shorter { IfOk result (λ p. length p.1.now < length text.now) }
 {
     let (term, rest) = match read_term(alloc, text) {
@@ -136,7 +136,7 @@ pub fn read_names<'a>(
     text: &'a [u8],
 ) -> Result<(Scope, &'a [u8]), Stop>
     requires { length (names_so_far scope) < 8 }
-    ensures reading { IsReading (λ s. s) anything (ReadsMore ReadsName (names_so_far scope) text.now) result }
+    ensures reading { IsReading (λ s. s) anything (ReadsMore ReadsName (names_so_far scope)) 0 text.now result }
     ensures shorter { IfOk result (λ p. length p.1.now < length text.now) }
 {
     let (token, rest) = Token::next(text);
@@ -179,7 +179,7 @@ pub fn with_name(alloc: Global, scope: Option<Scope>, name: &[u8]) -> Result<Sco
 
 /// scope = name | "(" name { "," name } ")"
 pub fn read_scope<'a>(alloc: Global, levels: u8, text: &'a [u8]) -> Result<(Scope, &'a [u8]), Stop>
-    ensures reading { IsReading (λ s. s) anything (ReadsScope levels text.now) result }
+    ensures reading { IsReading (λ s. s) anything ReadsScope levels text.now result }
     ensures shorter { IfOk result (λ p. length p.1.now < length text.now) }
 {
     let (token, rest) = Token::next(text);

@@ -16,8 +16,11 @@ decreases-read_conjunction l = 8 * length l.text.now + 4
 abbrev pub decreases-read_unary : goal.decreases-read_unary
 decreases-read_unary l = 8 * length l.text.now + 3
 
-abbrev pub decreases-read_statement : goal.decreases-read_statement
-decreases-read_statement l = 8 * length l.text.now + 2
+abbrev pub decreases-read_continued : goal.decreases-read_continued
+decreases-read_continued l = 8 * length l.text.now + 6
+
+abbrev pub decreases-read_rest : goal.decreases-read_rest
+decreases-read_rest l = 8 * length l.text.now + 5
 
 abbrev pub decreases-read_quantified : goal.decreases-read_quantified
 decreases-read_quantified l = 8 * length l.text.now + 7

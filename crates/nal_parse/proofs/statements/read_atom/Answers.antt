@@ -1,16 +1,16 @@
-use Rattle.std.proofs.Common.{refl}
+use Rattle.std.proofs.Common.{Err, ap}
 use Rattle.nal_term.specs.Trees.{formula_tree, term_trees}
 use Rattle.nal_term.specs.Trees as tree
-use Rattle.nal_parse.specs.Grammar.{ReadsTerm}
-use Rattle.nal_parse.proofs.Readings.{ReadsOnly-same, ReadsNothing-same, ReadsOnly-made, ReadsNothing-made, handed}
-use Rattle.nal_parse.proofs.ListReadings.{from_none}
+use Rattle.nal_parse.specs.Reading.{Arguments, anything}
+use Rattle.nal_parse.proofs.Readings.{step_reads, step_reading, made_reads, made_handed, handed_stop}
+use Rattle.nal_parse.proofs.StatementReadings.{arguments_step}
 use Rattle.nal_parse.proofs.statements.read_atom.Goals as goal
 
 pub returns-in-Ok-atom_of-clause-reading : goal.returns-in-Ok-atom_of-clause-reading
 returns-in-Ok-atom_of-clause-reading c =
-    ReadsOnly-made (λ ts. tree.atom c.args.predicate.now ts) _ c.in-Ok-atom_of.ensures
-    (ReadsOnly-same (from_none ReadsTerm (rw c.new.ensures refl)) c.in-Ok.ensures.reading)
+    made_reads (λ ts. tree.atom c.args.predicate.now ts) _ c.in-Ok-atom_of.ensures (step_reads (arguments_step _ c.args.text.now (ap term_trees c.new.ensures)) c.in-Ok.ensures.reading)
 
 pub returns-in-Err-clause-reading : goal.returns-in-Err-clause-reading
 returns-in-Err-clause-reading c =
-    handed (λ n. ReadsNothing-made (λ ts. tree.atom c.args.predicate.now ts) (ReadsNothing-same (from_none ReadsTerm (rw c.new.ensures refl)) n)) c.in-Err.ensures.reading
+    handed_stop c.args.text.now formula_tree term_trees (made_handed (λ ts. tree.atom c.args.predicate.now ts) anything Arguments 0) c.in-Err.stop
+    (step_reading (arguments_step _ c.args.text.now (ap term_trees c.new.ensures)) term_trees (Err c.in-Err.stop) c.in-Err.ensures.reading)
