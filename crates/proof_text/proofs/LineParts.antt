@@ -2,6 +2,7 @@
 use Rattle.std.proofs.Common.{◌≡◌, ◌≢◌, ℕ, ◌≤◌, List, refl, ap, subst, ◌∙◌, Bool, true, false, Option, Some, None, is_some}
 use Rattle.nal_term.specs.Trees.{TermTree, FormulaTree}
 use Rattle.nal_parse.specs.Grammar.{IsFormulaText}
+use Rattle.nal_parse.specs.Errors.{IsFormulaError}
 use Rattle.nal_parse.specs.declared.parse.ParseError.{ParseError}
 use Rattle.nal_parse.specs.declared.parse.ParseError.TheVariants as parse
 use Rattle.proof_lines.specs.Lines.{LineTree, HasRuleForm, takes_term}
@@ -31,8 +32,8 @@ module _ (k : ℕ) (seg : List ℕ) (h : Head) (rest : List ℕ) (reads : Reads 
   pub wrong_many : h.number ≡ k → k ≡ 257 → IsWrongLine k seg error.TooManyLines
   wrong_many e f = λ others at. too_many reads.form e f
 
-  pub wrong_formula : h.number ≡ k → k ≤ 256 → (e : ParseError) → e ≢ parse.Memory → ((g : FormulaTree) → ¬ IsFormulaText rest g) → IsWrongLine k seg (error.Formula k e)
-  wrong_formula same le e told missing = λ others at. bad_formula le reads.form same missing told
+  pub wrong_formula : h.number ≡ k → k ≤ 256 → (e : ParseError) → e ≢ parse.Memory → ((g : FormulaTree) → ¬ IsFormulaText rest g) → IsFormulaError rest e → IsWrongLine k seg (error.Formula k e)
+  wrong_formula same le e told missing why = λ others at. bad_formula le reads.form same missing told why
 
 pub wrong_form : (k : ℕ) (seg : List ℕ) → NoForm (HasHead seg) → IsWrongLine k seg (error.BadLine k)
 wrong_form k seg missing = λ others at. bad_line missing at

@@ -233,7 +233,7 @@ wrong_lines (too_many {k = k} {segment = seg} {rest = rest} {others = others} {h
       | inl w ↦ end_has_no_head head rest (subst (λ x. HasHead x head rest) w.1 has)
       | inr w ↦ absurd (omega (arith, w.within))
     ]
-wrong_lines (bad_formula {k = k} {segment = seg} {rest = rest} {others = others} {head = head} le has same missing told) ls after h tail =
+wrong_lines (bad_formula {k = k} {segment = seg} {rest = rest} {others = others} {head = head} le has same missing told why) ls after h tail =
     elim (first_of_lines k seg others ls after h) [
       | inl w ↦ end_has_no_head head rest (subst (λ x. HasHead x head rest) w.1 has)
       | inr w ↦ missing w.first.formula (subst (λ x. IsFormulaText x w.first.formula) (sym (line_head_same k seg w.first head rest w.text has).1) w.text.formula)

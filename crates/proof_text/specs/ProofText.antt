@@ -4,6 +4,7 @@ use Rattle.std.specs.List.{suffix_len}
 use Rattle.nal_term.specs.Trees.{TermTree, FormulaTree}
 use Rattle.nal_parse.specs.Tokens.{is_blank, after_blanks, run_length, is_number, decimal}
 use Rattle.nal_parse.specs.Grammar.{IsFormulaText, IsTermText}
+use Rattle.nal_parse.specs.Errors.{IsFormulaError}
 use Rattle.nal_parse.specs.declared.parse.ParseError.{ParseError}
 use Rattle.nal_parse.specs.declared.parse.ParseError.TheVariants as parse
 use Rattle.proof_lines.specs.declared.rules.Rule.{Rule}
@@ -145,7 +146,7 @@ pub data IsWrong : ℕ → List (List ℕ) → ProofError → Type 0 where
   too_many : {k : ℕ} {segment rest : List ℕ} {others : List (List ℕ)} {head : Head} → HasHead segment head rest → head.number ≡ k → k ≡ 257
       → IsWrong k (segment ∷ others) TooManyLines
   formula : {k : ℕ} {segment rest : List ℕ} {others : List (List ℕ)} {head : Head} {error : ParseError} → k ≤ 256 → HasHead segment head rest → head.number ≡ k
-      → ((f : FormulaTree) → ¬ IsFormulaText rest f) → error ≢ parse.Memory → IsWrong k (segment ∷ others) (Formula k error)
+      → ((f : FormulaTree) → ¬ IsFormulaText rest f) → error ≢ parse.Memory → IsFormulaError rest error → IsWrong k (segment ∷ others) (Formula k error)
   further : {k : ℕ} {segment : List ℕ} {line : LineTree} {others : List (List ℕ)} {error : ProofError} → k ≤ 256 → IsLineText k segment line
       → IsWrong (k + 1) others error → IsWrong k (segment ∷ others) error
 

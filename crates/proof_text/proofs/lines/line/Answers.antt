@@ -24,6 +24,7 @@ pub returns : goal.returns
 returns c = record {
   ok = tt;
   err = λ _. parts.wrong_formula c.args.due c.args.segment.now (head_of c.in-Ok-Some.head) c.in-Ok-Some.text.now (rw c.in-Ok-Some.field-0-is at c.in-Ok-Some.ensures)
-      (omega arith) (omega arith) c.in-Err-parse_formula.error c.in_default.not-Memory (c.in-Err-parse_formula.ensures.err c.in_default.not-Memory);
+      (omega arith) (omega arith) c.in-Err-parse_formula.error c.in_default.not-Memory (c.in-Err-parse_formula.ensures.err c.in_default.not-Memory)
+      (c.in-Err-parse_formula.ensures.error c.in_default.not-Memory);
   inner = c.in_default.not-Memory;
 }
