@@ -1,6 +1,6 @@
 -- The steps of the tests for the faults of a line, together.
-use Rattle.std.proofs.Common.{◌≡◌, ℕ, zero, suc, ◌+◌, ◌*◌, ◌≤◌, List, ⊎_elim, refl, arith}
-use Rattle.std.proofs.Math.Nat.{add-le-add, le-max_right, le-suc_iff, mul-le-mul, mul-le-mul_left, mul-le-mul_right}
+use Rattle.std.proofs.Common.{◌≡◌, ℕ, suc, ◌+◌, ◌*◌, ◌≤◌, List, refl, arith}
+use Rattle.std.proofs.Math.Nat.{add-le-add, le-max_right, mul-le-mul, mul-le-mul_left, mul-le-mul_right}
 use Rattle.nal_term.specs.Trees.{FormulaTree}
 use Rattle.nal_term.specs.Size.{node_count}
 use Rattle.proof_lines.specs.Lines.{LineTree}

@@ -1,7 +1,6 @@
 -- Reads of lines, of formulas and of what is so of each line.
-use Rattle.std.proofs.Common.{◌≡◌, ℕ, zero, suc, ◌-◌, ◌<◌, ◌≤◌, List, [], ◌∷◌, length, get_or, Some, refl, ap, subst, arith}
-use Rattle.std.specs.List.{slice_get, All}
-use Rattle.std.proofs.lemmas.List.Elements.{All-head, All-tail, All-map}
+use Rattle.std.proofs.Common.{◌≡◌, ℕ, zero, suc, ◌-◌, ◌<◌, ◌≤◌, List, [], ◌∷◌, length, get_or, Some, refl, ap, arith}
+use Rattle.std.specs.List.{slice_get}
 use Rattle.proof_lines.specs.declared.lines.Line.{Line}
 use Rattle.proof_lines.specs.Lines.{LineTree, line_tree, line_trees}
 use Rattle.nal_rules.specs.Faults.{line_at}
@@ -18,16 +17,6 @@ line_at_tree ls (suc k) l p q e =
     let s : suc k - 1 ≡ k = omega arith in
     let read : l ≡ get_or ls k l = rw s at e in
     get_tree ls k l (omega arith) read
-
-get_all : (P : LineTree → Type 0) (ls : List LineTree) → All P ls → (i : ℕ) (l : LineTree) → slice_get ls i ≡ Some l → P l
-get_all P [] a i l e = absurd (cc e)
-get_all P (x ∷ ls) a zero l e = let s : x ≡ l = cc e in subst P s (All-head P x ls a)
-get_all P (x ∷ ls) a (suc i) l e = get_all P ls (All-tail P x ls a) i l e
-
--- what is so of each line is so of the line with this number
-pub at_all : (P : LineTree → Type 0) (ls : List LineTree) → All P ls → (k : ℕ) (l : LineTree) → line_at ls k ≡ Some l → P l
-at_all P ls a zero l e = absurd (cc e)
-at_all P ls a (suc k) l e = get_all P ls a k l e
 
 get_within : (ls : List LineTree) (i : ℕ) (l : LineTree) → slice_get ls i ≡ Some l → i < length ls
 get_within [] i l e = absurd (cc e)
@@ -48,7 +37,3 @@ at_within ls (suc k) l e = let h = get_within ls k l e in omega (arith, h)
 pub at_last : (ls : List LineTree) → (ls ≡ [] → ⊥) → (l : LineTree) × (line_at ls (length ls) ≡ Some l)
 at_last [] h = absurd (h refl)
 at_last (x ∷ ls) h = get_some (x ∷ ls) (length ls) (omega arith)
-
--- what is so of the rule of each line is so of the rule of each line's tree
-pub all_trees : (P : LineTree → Type 0) (ls : List Line) → All (λ l. P (line_tree l)) ls → All P (line_trees ls)
-all_trees P ls a = All-map P line_tree ls a

@@ -6,6 +6,7 @@ pub mod Derived
 pub mod Refuted
 pub mod Told
 pub mod Law
+pub mod Bits
 pub mod Greatest
 pub mod Costs
 pub mod Reached

@@ -2,14 +2,16 @@
 use Rattle.std.proofs.Common.{◌≡◌, ◌↔◌, ◌⊎◌, ℕ, zero, suc, ◌+◌, ◌<◌, ◌≤◌, List, [], ◌∷◌, ◌++◌, length, map, get_or, Option, Some, None, Bool, true, false, not, ◌&&◌, ◌||◌, nat_eq, nat_lt, refl, sym, ap, ◌∙◌, subst, inl, inr, ⊎_elim, arith}
 use Rattle.std.specs.List.{Contains, list_any, list_all, All}
 use Rattle.std.proofs.lemmas.Bool.{eqb-true, eq-eqb, ltb-true, lt-ltb, cases_lt}
-use Rattle.std.proofs.lemmas.List.{get_or_append_left, length-append}
+use Rattle.std.proofs.lemmas.List.{get_or_append_left, length-append, length-map, map-append}
 use Rattle.std.proofs.Math.Seq.{get_or-append_seam}
 use Rattle.std.proofs.lemmas.List.Elements.{All-nil, All-cons}
 use Rattle.proof_lines.specs.declared.rules.Rule.{Rule}
 use Rattle.proof_lines.specs.declared.rules.Rule.TheVariants.{Label, Ask, Hyp, TrueI, AndI, AndL, AndR, OrL, OrR, OrE, ImpI, ImpE, FalseE, ForallI, ForallE, ExistsI, ExistsE, EqRefl, EqSym, EqTrans, Arith, LtTrans, SaysI, Deduce, SaysJoin, SfRefl, SfTrans, SfSub, SfE, SfOnE, SfWeak, Handoff, HandoffOn}
 use Rattle.proof_lines.specs.Lines.{LineTree}
-use Rattle.nal_rules.specs.Faults.{line_at, supports_of, hypotheses_of, IsHyp, RestsOn, itself, through}
-use Rattle.proof_check.specs.Rests.{is_hyp_rule, is_hyp_at, is_kept, reaches, leads, rests_by, IsColumnTo, IsColumn, AreColumns, AreColumnsTo}
+use Rattle.nal_rules.specs.Faults.{line_at, supports_of, IsHyp, RestsOn, itself, through}
+use Rattle.proof_check.specs.declared.line_sets.LineSet.{LineSet}
+use Rattle.proof_check.specs.LineSets.{column_of, holds}
+use Rattle.proof_check.specs.Rests.{is_hyp_rule, is_hyp_at, is_kept, reaches, leads, rests_by, IsColumnTo, IsColumn}
 use Rattle.proof_check.proofs.Found.{at_within}
 
 both_true : (a b : Bool) → (a && b) ≡ true → (a ≡ true) × (b ≡ true)
@@ -115,42 +117,6 @@ plain_supports SfWeak refs a b c = refl
 plain_supports Handoff refs a b c = refl
 plain_supports HandoffOn refs a b c = refl
 
--- and most rules discharge nothing
-pub plain_hypotheses : (r : Rule) (refs : List ℕ) → (r ≡ OrE → ⊥) → (r ≡ ImpI → ⊥) → (r ≡ ExistsE → ⊥) → hypotheses_of r refs ≡ []
-plain_hypotheses Label refs a b c = refl
-plain_hypotheses Ask refs a b c = refl
-plain_hypotheses Hyp refs a b c = refl
-plain_hypotheses TrueI refs a b c = refl
-plain_hypotheses AndI refs a b c = refl
-plain_hypotheses AndL refs a b c = refl
-plain_hypotheses AndR refs a b c = refl
-plain_hypotheses OrL refs a b c = refl
-plain_hypotheses OrR refs a b c = refl
-plain_hypotheses OrE refs a b c = absurd (a refl)
-plain_hypotheses ImpI refs a b c = absurd (b refl)
-plain_hypotheses ImpE refs a b c = refl
-plain_hypotheses FalseE refs a b c = refl
-plain_hypotheses ForallI refs a b c = refl
-plain_hypotheses ForallE refs a b c = refl
-plain_hypotheses ExistsI refs a b c = refl
-plain_hypotheses ExistsE refs a b c = absurd (c refl)
-plain_hypotheses EqRefl refs a b c = refl
-plain_hypotheses EqSym refs a b c = refl
-plain_hypotheses EqTrans refs a b c = refl
-plain_hypotheses Arith refs a b c = refl
-plain_hypotheses LtTrans refs a b c = refl
-plain_hypotheses SaysI refs a b c = refl
-plain_hypotheses Deduce refs a b c = refl
-plain_hypotheses SaysJoin refs a b c = refl
-plain_hypotheses SfRefl refs a b c = refl
-plain_hypotheses SfTrans refs a b c = refl
-plain_hypotheses SfSub refs a b c = refl
-plain_hypotheses SfE refs a b c = refl
-plain_hypotheses SfOnE refs a b c = refl
-plain_hypotheses SfWeak refs a b c = refl
-plain_hypotheses Handoff refs a b c = refl
-plain_hypotheses HandoffOn refs a b c = refl
-
 leads_plain : (column : List Bool) (h k : ℕ) (refs : List ℕ) → list_any (leads column h k) (map (λ i. (i, None)) refs) ≡ list_any (reaches column k) refs
 leads_plain column h k [] = refl
 leads_plain column h k (i ∷ refs) = ap (λ b. reaches column k i || b) (leads_plain column h k refs)
@@ -175,9 +141,6 @@ kept_holds h (Some d) n = differ (nat_eq d h) refl
     differ : (b : Bool) → nat_eq d h ≡ b → not b ≡ true
     differ true e = absurd (n (ap (λ x. Some x) (eqb-true d h e)))
     differ false e = refl
-
-pub is_kept_exact : (h : ℕ) (d : Option ℕ) → (is_kept h d ≡ true) ↔ (d ≡ Some h → ⊥)
-is_kept_exact h d = (λ e. kept_told h d e, λ n. kept_holds h d n)
 
 module _ (lines : List LineTree) (h k : ℕ) (l : LineTree) (stands : line_at lines k ≡ Some l) (column : List Bool) (below : (j : ℕ) → j < k → (get_or column j false ≡ true) ↔ RestsOn lines j h) where
   rests_told : rests_by column h k l ≡ true → RestsOn lines k h
@@ -259,28 +222,28 @@ column_ends lines h column (size, right) =
     let e : get_or column k false ≡ false = beyond column k out in
     (λ d. absurd (cc (d, e)), λ r. let b = (rests_within lines k h r).0 in absurd (omega (arith, b, high)))) (cases_lt k (length lines + 1))
 
-nothing : (xs : List (List Bool)) (h : ℕ) → length xs ≤ h → get_or xs h [] ≡ []
-nothing [] h e = refl
-nothing (x ∷ xs) zero e = absurd (omega (arith, e))
-nothing (x ∷ xs) (suc h) e = nothing xs h (omega (arith, e))
+-- what the set of a line says of a hypothesis is what its column says of the line
+pub column_at : (sets : List LineSet) (k h : ℕ) (default : LineSet) → k < length sets → get_or (column_of sets h) k false ≡ holds (get_or sets k default) h
+column_at [] k h default p = absurd (omega (arith, p))
+column_at (t ∷ sets) zero h default p = refl
+column_at (t ∷ sets) (suc k) h default p = column_at sets k h default (omega (arith, p))
 
--- and one column more
-pub columns_grow : (lines : List LineTree) (n : ℕ) (columns : List (List Bool)) (column : List Bool) → AreColumnsTo lines n columns → IsColumn lines n column → AreColumnsTo lines (n + 1) (columns ++ column ∷ [])
-columns_grow lines n columns column (size, right) last = (
-  length-append columns (column ∷ []) ∙ ap (λ x. x + 1) size,
-  λ h low. ⊎_elim (λ (below : h < n). let within : h < length columns = rw size below in
-      let e : get_or (columns ++ column ∷ []) h [] ≡ get_or columns h [] = get_or_append_left columns (column ∷ []) [] h within in
-      subst (λ xs. IsColumn lines h xs) (sym e) (right h below)) (λ (above : n ≤ h). let s : h ≡ n = omega (arith, low, above) in
-      let e : get_or (columns ++ column ∷ []) n [] ≡ column = subst (λ m. get_or (columns ++ column ∷ []) m [] ≡ column) size (get_or-append_seam columns column [] []) in
-      subst (λ m. IsColumn lines m (get_or (columns ++ column ∷ []) m [])) (sym s) (subst (λ xs. IsColumn lines n xs) (sym e) last)) (cases_lt h n),
-)
+pub column_past : (sets : List LineSet) (k h : ℕ) → length sets ≤ k → get_or (column_of sets h) k false ≡ false
+column_past sets k h p =
+    let same = length-map sets (λ s. holds s h) in
+    beyond (column_of sets h) k (omega (arith, p, same))
 
--- the columns of all hypotheses, from those of each line
-pub columns_whole : (lines : List LineTree) (columns : List (List Bool)) → length columns ≡ length lines + 1 → ((h : ℕ) → h < length lines + 1 → IsColumn lines h (get_or columns h [])) → AreColumns lines columns
-columns_whole lines columns size right =
-    λ h k. ⊎_elim (λ (low : h < length lines + 1). right h low k) (λ (high : length lines + 1 ≤ h). let out : length columns ≤ h = rw size high in
-    let e : get_or columns h [] ≡ [] = nothing columns h out in
-    rw e ((λ d. absurd (cc d)), λ r. let b = (rests_within lines k h r).1 in absurd (omega (arith, b, high)))) (cases_lt h (length lines + 1))
+-- the columns of the first set, which is empty, and of one set more
+pub first_set : (lines : List LineTree) (h : ℕ) (sets : List LineSet) (s : LineSet) → sets ≡ s ∷ [] → holds s h ≡ false → IsColumnTo lines h 1 (column_of sets h)
+first_set lines h sets s e d =
+    let same : column_of sets h ≡ false ∷ [] = ap (λ xs. column_of xs h) e ∙ ap (λ b. b ∷ []) d in
+    subst (λ column. IsColumnTo lines h 1 column) (sym same) (column_begins lines h)
+
+pub next_set : (lines : List LineTree) (h n : ℕ) (l : LineTree) → line_at lines n ≡ Some l → (old sets : List LineSet) (s : LineSet) → sets ≡ old ++ s ∷ [] → holds s h ≡ rests_by (column_of old h) h n l
+    → IsColumnTo lines h n (column_of old h) → IsColumnTo lines h (n + 1) (column_of sets h)
+next_set lines h n l stands old sets s e d right =
+    let same : column_of sets h ≡ column_of old h ++ rests_by (column_of old h) h n l ∷ [] = ap (λ xs. column_of xs h) e ∙ map-append (λ t. holds t h) old (s ∷ []) ∙ ap (λ b. column_of old h ++ b ∷ []) d in
+    subst (λ column. IsColumnTo lines h (n + 1) column) (sym same) (column_grows lines h n l stands (column_of old h) right)
 
 hyp_of_line : (lines : List LineTree) (k : ℕ) (o : Option LineTree) → line_at lines k ≡ o → (is_hyp_at lines k ≡ true) ↔ IsHyp lines k
 hyp_of_line lines k None e = (λ h. absurd (let d = rw e at h in cc d), λ w. let d = w.1 in absurd (cc (e, d)))

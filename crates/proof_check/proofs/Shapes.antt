@@ -27,11 +27,6 @@ deduce_form p q r a b f g = (
       (((cc (e1, e2)), (cc (e1, e3))), ((cc (e1, e2)), (cc (e1, e3)))),
 )
 
--- the premises of a line that has none
-pub no_premises : (lines : List LineTree) (refs : List ℕ) → length refs ≡ 0 → formulas_at lines refs ≡ Some []
-no_premises lines [] h = refl
-no_premises lines (i ∷ refs) h = absurd (omega arith)
-
 pair : (a b : Option FormulaTree) → option_and_then (λ f. option_map (λ fs. f ∷ fs) (option_and_then (λ g. option_map (λ fs. g ∷ fs) (Some [])) b)) a ≡ option_and_then (λ f. option_map (λ g. f ∷ g ∷ []) b) a
 pair None b = refl
 pair (Some f) None = refl

@@ -7,3 +7,5 @@ pub mod Kinds
 pub mod Results
 pub mod Sizes
 pub mod Costs
+pub mod LineSets
+pub mod Laws

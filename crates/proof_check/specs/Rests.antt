@@ -1,6 +1,6 @@
 -- Which hypotheses a line rests on, as tests on what is known of the lines before it. A column belongs to
 -- one hypothesis, and has a place for each line, by its number: whether the line rests on the hypothesis.
-use Rattle.std.specs.Prelude.{◌≡◌, ◌↔◌, ◌<◌, ℕ, List, [], Bool, true, false, not, ◌&&◌, ◌||◌, nat_eq, nat_lt, Option, Some, None, length, slice_index_or}
+use Rattle.std.specs.Prelude.{◌≡◌, ◌↔◌, ◌<◌, ℕ, List, Bool, true, false, not, ◌&&◌, ◌||◌, nat_eq, nat_lt, Option, Some, None, length, slice_index_or}
 use Rattle.std.specs.List.{list_any}
 use Rattle.proof_lines.specs.declared.rules.Rule.{Rule}
 use Rattle.proof_lines.specs.declared.rules.Rule.TheVariants.{Hyp}
@@ -46,13 +46,3 @@ IsColumnTo lines h n column =
 -- the column is that of the hypothesis h
 abbrev pub IsColumn : List LineTree → ℕ → List Bool → Type 0
 IsColumn lines h column = (k : ℕ) → (slice_index_or column k false ≡ true) ↔ RestsOn lines k h
-
--- the columns are those of all hypotheses, each at its number
-abbrev pub AreColumns : List LineTree → List (List Bool) → Type 0
-AreColumns lines columns =
-    (h k : ℕ) → (slice_index_or (slice_index_or columns h []) k false ≡ true) ↔ RestsOn lines k h
-
--- the columns are those of the hypotheses with numbers below n
-abbrev pub AreColumnsTo : List LineTree → ℕ → List (List Bool) → Type 0
-AreColumnsTo lines n columns =
-    (length columns ≡ n) × ((h : ℕ) → h < n → IsColumn lines h (slice_index_or columns h []))

@@ -4,13 +4,14 @@ ghost use Rattle.nal_term.specs.Trees.{formula_tree};
 ghost use Rattle.proof_lines.specs.Lines.{line_trees};
 ghost use Rattle.nal_rules.specs.Derivation.{Derives};
 ghost use Rattle.nal_rules.specs.Faults.{HasLowestFault, IsFaultless, formulas_where, is_ask, is_label, numbers_from};
-ghost use Rattle.proof_check.specs.Rests.{AreColumns};
+ghost use Rattle.proof_check.specs.LineSets.{AreHypothesisSets};
 ghost use Rattle.proof_check.specs.Results.{IsRightError};
 ghost use Rattle.proof_check.specs.Sizes.{greatest_in, greatest_size, line_steps, proof_steps};
 ghost use Rattle.proof_check.specs.Sound.{IsSoundAt};
 
-use crate::columns::columns;
 use crate::faults::line_fault;
+use crate::hypothesis_sets::hypothesis_sets;
+use crate::line_sets::LineSet;
 use crate::lists::LineList;
 use crate::numbers::{Kind, numbers_of};
 use nal_rules::Fault;
@@ -112,10 +113,10 @@ pub fn check_counted<L: Ledger>(
     if proof.count() == 0 {
         return Err(CheckError::Empty);
     }
-    let Ok(columns) = columns(alloc, proof) else {
+    let Ok(sets) = hypothesis_sets(alloc, proof) else {
         return Err(CheckError::Memory);
     };
-    if let Some(faulty) = lowest_fault(proof, goal, columns.as_slice(), steps) {
+    if let Some(faulty) = lowest_fault(proof, goal, sets.as_slice(), steps) {
         return Err(CheckError::Line {
             line: faulty.number,
             fault: faulty.fault,
@@ -134,10 +135,10 @@ pub fn check_counted<L: Ledger>(
 fn lowest_fault<L: Ledger>(
     proof: &Proof,
     goal: &Formula,
-    columns: &[Vec<bool>],
+    sets: &[LineSet],
     steps: &mut Steps<L>,
 ) -> Option<FaultyLine>
-    requires columns { AreColumns (line_trees proof.now) (map (λ c. c.items) columns.now) }
+    requires sets { AreHypothesisSets (line_trees proof.now) sets.now }
     ensures lowest { MatchOption result
         ((k : ℕ) → IsSoundAt (line_trees proof.now) (formula_tree goal.now) k)
         (λ faulty. HasLowestFault (line_trees proof.now) (formula_tree goal.now) faulty.number faulty.fault) }
@@ -145,7 +146,7 @@ fn lowest_fault<L: Ledger>(
     ensures least { IsNone result → 0 < length proof.now → steps.old + node_count (formula_tree goal.now) ≤ steps.new }
 {
     for number in 1..proof.count() + 1 {
-        if let Some(fault) = line_fault(proof, goal, columns, number, steps) {
+        if let Some(fault) = line_fault(proof, goal, sets, number, steps) {
             return Some(FaultyLine { number, fault });
         }
     }

@@ -6,16 +6,17 @@ ghost use Rattle.proof_lines.specs.Lines.{HasRuleForm, line_tree, line_trees, ta
 ghost use Rattle.nal_rules.specs.Faults.{Applies, HasFault, IsSays, IsTrueComparison, RestsOn, is_ask};
 ghost use Rattle.proof_check.specs.Costs.{fault_steps};
 ghost use Rattle.proof_check.specs.Premises.{HasFormAt};
-ghost use Rattle.proof_check.specs.Rests.{AreColumns};
+ghost use Rattle.proof_check.specs.LineSets.{AreHypothesisSets};
 ghost use Rattle.proof_check.specs.Sizes.{greatest_in, line_size, line_steps};
 ghost use Rattle.proof_check.specs.Numbered.{fault_at};
 ghost use Rattle.proof_check.specs.Sound.{AreEarlier, IsCapturedAt, IsClosedWhereDue, IsMet, IsScopeMet, IsScopeUnmet, IsSoundAt};
 ghost use Rattle.proof_lines.specs.declared.rules.Rule.TheVariants.{Arith, Ask, SfOnE};
 
-use crate::columns::is_open;
 use crate::comparisons::is_true_comparison;
 use crate::freshness::is_not_fresh;
 use crate::hypotheses::are_hypotheses;
+use crate::hypothesis_sets::is_open;
+use crate::line_sets::LineSet;
 use crate::premises::{has_form, line_at, premise_at};
 use crate::scope::is_within_scope;
 use crate::substitutions::line_match;
@@ -30,11 +31,11 @@ use std::sync::ledger::Ledger;
 pub fn line_fault<L: Ledger>(
     proof: &Proof,
     goal: &Formula,
-    columns: &[Vec<bool>],
+    sets: &[LineSet],
     number: u64,
     steps: &mut Steps<L>,
 ) -> Option<Fault>
-    requires columns { AreColumns (line_trees proof.now) (map (λ c. c.items) columns.now) }
+    requires sets { AreHypothesisSets (line_trees proof.now) sets.now }
     ensures fault { MatchOption result
         (IsSoundAt (line_trees proof.now) (formula_tree goal.now) number)
         (λ fault. HasFault (line_trees proof.now) (formula_tree goal.now) number fault) }
@@ -46,7 +47,7 @@ pub fn line_fault<L: Ledger>(
     let found = line_match(proof, line, steps);
     for place in 0..12 {
         let fault = fault_at(place);
-        if !is_met(proof, goal, columns, number, line, found, fault, steps) {
+        if !is_met(proof, goal, sets, number, line, found, fault, steps) {
             return Some(fault);
         }
     }
@@ -79,14 +80,14 @@ const fn fault_at(place: u64) -> Fault
 fn is_met<L: Ledger>(
     proof: &Proof,
     goal: &Formula,
-    columns: &[Vec<bool>],
+    sets: &[LineSet],
     number: u64,
     line: &Line,
     found: Match,
     fault: Fault,
     steps: &mut Steps<L>,
 ) -> bool
-    requires columns { AreColumns (line_trees proof.now) (map (λ c. c.items) columns.now) }
+    requires sets { AreHypothesisSets (line_trees proof.now) sets.now }
     requires form { HasRuleForm (line_tree line.now) }
     requires size { line_size (line_tree line.now) ≤ greatest_in (line_trees proof.now) }
     requires within { number ≤ length proof.now }
@@ -110,9 +111,9 @@ fn is_met<L: Ledger>(
         Fault::NotAsk => is_statement_where_asked(line),
         Fault::NotClosed => is_closed_where_due(line, steps),
         Fault::NotGoal => is_goal_where_last(proof, goal, number, line, steps),
-        Fault::StillOpen => is_closed_where_last(proof, columns, number),
+        Fault::StillOpen => is_closed_where_last(proof, sets, number),
         Fault::NotHyp => are_hypotheses(proof, line),
-        Fault::NotFresh => !is_not_fresh(proof, columns, line, steps),
+        Fault::NotFresh => !is_not_fresh(proof, sets, line, steps),
         Fault::Capture => !matches!(found, Match::Capture),
     }
 }
@@ -227,10 +228,10 @@ fn is_goal_where_last<L: Ledger>(
 }
 
 /// Whether the line rests on no hypothesis, where it is the last.
-fn is_closed_where_last(proof: &Proof, columns: &[Vec<bool>], number: u64) -> bool
-    requires columns { AreColumns (line_trees proof.now) (map (λ c. c.items) columns.now) }
+fn is_closed_where_last(proof: &Proof, sets: &[LineSet], number: u64) -> bool
+    requires sets { AreHypothesisSets (line_trees proof.now) sets.now }
     ensures { IsFalse result
         ↔ ((number ≡ length proof.now) × ((h : ℕ) × RestsOn (line_trees proof.now) number h)) }
 {
-    number != proof.count() || !is_open(proof, columns, number)
+    number != proof.count() || !is_open(proof, sets, number)
 }

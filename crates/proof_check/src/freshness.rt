@@ -2,13 +2,15 @@ ghost use Rattle.std.specs.Prelude.{◌≡◌, ◌↔◌, ◌+◌, ◌*◌, ◌�
 ghost use Rattle.nal_term.specs.Size.{node_count};
 ghost use Rattle.nal_term.specs.Free.{is_free_in};
 ghost use Rattle.nal_term.specs.Trees.{FormulaTree, formula_tree};
-ghost use Rattle.proof_check.specs.Rests.{AreColumns, is_kept};
+ghost use Rattle.proof_check.specs.LineSets.{AreHypothesisSets};
+ghost use Rattle.proof_check.specs.Rests.{is_kept};
 ghost use Rattle.proof_check.specs.Sizes.{greatest_in};
 ghost use Rattle.proof_lines.specs.Lines.{HasRuleForm, line_tree, line_trees};
 ghost use Rattle.nal_rules.specs.Faults.{IsFreeBelow, IsNotFresh, formula_at};
 ghost use Rattle.proof_lines.specs.declared.rules.Rule.TheVariants.{ExistsE, ForallI};
 
-use crate::columns::rests_on;
+use crate::hypothesis_sets::rests_on;
+use crate::line_sets::LineSet;
 use crate::premises::formula_at;
 use nal_term::{Formula, Name, Steps, free_in_counted};
 use proof_lines::{Line, Proof, Rule};
@@ -17,12 +19,12 @@ use std::sync::ledger::Ledger;
 /// Whether the rule asks for a fresh variable, and the quantifier's is not.
 pub fn is_not_fresh<L: Ledger>(
     proof: &Proof,
-    columns: &[Vec<bool>],
+    sets: &[LineSet],
     line: &Line,
     steps: &mut Steps<L>,
 ) -> bool
     requires form { HasRuleForm (line_tree line.now) }
-    requires columns { AreColumns (line_trees proof.now) (map (λ c. c.items) columns.now) }
+    requires sets { AreHypothesisSets (line_trees proof.now) sets.now }
     ensures fresh { IsTrue result
         ↔ IsNotFresh (line_trees proof.now) line.now.rule line.now.refs (formula_tree line.now.formula) }
     ensures least { steps.old ≤ steps.new }
@@ -30,21 +32,21 @@ pub fn is_not_fresh<L: Ledger>(
 {
     let refs = line.refs.as_slice();
     match line.rule {
-        Rule::ForallI => is_not_fresh_for_all(proof, columns, refs, &line.formula, steps),
-        Rule::ExistsE => is_not_fresh_for_some(proof, columns, refs, &line.formula, steps),
+        Rule::ForallI => is_not_fresh_for_all(proof, sets, refs, &line.formula, steps),
+        Rule::ExistsE => is_not_fresh_for_some(proof, sets, refs, &line.formula, steps),
         _ => false,
     }
 }
 
 fn is_not_fresh_for_all<L: Ledger>(
     proof: &Proof,
-    columns: &[Vec<bool>],
+    sets: &[LineSet],
     refs: &[u64],
     conclusion: &Formula,
     steps: &mut Steps<L>,
 ) -> bool
     requires one { length refs.now ≡ 1 }
-    requires columns { AreColumns (line_trees proof.now) (map (λ c. c.items) columns.now) }
+    requires sets { AreHypothesisSets (line_trees proof.now) sets.now }
     ensures fresh { IsTrue result
         ↔ IsNotFresh (line_trees proof.now) ForallI refs.now (formula_tree conclusion.now) }
     ensures least { steps.old ≤ steps.new }
@@ -54,20 +56,20 @@ fn is_not_fresh_for_all<L: Ledger>(
         return false;
     };
     match conclusion {
-        Formula::Forall(x, _) => is_free_below(proof, columns, *premise, None, x, steps),
+        Formula::Forall(x, _) => is_free_below(proof, sets, *premise, None, x, steps),
         _ => false,
     }
 }
 
 fn is_not_fresh_for_some<L: Ledger>(
     proof: &Proof,
-    columns: &[Vec<bool>],
+    sets: &[LineSet],
     refs: &[u64],
     conclusion: &Formula,
     steps: &mut Steps<L>,
 ) -> bool
     requires three { length refs.now ≡ 3 }
-    requires columns { AreColumns (line_trees proof.now) (map (λ c. c.items) columns.now) }
+    requires sets { AreHypothesisSets (line_trees proof.now) sets.now }
     ensures fresh { IsTrue result
         ↔ IsNotFresh (line_trees proof.now) ExistsE refs.now (formula_tree conclusion.now) }
     ensures least { steps.old ≤ steps.new }
@@ -79,7 +81,7 @@ fn is_not_fresh_for_some<L: Ledger>(
     match formula_at(proof, *some) {
         Some(Formula::Exists(x, _)) => {
             free_in_counted(conclusion, x, steps)
-                || is_free_below(proof, columns, *concluded, Some(*assumed), x, steps)
+                || is_free_below(proof, sets, *concluded, Some(*assumed), x, steps)
         }
         _ => false,
     }
@@ -89,20 +91,20 @@ fn is_not_fresh_for_some<L: Ledger>(
 /// the discharged one set aside.
 fn is_free_below<L: Ledger>(
     proof: &Proof,
-    columns: &[Vec<bool>],
+    sets: &[LineSet],
     number: u64,
     discharged: Option<u64>,
     x: &Name,
     steps: &mut Steps<L>,
 ) -> bool
-    requires columns { AreColumns (line_trees proof.now) (map (λ c. c.items) columns.now) }
+    requires sets { AreHypothesisSets (line_trees proof.now) sets.now }
     ensures free { IsTrue result ↔ IsFreeBelow (line_trees proof.now) number discharged x.now }
     ensures least { steps.old ≤ steps.new }
     ensures most { steps.new ≤ steps.old + (length proof.now + 1) * greatest_in (line_trees proof.now) }
 {
     for hypothesis in 0..proof.count() + 1 {
         if is_kept(hypothesis, discharged)
-            && rests_on(proof, columns, number, hypothesis)
+            && rests_on(proof, sets, number, hypothesis)
             && is_free_at(proof, hypothesis, x, steps)
         {
             return true;

@@ -3,13 +3,15 @@
 #![tactic(auto)]
 
 mod checks;
-mod columns;
 mod comparison_forms;
 mod comparisons;
 mod faults;
 mod forms;
 mod freshness;
 mod hypotheses;
+mod hypothesis_sets;
+mod laws;
+mod line_sets;
 mod lists;
 mod logic_forms;
 mod numbers;
@@ -22,4 +24,5 @@ mod substitutions;
 mod tests;
 
 pub use checks::{CheckError, Checked, check, check_counted};
+pub use laws::faultless_proofs_derive;
 pub use lists::LineList;

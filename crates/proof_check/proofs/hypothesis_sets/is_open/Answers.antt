@@ -2,7 +2,7 @@ use Rattle.std.proofs.Common.{arith}
 use Rattle.std.proofs.lemmas.List.{length-map}
 use Rattle.proof_lines.specs.Lines.{line_tree, line_trees}
 use Rattle.proof_check.proofs.Reached.{rests_within}
-use Rattle.proof_check.proofs.columns.is_open.Goals as goal
+use Rattle.proof_check.proofs.hypothesis_sets.is_open.Goals as goal
 
 pub returns : goal.returns
 returns c = (
