@@ -2,3 +2,4 @@ pub mod Closed
 pub mod EntryRows
 pub mod NamePlaces
 pub mod Places
+pub mod KeptPlaces

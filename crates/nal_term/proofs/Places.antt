@@ -9,7 +9,7 @@ use Rattle.std.proofs.lemmas.List.Sums.{fails_before_first, position_or_len_is}
 use Rattle.std.proofs.lemmas.Map.Keys.{apart_from_distinct}
 
 module _ {X : Type 0} (test : X → Bool) where
-  past_the_end : (xs : List X) → position test xs ≡ None → length xs ≤ position_or_len test xs
+  pub past_the_end : (xs : List X) → position test xs ≡ None → length xs ≤ position_or_len test xs
   past_the_end xs p = grind (arith, common_steps)
 
   -- where a test has no place, it fails at each

@@ -1,5 +1,5 @@
 -- Terms and formulas as the keys of maps: whether two trees are the same, and what a hash reads of a tree.
-use Rattle.std.specs.Prelude.{◌≡◌, ℕ, List, [], ◌∷◌, ◌++◌, Bool, true, false, ◌&&◌, nat_eq}
+use Rattle.std.specs.Prelude.{◌≡◌, ℕ, List, [], ◌∷◌, ◌++◌, Bool, true, false, ◌&&◌, nat_eq, length}
 use Rattle.std.proofs.Common.{refl, ap}
 use Rattle.std.specs.Bool.{Decides}
 use Rattle.std.specs.Cmp.{decided, IsEquivalence, unsigned_Decides}
@@ -65,7 +65,7 @@ terms_writes (t ∷ ts) = term_writes t ++ terms_writes ts
 abbrev pub formula_writes : FormulaTree → HashWrites
 formula_writes verum = fed.u8 0
 formula_writes falsum = fed.u8 1
-formula_writes (atom p ts) = fed.u8 2 ++ fed.slice fed.u8 p ++ terms_writes ts
+formula_writes (atom p ts) = fed.u8 2 ++ fed.slice fed.u8 p ++ fed.usize (length ts) ++ terms_writes ts
 formula_writes (test c t u) = fed.u8 3 ++ fed.u8 (compare_code c) ++ term_writes t ++ term_writes u
 formula_writes (and f g) = fed.u8 4 ++ formula_writes f ++ formula_writes g
 formula_writes (or f g) = fed.u8 5 ++ formula_writes f ++ formula_writes g

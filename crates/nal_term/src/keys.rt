@@ -153,6 +153,9 @@ fn hash_formula<H: Hasher>(formula: &Formula, state: &mut H)
         Formula::Atom(p, ts) => {
             state.write_u8(2);
             p.hash(state);
+
+            // Else the terms that follow could be another atom's.
+            state.write_usize(ts.as_slice().len());
             hash_terms(ts.as_slice(), state);
         }
         Formula::Test(c, t, u) => {

@@ -3,6 +3,8 @@
 
 mod formulas;
 mod free;
+#[cfg(test)]
+mod hash_tests;
 mod keys;
 mod lists;
 mod names;
@@ -21,7 +23,7 @@ pub use free::{
 pub use lists::ListError;
 pub use names::{Name, NameError, Text, is_letter, is_name, is_reserved, is_text, is_word_byte};
 pub use scopes::{Scope, equal_scopes};
-pub use secrets::Secret;
+pub use secrets::{Secret, is_secret};
 pub use sizes::{size, term_size};
 pub use steps::Steps;
 pub use terms::{

@@ -58,7 +58,8 @@ impl Secret {
     }
 }
 
-fn is_secret(bytes: &[u8]) -> bool
+/// Whether the bytes are a secret.
+pub fn is_secret(bytes: &[u8]) -> bool
     ensures { result ≡ is_secret bytes.now }
 {
     are_secret_bytes(bytes) && !bytes.is_empty() && bytes.len() <= 64
