@@ -9,14 +9,14 @@ root=$(cd "$here/../.." && pwd)
 folder=$(mktemp -d)
 trap 'rm -rf "$folder"' EXIT
 mkdir -p "$folder/crates/stores_bench/src"
-for crate in nal_term proof_lines object_table goal_store proof_store label_store; do
+for crate in keyed_hash nal_term proof_lines object_table goal_store proof_store label_store; do
     mkdir -p "$folder/crates/$crate"
     for part in src specs proofs; do
         [ -d "$root/crates/$crate/$part" ] && cp -r "$root/crates/$crate/$part" "$folder/crates/$crate/$part"
     done
     grep "^$crate:" "$root/crates.txt" >> "$folder/crates.txt"
 done
-echo 'stores_bench: nal_term proof_lines object_table goal_store proof_store label_store' >> "$folder/crates.txt"
+echo 'stores_bench: keyed_hash nal_term proof_lines object_table goal_store proof_store label_store indexmap' >> "$folder/crates.txt"
 cp "$here/stores_bench.txt" "$folder/crates/stores_bench/src/main.rt"
 cd "$folder/crates/stores_bench"
 mkdir "$folder/cases"
@@ -32,10 +32,14 @@ proofs 1000
 proofs 60000
 labels 1000
 labels 100000
+chosen 4096
 WORDS
 rt try --seconds 60 --cases "$folder/cases" > "$folder/times"
 awk '/^[A-Z].*::/ {
     nanoseconds = $NF; rows = $(NF - 1); $NF = ""; $(NF - 1) = ""; sub(/ +$/, "")
     if ($0 in few) printf "%s: %d and %d rows, %d and %d ns, ratio %.2f\n", $0, few[$0], rows, time[$0], nanoseconds, nanoseconds / time[$0]
     else { few[$0] = rows; time[$0] = nanoseconds }
+}
+/^chosen / { call = $4; for (k = 5; k <= NF; k++) call = call " " $k
+    printf "%s: 4096 labels, and 4096 chosen against a fixed hash, %d and %d ns, ratio %.2f\n", call, $2, $3, $3 / $2
 }' "$folder/times"

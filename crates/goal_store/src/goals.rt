@@ -5,6 +5,7 @@ ghost use Rattle.nal_term.specs.Trees.{term_tree, formula_tree};
 ghost use Rattle.goal_store.specs.GoalRows.{goals, ports, goal_place, port_place, goal_of, port_of};
 
 use indexmap::{IndexMap, IndexSet};
+use keyed_hash::{HashKey, KeyedHash};
 use nal_term::{Formula, Name, Term};
 use std::alloc::{AllocError, Global};
 use std::marker::Model;
@@ -16,9 +17,9 @@ use std::marker::Model;
 #[derive(Drop)]
 pub struct GoalStore {
     // The operations that ever had a goal. A goal's key has its operation's place here.
-    ops: IndexSet<Name>,
-    goals: IndexMap<(usize, u64), Formula>,
-    ports: IndexMap<Term, u64>,
+    ops: IndexSet<Name, KeyedHash>,
+    goals: IndexMap<(usize, u64), Formula, KeyedHash>,
+    ports: IndexMap<Term, u64, KeyedHash>,
 }
 
 impl Model for GoalStore {
@@ -41,15 +42,16 @@ impl Model for GoalStore {
 }
 
 impl GoalStore {
-    /// A store without goals and bindings. It takes no memory.
-    pub fn new(alloc: Global) -> GoalStore
+    /// A store without goals and bindings, whose names and terms are hashed under this key. It takes no memory.
+    pub fn new(alloc: Global, key: HashKey) -> GoalStore
         ensures goals { goals result ≡ [] }
         ensures ports { ports result ≡ [] }
     {
+        let hash = KeyedHash::new(key);
         GoalStore {
-            ops: IndexSet::new(alloc),
-            goals: IndexMap::new(alloc),
-            ports: IndexMap::new(alloc),
+            ops: IndexSet::with_hasher(alloc, hash),
+            goals: IndexMap::with_hasher(alloc, hash),
+            ports: IndexMap::with_hasher(alloc, hash),
         }
     }
 

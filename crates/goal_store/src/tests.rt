@@ -1,5 +1,6 @@
 // The calls of the store, each with its answers, at rows worked out by hand.
 use super::*;
+use keyed_hash::HashKey;
 use nal_term::{Args, Formula, Name, Term, equal};
 use std::alloc::{AllocError, Global};
 
@@ -92,7 +93,7 @@ fn port(
 
 // A store with four goals, the last in the place of the first.
 fn with_goals(alloc: Global) -> Result<GoalStore, AllocError> {
-    let mut store = GoalStore::new(alloc);
+    let mut store = GoalStore::new(alloc, HashKey::new(1, 2));
     for (op, object, goal) in [
         ("read", 0, "a"),
         ("write", 0, "b"),
@@ -106,7 +107,7 @@ fn with_goals(alloc: Global) -> Result<GoalStore, AllocError> {
 
 // A store with four bindings, the last in the place of the first.
 fn with_ports(alloc: Global) -> Result<GoalStore, AllocError> {
-    let mut store = GoalStore::new(alloc);
+    let mut store = GoalStore::new(alloc, HashKey::new(1, 2));
     for (bytes, part, port) in [
         ("ntp", "", 1),
         ("ntp", "disk", 2),

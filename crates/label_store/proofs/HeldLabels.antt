@@ -1,124 +1,149 @@
--- What the keys of a store say of its rows: a label's row stands where its number stands among the keys.
-use Rattle.std.proofs.Common.{filter, take, ◌+◌, ◌-◌, true≢false, unwrap_or, ◌≡◌, ◌≢◌, ℕ, zero, suc, ◌<◌, ◌≤◌, Bool, true, false, cond, List, [], ◌∷◌, ◌++◌, map, length, get_or, slice_get, slice_set, Option, Some, None, nat_eq, refl, sym, ap, subst, ◌∙◌, arith}
-use Rattle.std.specs.Cmp.{unsigned_Decides}
-use Rattle.std.specs.List.{All, AllByRecursion, position, IsDistinct, remove}
-use Rattle.std.specs.Map.{lookup}
-use Rattle.std.specs.Option.{option_map, is_some}
-use Rattle.std.proofs.lemmas.List.{map-append, take_all, length-map}
-use Rattle.std.proofs.lemmas.List.Elements.{All-append, All-map, All-cons, All-nil, All-from_recursion, recursion_from_All}
-use Rattle.std.proofs.lemmas.List.Quantifiers.{position-Some}
-use Rattle.std.proofs.lemmas.Option.{slice_get_within, get_or_from_slice_get, slice_get-map, slice_get-get_or, slice_get_past}
-use Rattle.indexmap.specs.IndexMap.{insert_entry}
+-- What a store keeps, and its rows: the row of a number, a label that is said, given away or deleted, and the labels
+-- of one principal.
+use Rattle.std.proofs.Common.{filter, drop, ◌+◌, ◌≡◌, ◌≢◌, ℕ, zero, suc, ◌<◌, ◌≤◌, ◌↔◌, Result, Ok, Err, Bool, true, false, cond, List, [], ◌∷◌, ◌++◌, ◌&&◌, map, length, get_or, slice_get, slice_set, Option, Some, None, nat_eq, refl, sym, ap, subst, ◌∙◌, arith}
+use Rattle.std.specs.List.{All, AllByRecursion, find, IsDistinct, remove}
+use Rattle.std.specs.Option.{option_map}
+use Rattle.std.proofs.lemmas.List.{map-append, length-map, drop_more, drop_all}
+use Rattle.std.proofs.lemmas.List.Elements.{All-append, All-map, All-cons, All-nil, All-filter, All-from_recursion, recursion_from_All, filter-append}
+use Rattle.std.proofs.lemmas.Option.{slice_get_within, get_or_from_slice_get, slice_get-map, slice_get-get_or}
 use Rattle.indexmap.specs.Layout.{set_value_at}
-use Rattle.indexmap.proofs.MapLemmas.{Found-position, Missing-position, insert_entry-absent}
 use Rattle.nal_term.specs.declared.formulas.Formula.{Formula}
 use Rattle.nal_term.specs.declared.formulas.Formula.TheVariants.{True}
-use Rattle.nal_term.specs.Trees.{FormulaTree, formula_tree}
+use Rattle.nal_term.specs.Trees.{formula_tree}
 use Rattle.nal_term.specs.TreeKeys.{same_formulas-Decides}
-use Rattle.nal_term.proofs.EntryRows.{keys_in, position_agrees, position_of_none, find_agrees, map-agrees, map-map, map-remove, All-remove}
+use Rattle.nal_term.proofs.EntryRows.{map-agrees, map-map}
 use Rattle.nal_term.proofs.Places.{put_item, length-put_item, get_or-put_item}
-use Rattle.label_store.specs.declared.counts.Holding.{Holding}
+use Rattle.label_store.specs.declared.rows.Holding.{Holding}
 use Rattle.label_store.specs.LabelRows.{LabelRow, label_row, has_number, label_place, holder_of, labels_of}
-use Rattle.label_store.specs.Held.{Entry, held_label, same_label, HasPlaces, AreHeld}
-
--- the row of an entry
-abbrev pub row_of : List Formula → Entry → LabelRow
-row_of formulas e = label_row (held_label formulas e)
+use Rattle.label_store.specs.Held.{Entry, held_label, live_entries, same_label, hole, is_holders, held_from, labels_from, holder_in, HasPlaces, AreHeld, IsTidied, IsRowOf}
+use Rattle.label_store.proofs.LiveRows.{row_of, row_with, live_rows, row_at, RowAt, tidied_live, tidied_All, same_some}
 
 abbrev pub rows_in : List Formula → List Entry → List LabelRow
-rows_in formulas es = map label_row (map (held_label formulas) es)
+rows_in formulas es = map label_row (map (held_label formulas) (live_entries es))
 
-pub rows_are : (formulas : List Formula) (es : List Entry) → rows_in formulas es ≡ map (row_of formulas) es
-rows_are formulas es = map-map label_row (held_label formulas) es
+pub rows_are : (formulas : List Formula) (es : List Entry) → rows_in formulas es ≡ live_rows formulas es
+rows_are formulas es = map-map label_row (held_label formulas) (live_entries es)
 
-module _ (formulas : List Formula) (es : List Entry) (number : ℕ) where
-  -- the place of a label's row
-  pub label_place_of_key : label_place (rows_in formulas es) number ≡ position (nat_eq number) (keys_in es)
-  label_place_of_key = ap (λ rs. label_place rs number) (rows_are formulas es) ∙ position_agrees (row_of formulas) (has_number number) (nat_eq number) es (λ k d within. refl)
+pub tidied_rows : (formulas : List Formula) (old new : List Entry) → IsTidied old new → rows_in formulas new ≡ rows_in formulas old
+tidied_rows formulas old new tidied = ap (λ es. map label_row (map (held_label formulas) es)) (tidied_live old new tidied)
 
-  -- and its holder
-  pub holder_of_key : holder_of (rows_in formulas es) number ≡ option_map (λ (w : Holding). w.holder) (lookup (nat_eq number) es)
-  holder_of_key =
-      ap (λ rs. holder_of rs number) (rows_are formulas es)
-      ∙ find_agrees (row_of formulas) (has_number number) (nat_eq number) (λ (row : LabelRow). row.1) (λ (w : Holding). w.holder) (λ e. refl) es (λ k d within. refl)
+pub tidied_held : (formulas : List Formula) (old new : List Entry) → IsTidied old new → AreHeld formulas old → AreHeld formulas new
+tidied_held formulas old new tidied held = record { distinct = held.distinct; places = tidied_All (λ (e : Entry). e.1.place < length formulas) old new tidied held.places }
 
--- the holder of the label whose entry stands at a place
-pub holder_at : (formulas : List Formula) (es : List Entry) (number k : ℕ) → position (nat_eq number) (keys_in es) ≡ Some k → (w : Holding) → slice_get (map (λ (e : Entry). e.1) es) k ≡ Some w
-    → holder_of (rows_in formulas es) number ≡ Some w.holder
-holder_at formulas es number k at w value =
-    holder_of_key formulas es number ∙ ap (option_map (λ (w : Holding). w.holder)) ((Found-position (nat_eq number) es k at).value ∙ value)
+-- the holder of the label with a number
+pub holder_agrees : (formulas : List Formula) (es : List Entry) (number : ℕ) → holder_of (rows_in formulas es) number ≡ holder_in es number
+holder_agrees formulas es number = ap (λ rs. holder_of rs number) (rows_are formulas es) ∙ by (live_entries es)
+  where
+    here : (e : Entry) (b : Bool) (o : Option LabelRow) (p : Option Entry) → option_map (λ (row : LabelRow). row.1) o ≡ option_map (λ (f : Entry). f.1.holder) p
+        → option_map (λ (row : LabelRow). row.1) (cond b (Some (row_of formulas e)) o) ≡ option_map (λ (f : Entry). f.1.holder) (cond b (Some e) p)
+    here e true o p rest = refl
+    here e false o p rest = rest
 
--- what is left when one goes
-pub held-remove : (formulas : List Formula) (es : List Entry) (i : ℕ) → AreHeld formulas es → AreHeld formulas (remove es i)
-held-remove formulas es i held = record { distinct = held.distinct; places = All-remove (λ (e : Entry). e.1.place < length formulas) es i held.places }
+    by : (xs : List Entry) → option_map (λ (row : LabelRow). row.1) (find (has_number number) (map (row_of formulas) xs)) ≡ option_map (λ (e : Entry). e.1.holder) (find (λ (e : Entry). nat_eq number e.0) xs)
+    by [] = refl
+    by (e ∷ xs) = here e (nat_eq number e.0) (find (has_number number) (map (row_of formulas) xs)) (find (λ (f : Entry). nat_eq number f.0) xs) (by xs)
 
-pub rows-remove : (formulas : List Formula) (es : List Entry) (i : ℕ) → rows_in formulas (remove es i) ≡ remove (rows_in formulas es) i
-rows-remove formulas es i = rows_are formulas (remove es i) ∙ map-remove (row_of formulas) es i ∙ ap (λ rs. remove rs i) (sym (rows_are formulas es))
+pub holder_none : (es : List Entry) (number : ℕ) → All (λ (e : Entry). nat_eq number e.0 ≡ false) (live_entries es) → holder_in es number ≡ None
+holder_none es number none = by (live_entries es) (recursion_from_All (λ (e : Entry). nat_eq number e.0 ≡ false) (live_entries es) none)
+  where
+    by : (xs : List Entry) → AllByRecursion (λ (e : Entry). nat_eq number e.0 ≡ false) xs → option_map (λ (e : Entry). e.1.holder) (find (λ (e : Entry). nat_eq number e.0) xs) ≡ None
+    by [] h = refl
+    by (e ∷ xs) h = ap (λ b. option_map (λ (f : Entry). f.1.holder) (cond b (Some e) (find (λ (f : Entry). nat_eq number f.0) xs))) h.0 ∙ by xs h.1
 
--- a new value at a key is a new row in its place
-map-set_value_at : {K X R : Type 0} (f : K × X → R) (es : List (K × X)) (i : ℕ) (k : K) (w : X) → get_or (keys_in es) i k ≡ k → map f (set_value_at es i w) ≡ slice_set (map f es) i (f (k, w))
-map-set_value_at f [] i k w at = refl
-map-set_value_at f (e ∷ es) zero k w at = λ j. f (at j, w) ∷ map f es
-map-set_value_at f (e ∷ es) (suc i) k w at = ap (λ l. f e ∷ l) (map-set_value_at f es i k w at)
+-- the row of a number that lives
+module _ (formulas : List Formula) (es : List Entry) (number k : ℕ) (w : Holding) (row : IsRowOf es number k w) where
+  stands : RowAt formulas number (live_rows formulas es) (λ v. live_rows formulas (set_value_at es k v)) w
+  stands = row_at formulas number es k w row.at row.value row.live
 
--- what a new holder makes of a label's row
-module _ (formulas : List Formula) (es : List Entry) (number k : ℕ) (at_key : position (nat_eq number) (keys_in es) ≡ Some k) (w : Holding) (value : slice_get (map (λ (e : Entry). e.1) es) k ≡ Some w) (to : ℕ) where
-  abbrev given : Holding
-  given = record { holder = to; place = w.place }
+  pub holder_is : holder_of (rows_in formulas es) number ≡ Some w.holder
+  holder_is = ap (λ rs. holder_of rs number) (rows_are formulas es) ∙ ap (option_map (λ (r : LabelRow). r.1)) stands.found
 
-  number_is : get_or (keys_in es) k number ≡ number
-  number_is = sym ((unsigned_Decides number (get_or (keys_in es) k number)).0 (position-Some (nat_eq number) (keys_in es) k number at_key).1)
+  place_is : label_place (rows_in formulas es) number ≡ Some stands.place
+  place_is = ap (λ rs. label_place rs number) (rows_are formulas es) ∙ stands.at
 
-  row_there : (row : LabelRow) × (slice_get (rows_in formulas es) k ≡ Some row) × (row.2 ≡ formula_tree (get_or formulas w.place True))
-  row_there = by (slice_get es k) (sym (slice_get-map (λ (e : Entry). e.1) es k) ∙ value) (ap (λ rs. slice_get rs k) (rows_are formulas es) ∙ slice_get-map (row_of formulas) es k)
-    where
-      by : (o : Option Entry) → option_map (λ (e : Entry). e.1) o ≡ Some w → slice_get (rows_in formulas es) k ≡ option_map (row_of formulas) o
-          → (row : LabelRow) × (slice_get (rows_in formulas es) k ≡ Some row) × (row.2 ≡ formula_tree (get_or formulas w.place True))
-      by None v there = absurd (true≢false (sym (ap is_some v)))
-      by (Some e) v there = (row_of formulas e, there, ap (λ o. formula_tree (get_or formulas (unwrap_or o w).place True)) v)
-
-  pub given_rows : (j : ℕ) × (row : LabelRow) × (label_place (rows_in formulas es) number ≡ Some j) × (slice_get (rows_in formulas es) j ≡ Some row)
-      × (rows_in formulas (set_value_at es k given) ≡ slice_set (rows_in formulas es) j (number, to, row.2))
-  given_rows =
-      let there = row_there in (
-        k,
-        there.0,
-        label_place_of_key formulas es number ∙ at_key,
-        there.1,
-        rows_are formulas (set_value_at es k given)
-            ∙ map-set_value_at (row_of formulas) es k number given number_is
-            ∙ (λ i. slice_set (sym (rows_are formulas es) i) k (number, to, sym there.2 i)),
+  -- with a new holder
+  pub given_rows : (to : ℕ) → (j : ℕ) × (r : LabelRow) × (label_place (rows_in formulas es) number ≡ Some j) × (slice_get (rows_in formulas es) j ≡ Some r)
+      × (rows_in formulas (set_value_at es k (record { holder = to; place = w.place; live = w.live })) ≡ slice_set (rows_in formulas es) j (number, to, r.2))
+  given_rows to =
+      let v : Holding = record { holder = to; place = w.place; live = w.live } in (
+        stands.place,
+        row_with formulas number w,
+        place_is,
+        ap (λ rs. slice_get rs stands.place) (rows_are formulas es) ∙ stands.there,
+        rows_are formulas (set_value_at es k v) ∙ stands.set v row.live ∙ ap (λ rs. slice_set rs stands.place (row_with formulas number v)) (sym (rows_are formulas es)),
       )
+
+  -- and without it
+  pub removed_rows : (j : ℕ) × (label_place (rows_in formulas es) number ≡ Some j) × (rows_in formulas (set_value_at es k (hole w)) ≡ remove (rows_in formulas es) j)
+  removed_rows = (
+    stands.place,
+    place_is,
+    rows_are formulas (set_value_at es k (hole w)) ∙ stands.gone (hole w) refl ∙ ap (λ rs. remove rs stands.place) (sym (rows_are formulas es)),
+  )
 
   abbrev IsPlaced : Entry → Type 0
   IsPlaced e = e.1.place < length formulas
 
-  kept : w.place < length formulas → (fs : List Entry) (i : ℕ) → AllByRecursion IsPlaced fs → AllByRecursion IsPlaced (set_value_at fs i given)
-  kept h [] i a = tt
-  kept h (e ∷ fs) zero a = (h, a.1)
-  kept h (e ∷ fs) (suc i) a = (a.0, kept h fs i a.1)
+  kept : (v : Holding) → v.place < length formulas → (fs : List Entry) (i : ℕ) → AllByRecursion IsPlaced fs → AllByRecursion IsPlaced (set_value_at fs i v)
+  kept v h [] i a = tt
+  kept v h (e ∷ fs) zero a = (h, a.1)
+  kept v h (e ∷ fs) (suc i) a = (a.0, kept v h fs i a.1)
 
-  place_within : HasPlaces formulas es → w.place < length formulas
+  pub place_within : HasPlaces formulas es → w.place < length formulas
   place_within places =
-      let there = slice_get_within (map (λ (e : Entry). e.1) es) k w value in
+      let there = slice_get_within (map (λ (e : Entry). e.1) es) k w row.value in
       at_value (All-map (λ (h : Holding). h.place < length formulas) (λ (e : Entry). e.1) es places k w there)
     where
       at_value : (get_or (map (λ (e : Entry). e.1) es) k w).place < length formulas → w.place < length formulas
-      at_value h = subst (λ (v : Holding). v.place < length formulas) (get_or_from_slice_get (map (λ (e : Entry). e.1) es) k w w value) h
+      at_value h = subst (λ (v : Holding). v.place < length formulas) (get_or_from_slice_get (map (λ (e : Entry). e.1) es) k w w row.value) h
 
-  pub given_held : AreHeld formulas es → AreHeld formulas (set_value_at es k given)
-  given_held held = record {
+  -- another holding of the same formula leaves the labels held
+  pub set_held : (v : Holding) → v.place ≡ w.place → AreHeld formulas es → AreHeld formulas (set_value_at es k v)
+  set_held v same held = record {
     distinct = held.distinct;
-    places = All-from_recursion IsPlaced (set_value_at es k given) (kept (place_within held.places) es k (recursion_from_All IsPlaced es held.places));
+    places = All-from_recursion IsPlaced (set_value_at es k v) (kept v (subst (λ n. n < length formulas) (sym same) (place_within held.places)) es k (recursion_from_All IsPlaced es held.places));
   }
+
+pub holder_here : (es : List Entry) (number k : ℕ) (w : Holding) → IsRowOf es number k w → holder_in es number ≡ Some w.holder
+holder_here es number k w row = sym (holder_agrees [] es number) ∙ holder_is [] es number k w row
+
+-- ---- why a call is refused
+
+same_err : {T U E : Type 0} (e f : E) → ◌≡◌ {A = Result T E} (Err e) (Err f) → ◌≡◌ {A = Result U E} (Err e) (Err f)
+same_err {T} {U} {E} e f p = ap (λ r. Err (of r)) p
+  where
+    of : Result T E → E
+    of (Ok x) = e
+    of (Err d) = d
+
+module _ (formulas : List Formula) (es : List Entry) (number : ℕ) {T U E : Type 0} (e f : E) where
+  pub refused_none : (◌≡◌ {A = Result T E} (Err e) (Err f) ↔ (holder_in es number ≡ None)) → (◌≡◌ {A = Result U E} (Err e) (Err f) ↔ (holder_of (rows_in formulas es) number ≡ None))
+  refused_none h = (λ p. holder_agrees formulas es number ∙ h.0 (same_err e f p), λ n. same_err e f (h.1 (sym (holder_agrees formulas es number) ∙ n)))
+
+  pub refused_other : (from : ℕ) → (◌≡◌ {A = Result T E} (Err e) (Err f) ↔ ((x : ℕ) × (holder_in es number ≡ Some x) × (x ≢ from)))
+      → (◌≡◌ {A = Result U E} (Err e) (Err f) ↔ ((x : ℕ) × (holder_of (rows_in formulas es) number ≡ Some x) × (x ≢ from)))
+  refused_other from h = (
+    λ p. let o = h.0 (same_err e f p) in (o.0, holder_agrees formulas es number ∙ o.1, o.2),
+    λ o. same_err e f (h.1 (o.0, sym (holder_agrees formulas es number) ∙ o.1, o.2)),
+  )
+
+-- numbers below another, in the rows and in the entries
+pub above_entries : (formulas : List Formula) (es : List Entry) (number : ℕ) → All (λ (row : LabelRow). row.0 < number) (rows_in formulas es) → All (λ (e : Entry). e.0 < number) (live_entries es)
+above_entries formulas es number above = All-from_recursion (λ (e : Entry). e.0 < number) (live_entries es) (by (live_entries es) (recursion_from_All (λ (row : LabelRow). row.0 < number) (rows_in formulas es) above))
+  where
+    by : (fs : List Entry) → AllByRecursion (λ (row : LabelRow). row.0 < number) (map label_row (map (held_label formulas) fs)) → AllByRecursion (λ (e : Entry). e.0 < number) fs
+    by [] h = tt
+    by (e ∷ fs) h = (h.0, by fs h.1)
 
 -- what `say` makes of the labels: the formula is put among those kept, and the label goes last
 module _ (formulas formulas' : List Formula) (among : Bool) (label : Formula) (put : formulas' ≡ put_item formulas among label) (distinct : IsDistinct same_label formulas')
-    (es : List Entry) (places : HasPlaces formulas es) (number holder p : ℕ) (stored : (f : Formula) × (slice_get formulas' p ≡ Some f) × (same_label label f ≡ true))
-    (above : All (λ (row : LabelRow). row.0 < number) (rows_in formulas es))
-    (es' : List Entry) (entries : es' ≡ insert_entry nat_eq es number (record { holder = holder; place = p })) where
-  abbrev pub entry : Entry
-  entry = (number, record { holder = holder; place = p })
+    (old : List Entry) (places : HasPlaces formulas old) (number holder p : ℕ) (stored : (f : Formula) × (slice_get formulas' p ≡ Some f) × (same_label label f ≡ true))
+    (es : List Entry) (tidied : IsTidied old es) (es' : List Entry) (pushed : es' ≡ es ++ (number, record { holder = holder; place = p; live = true }) ∷ []) where
+  abbrev entry : Entry
+  entry = (number, record { holder = holder; place = p; live = true })
+
+  abbrev IsOld : Entry → Type 0
+  IsOld e = e.1.place < length formulas
 
   within : p < length formulas'
   within = slice_get_within formulas' p stored.0 stored.1
@@ -132,77 +157,44 @@ module _ (formulas formulas' : List Formula) (among : Bool) (label : Formula) (p
   stays : (q : ℕ) → q < length formulas → get_or formulas' q True ≡ get_or formulas q True
   stays q h = ap (λ l. get_or l q True) put ∙ get_or-put_item formulas among label q True h
 
-  same_rows : rows_in formulas' es ≡ rows_in formulas es
+  still : HasPlaces formulas es
+  still = tidied_All IsOld old es tidied places
+
+  same_rows : rows_in formulas' es ≡ rows_in formulas old
   same_rows =
       rows_are formulas' es
-      ∙ map-agrees (row_of formulas') (row_of formulas) es (λ k d h. let e = get_or es k d in ap (λ f. (e.0, e.1.holder, formula_tree f)) (stays e.1.place (places k d h)))
+      ∙ map-agrees (row_of formulas') (row_of formulas) (live_entries es)
+      (λ k d h. let e = get_or (live_entries es) k d in ap (λ f. (e.0, e.1.holder, formula_tree f)) (stays e.1.place (All-filter (λ (f : Entry). f.1.live) IsOld es still k d h)))
       ∙ sym (rows_are formulas es)
+      ∙ tidied_rows formulas old es tidied
 
-  absent : position (nat_eq number) (keys_in es) ≡ None
-  absent =
-      position_of_none (λ (e : Entry). e.0) (nat_eq number) es
-      (All-from_recursion (λ (e : Entry). nat_eq number e.0 ≡ false) es
-      (others es (recursion_from_All (λ (row : LabelRow). row.0 < number) (rows_in formulas es) above)))
-    where
-      differ : (n : ℕ) → n < number → (b : Bool) → nat_eq number n ≡ b → b ≡ false
-      differ n h true e = let same = (unsigned_Decides number n).0 e in absurd (omega (arith, h, same))
-      differ n h false e = refl
-
-      others : (fs : List Entry) → AllByRecursion (λ (row : LabelRow). row.0 < number) (rows_in formulas fs) → AllByRecursion (λ (e : Entry). nat_eq number e.0 ≡ false) fs
-      others [] h = tt
-      others (e ∷ fs) h = (differ e.0 h.0 (nat_eq number e.0) refl, others fs h.1)
-
-  pub last : es' ≡ es ++ entry ∷ []
-  last = entries ∙ insert_entry-absent nat_eq number (record { holder = holder; place = p }) es (Missing-position (nat_eq number) es absent).absent
-
-  pub said_rows : rows_in formulas' es' ≡ rows_in formulas es ++ (number, holder, formula_tree label) ∷ []
+  pub said_rows : rows_in formulas' es' ≡ rows_in formulas old ++ (number, holder, formula_tree label) ∷ []
   said_rows =
-      ap (rows_in formulas') last
-      ∙ ap (map label_row) (map-append (held_label formulas') es (entry ∷ []))
-      ∙ map-append label_row (map (held_label formulas') es) (held_label formulas' entry ∷ [])
+      ap (rows_in formulas') pushed
+      ∙ ap (λ l. map label_row (map (held_label formulas') l)) (filter-append (λ (e : Entry). e.1.live) es (entry ∷ []))
+      ∙ ap (map label_row) (map-append (held_label formulas') (live_entries es) (entry ∷ []))
+      ∙ map-append label_row (map (held_label formulas') (live_entries es)) (held_label formulas' entry ∷ [])
       ∙ (λ i. same_rows i ++ (number, holder, label_is i) ∷ [])
 
   pub said_held : AreHeld formulas' es'
   said_held = record {
     distinct = distinct;
-    places = subst (HasPlaces formulas') (sym last)
-        (All-append (λ (e : Entry). e.1.place < length formulas') es (entry ∷ []) (λ k d h. let before = places k d h in omega (arith, before, more))
+    places = subst (HasPlaces formulas') (sym pushed)
+        (All-append (λ (e : Entry). e.1.place < length formulas') es (entry ∷ []) (λ k d h. let before = still k d h in omega (arith, before, more))
         (All-cons (λ (e : Entry). e.1.place < length formulas') entry [] within (All-nil (λ (e : Entry). e.1.place < length formulas'))));
   }
 
--- no option is both there and not
-pub some_is_no_none : {A : Type 0} {o : Option A} {x : A} → o ≡ Some x → o ≡ None → ⊥
-some_is_no_none p q = true≢false (sym (ap is_some p) ∙ ap is_some q)
+-- ---- the labels of one principal
 
-pub same_some : {A : Type 0} {o : Option A} {x y : A} → o ≡ Some x → o ≡ Some y → x ≡ y
-same_some {A} {o} {x} p q = ap (λ r. unwrap_or r x) (sym p ∙ q)
-
-module _ {X : Type 0} (p : X → Bool) where
-  -- the item at i stands among those that pass after those before i
-  pub filter_at : (xs : List X) (i : ℕ) (d : X) → i < length xs → p (get_or xs i d) ≡ true → slice_get (filter p xs) (length (filter p (take i xs))) ≡ Some (get_or xs i d)
-  filter_at [] i d h e = absurd (omega (arith, h))
-  filter_at (x ∷ xs) zero d h e = ap (λ b. slice_get (cond b (x ∷ filter p xs) (filter p xs)) 0) e
-  filter_at (x ∷ xs) (suc i) d h e = by (p x) (filter_at xs i d (omega (arith, h)) e)
+module _ {X : Type 0} (p q : X → Bool) where
+  pub filter_filter : (xs : List X) → filter q (filter p xs) ≡ filter (λ x. p x && q x) xs
+  filter_filter [] = refl
+  filter_filter (x ∷ xs) = by (filter_filter xs) (p x)
     where
-      by : (b : Bool) → slice_get (filter p xs) (length (filter p (take i xs))) ≡ Some (get_or xs i d)
-          → slice_get (cond b (x ∷ filter p xs) (filter p xs)) (length (cond b (x ∷ filter p (take i xs)) (filter p (take i xs)))) ≡ Some (get_or xs i d)
-      by true rest = rest
-      by false rest = rest
-
-  -- one more item is one more that passes, or none
-  pub filter_more : (xs : List X) (i : ℕ) (d : X) → i < length xs → length (filter p (take (suc i) xs)) ≡ length (filter p (take i xs)) + cond (p (get_or xs i d)) 1 0
-  filter_more [] i d h = absurd (omega (arith, h))
-  filter_more (x ∷ xs) zero d h = by (p x)
-    where
-      by : (b : Bool) → length (cond b (x ∷ []) []) ≡ 0 + cond b 1 0
-      by true = refl
-      by false = refl
-  filter_more (x ∷ xs) (suc i) d h = by (p x) (filter_more xs i d (omega (arith, h)))
-    where
-      by : (b : Bool) → length (filter p (take (suc i) xs)) ≡ length (filter p (take i xs)) + cond (p (get_or xs i d)) 1 0
-          → length (cond b (x ∷ filter p (take (suc i) xs)) (filter p (take (suc i) xs))) ≡ length (cond b (x ∷ filter p (take i xs)) (filter p (take i xs))) + cond (p (get_or xs i d)) 1 0
-      by true rest = omega (arith, rest)
-      by false rest = rest
+      by : filter q (filter p xs) ≡ filter (λ y. p y && q y) xs → (b : Bool)
+          → filter q (cond b (x ∷ filter p xs) (filter p xs)) ≡ cond (b && q x) (x ∷ filter (λ y. p y && q y) xs) (filter (λ y. p y && q y) xs)
+      by rest true = ap (λ l. cond (q x) (x ∷ l) l) rest
+      by rest false = rest
 
 -- what passes among the rows is what passes among the entries
 filter-map : {A B : Type 0} (q : B → Bool) (f : A → B) (xs : List A) → filter q (map f xs) ≡ map f (filter (λ x. q (f x)) xs)
@@ -213,72 +205,54 @@ filter-map q f (x ∷ xs) = by (q (f x)) (filter-map q f xs)
     by true rest = ap (λ l. f x ∷ l) rest
     by false rest = rest
 
--- whether a principal holds the label of an entry
-abbrev pub is_holders : ℕ → Entry → Bool
-is_holders holder e = nat_eq holder e.1.holder
+pub labels_are : (formulas : List Formula) (es : List Entry) (holder : ℕ) → map formula_tree (labels_from formulas es holder 0) ≡ labels_of (rows_in formulas es) holder
+labels_are formulas es holder =
+    map-map formula_tree (λ (e : Entry). get_or formulas e.1.place True) (filter (is_holders holder) es)
+    ∙ sym
+    (ap (λ rs. labels_of rs holder) (rows_are formulas es)
+    ∙ ap (map (λ (row : LabelRow). row.2)) (filter-map (λ (row : LabelRow). nat_eq holder row.1) (row_of formulas) (live_entries es))
+    ∙ map-map (λ (row : LabelRow). row.2) (row_of formulas) (filter (λ (e : Entry). nat_eq holder e.1.holder) (live_entries es))
+    ∙ ap (map (λ (e : Entry). formula_tree (get_or formulas e.1.place True))) (filter_filter (λ (e : Entry). e.1.live) (λ (e : Entry). nat_eq holder e.1.holder) es))
 
-abbrev nowhere : Entry
-nowhere = (0, record { holder = 0; place = 0 })
+abbrev pub nowhere : Entry
+nowhere = (0, record { holder = 0; place = 0; live = false })
 
--- how many of the first n labels a principal holds
-abbrev pub held_before : List Entry → ℕ → ℕ → ℕ
-held_before es holder n = length (filter (is_holders holder) (take n es))
+module _ (es : List Entry) (i : ℕ) (w : Holding) (value : slice_get (map (λ (e : Entry). e.1) es) i ≡ Some w) where
+  pub entry_within : i < length es
+  entry_within = let h = slice_get_within (map (λ (e : Entry). e.1) es) i w value in omega (arith, h, length-map es (λ (e : Entry). e.1))
 
-module _ (formulas : List Formula) (es : List Entry) (places : HasPlaces formulas es) (holder : ℕ) where
-  abbrev tree_at : Entry → FormulaTree
-  tree_at e = formula_tree (get_or formulas e.1.place True)
+  pub holding_is : (get_or es i nowhere).1 ≡ w
+  holding_is = same_some (ap (option_map (λ (e : Entry). e.1)) (slice_get-get_or es i nowhere entry_within)) (sym (slice_get-map (λ (e : Entry). e.1) es i) ∙ value)
 
-  labels_are : labels_of (rows_in formulas es) holder ≡ map tree_at (filter (is_holders holder) es)
-  labels_are =
-      ap (λ rs. labels_of rs holder) (rows_are formulas es)
-      ∙ ap (map (λ (row : LabelRow). row.2)) (filter-map (λ (row : LabelRow). nat_eq holder row.1) (row_of formulas) es)
-      ∙ map-map (λ (row : LabelRow). row.2) (row_of formulas) (filter (is_holders holder) es)
+  module _ (holder : ℕ) where
+    abbrev later : List Entry
+    later = held_from es holder (i + 1)
 
-  module _ (i : ℕ) (w : Holding) (value : slice_get (map (λ (e : Entry). e.1) es) i ≡ Some w) where
-    entry_within : i < length es
-    entry_within = let h = slice_get_within (map (λ (e : Entry). e.1) es) i w value in omega (arith, h, length-map es (λ (e : Entry). e.1))
+    with_next : held_from es holder i ≡ cond (w.live && nat_eq holder w.holder) (get_or es i nowhere ∷ later) later
+    with_next =
+        ap (filter (is_holders holder)) (drop_more es i nowhere entry_within)
+        ∙ ap (λ (v : Holding). cond (v.live && nat_eq holder v.holder) (get_or es i nowhere ∷ later) later) holding_is
 
-    entry_is : (get_or es i nowhere).1 ≡ w
-    entry_is = same_some (ap (option_map (λ (e : Entry). e.1)) (slice_get-get_or es i nowhere entry_within)) (sym (slice_get-map (λ (e : Entry). e.1) es i) ∙ value)
+    -- the entry at an index is the next one of its holder, and not one of another or of a hole
+    pub next_is : (w.live && nat_eq holder w.holder) ≡ true → (n : ℕ) × (held_from es holder i ≡ (n, w) ∷ held_from es holder (i + 1))
+    next_is theirs = ((get_or es i nowhere).0, with_next ∙ ap (λ b. cond b (get_or es i nowhere ∷ later) later) theirs ∙ ap (λ (v : Holding). ((get_or es i nowhere).0, v) ∷ later) holding_is)
 
-    -- a label that another holds is not counted
-    pub another : w.holder ≢ holder → held_before es holder (i + 1) ≡ held_before es holder i
-    another other =
-        let step : i + 1 ≡ suc i = omega arith in
-        let more = filter_more (is_holders holder) es i nowhere entry_within in
-        let not = ap (λ (v : Holding). nat_eq holder v.holder) entry_is ∙ by (nat_eq holder w.holder) refl in
-        ap (held_before es holder) step ∙ more ∙ ap (λ b. held_before es holder i + cond b 1 0) not ∙ omega arith
-      where
-        by : (b : Bool) → nat_eq holder w.holder ≡ b → nat_eq holder w.holder ≡ false
-        by true e = absurd (other (sym ((unsigned_Decides holder w.holder).0 e)))
-        by false e = e
+    pub next_is_later : (w.live && nat_eq holder w.holder) ≡ false → held_from es holder i ≡ held_from es holder (i + 1)
+    next_is_later other = with_next ∙ ap (λ b. cond b (get_or es i nowhere ∷ later) later) other
 
-    -- and one that the principal holds is
-    pub one_more : w.holder ≡ holder → held_before es holder (i + 1) ≡ held_before es holder i + 1
-    one_more same =
-        let step : i + 1 ≡ suc i = omega arith in
-        let more = filter_more (is_holders holder) es i nowhere entry_within in
-        let yes = ap (λ (v : Holding). nat_eq holder v.holder) entry_is ∙ (unsigned_Decides holder w.holder).1 (sym same) in
-        ap (held_before es holder) step ∙ more ∙ ap (λ b. held_before es holder i + cond b 1 0) yes
+-- past the last there is none
+pub none_from : (es : List Entry) (holder i : ℕ) → length es ≤ i → held_from es holder i ≡ []
+none_from es holder i past = ap (filter (is_holders holder)) (drop_all i es past)
 
-    -- and is the label that was asked for, where enough of the principal's stand before it
-    pub label_found : (k : ℕ) → w.holder ≡ holder → held_before es holder i + 1 ≡ k → option_map formula_tree (slice_get formulas w.place) ≡ slice_get (labels_of (rows_in formulas es) holder) (k - 1)
-    label_found k same count =
-        let e = get_or es i nowhere in
-        let yes = ap (λ (v : Holding). nat_eq holder v.holder) entry_is ∙ (unsigned_Decides holder w.holder).1 (sym same) in
-        let at = filter_at (is_holders holder) es i nowhere entry_within yes in
-        let place : w.place < length formulas = subst (λ (v : Holding). v.place < length formulas) entry_is (places i nowhere entry_within) in
-        let wanted : held_before es holder i ≡ k - 1 = omega (arith, count) in
-        ap (option_map formula_tree) (slice_get-get_or formulas w.place True place)
-        ∙ ap (λ (v : Holding). Some (formula_tree (get_or formulas v.place True))) (sym entry_is)
-        ∙ sym (ap (option_map tree_at) (ap (slice_get (filter (is_holders holder) es)) (sym wanted) ∙ at))
-        ∙ sym (slice_get-map tree_at (filter (is_holders holder) es) (k - 1))
-        ∙ ap (λ l. slice_get l (k - 1)) (sym labels_are)
+-- the formula of an entry is one of those kept
+pub place_of_value : (formulas : List Formula) (es : List Entry) → HasPlaces formulas es → (i : ℕ) (w : Holding) → slice_get (map (λ (e : Entry). e.1) es) i ≡ Some w → w.place < length formulas
+place_of_value formulas es places i w value =
+    let at = places i nowhere (entry_within es i w value) in
+    subst (λ (v : Holding). v.place < length formulas) (holding_is es i w value) at
 
-  -- where the principal holds fewer, there is none
-  pub label_missing : (k n : ℕ) → length es ≤ n → held_before es holder n < k → slice_get (labels_of (rows_in formulas es) holder) (k - 1) ≡ None
-  label_missing k n all few =
-      let whole = ap (λ l. length (filter (is_holders holder) l)) (take_all n es all) in
-      ap (λ l. slice_get l (k - 1)) labels_are
-      ∙ slice_get-map tree_at (filter (is_holders holder) es) (k - 1)
-      ∙ ap (option_map tree_at) (slice_get_past (filter (is_holders holder) es) (k - 1) (omega (arith, whole, few)))
+-- the first that is left of a list
+pub first_left : {X : Type 0} (n : ℕ) (xs : List X) → slice_get (drop n xs) 0 ≡ slice_get xs n
+first_left zero [] = refl
+first_left zero (x ∷ xs) = refl
+first_left (suc n) [] = refl
+first_left (suc n) (x ∷ xs) = first_left n xs

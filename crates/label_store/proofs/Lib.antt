@@ -1,2 +1,4 @@
+pub mod LiveRows
 pub mod HeldLabels
 pub mod HeldCounts
+pub mod RowFacts

@@ -1,18 +1,41 @@
 -- What a store keeps of its labels: the formulas, each once; for each label its number, its holder and the
--- place of its formula; and how many labels each principal holds of each formula.
-use Rattle.std.specs.Prelude.{◌≡◌, ℕ, ◌<◌, ◌≤◌, ◌+◌, ◌&&◌, Bool, List, length, filter, slice_index_or, nat_eq, unwrap_or}
-use Rattle.std.specs.List.{All, IsDistinct}
+-- place of its formula, or a hole where the label is gone; and how many labels each principal holds of each formula.
+use Rattle.std.specs.Prelude.{◌≡◌, ℕ, ◌<◌, ◌≤◌, ◌+◌, ◌&&◌, ◌⊎◌, Bool, true, false, List, Option, Some, length, map, drop, filter, slice_get, slice_index_or, nat_eq, unwrap_or}
+use Rattle.std.specs.List.{All, IsDistinct, position, find}
+use Rattle.std.specs.Option.{option_map}
 use Rattle.indexmap.specs.IndexMap.{IndexMap, get, index_map_len, spare}
 use Rattle.nal_term.specs.declared.formulas.Formula.{Formula}
 use Rattle.nal_term.specs.declared.formulas.Formula.TheVariants.{True}
 use Rattle.nal_term.specs.Trees.{formula_tree}
 use Rattle.nal_term.specs.TreeKeys.{same_formulas}
-use Rattle.label_store.specs.declared.counts.Holding.{Holding}
+use Rattle.label_store.specs.declared.rows.Holding.{Holding}
 use Rattle.label_store.specs.LabelRows.{HeldLabel}
 
 -- a number, and its holder and place
 abbrev pub Entry : Type 0
 Entry = ℕ × Holding
+
+-- the entries without the holes
+abbrev pub live_entries : List Entry → List Entry
+live_entries es = filter (λ (e : Entry). e.1.live) es
+
+-- what is left in the place of an entry that is gone
+abbrev pub hole : Holding → Holding
+hole w = record { holder = w.holder; place = w.place; live = false }
+
+-- the same entries, or those without the holes
+abbrev pub IsTidied : List Entry → List Entry → Type 0
+IsTidied old new = (new ≡ old) ⊎ (new ≡ live_entries old)
+
+-- this holding stands at an index, under this number, and is no hole
+pub record IsRowOf (es : List Entry) (number index : ℕ) (w : Holding) : Type 0 where
+  pub at : position (nat_eq number) (map (λ (e : Entry). e.0) es) ≡ Some index
+  pub value : slice_get (map (λ (e : Entry). e.1) es) index ≡ Some w
+  pub live : w.live ≡ true
+
+-- the holder of the entry with this number
+abbrev pub holder_in : List Entry → ℕ → Option ℕ
+holder_in es number = option_map (λ (e : Entry). e.1.holder) (find (λ (e : Entry). nat_eq number e.0) (live_entries es))
 
 -- the label that an entry stands for
 abbrev pub held_label : List Formula → Entry → HeldLabel
@@ -39,11 +62,23 @@ same_key k l = nat_eq k.0 l.0 && nat_eq k.1 l.1
 
 -- the entry is a label of this principal with this formula
 abbrev pub has_key : Key → Entry → Bool
-has_key k e = same_key k (e.1.holder, e.1.place)
+has_key k e = e.1.live && same_key k (e.1.holder, e.1.place)
 
 -- how many of the entries are
 abbrev pub counted : List Entry → Key → ℕ
 counted es k = length (filter (has_key k) es)
+
+-- whether the entry is a label of this principal
+abbrev pub is_holders : ℕ → Entry → Bool
+is_holders holder e = e.1.live && nat_eq holder e.1.holder
+
+-- the entries of a principal, from an index on
+abbrev pub held_from : List Entry → ℕ → ℕ → List Entry
+held_from es holder i = filter (is_holders holder) (drop i es)
+
+-- and their labels
+abbrev pub labels_from : List Formula → List Entry → ℕ → ℕ → List Formula
+labels_from formulas es holder i = map (λ (e : Entry). slice_index_or formulas e.1.place True) (held_from es holder i)
 
 module _ {S : Type 0} where
   -- the number that is kept for a principal and a formula, 0 where none is

@@ -5,17 +5,12 @@ ghost use Rattle.std.specs.Prelude.{ℕ, ◌≡◌, ◌+◌, ◌<◌, ◌≤◌,
 ghost use Rattle.indexmap.specs.IndexMap.{get, index_map_len, spare};
 ghost use Rattle.label_store.specs.Held.{same_key, count_of, counted, AreCounted};
 
+use crate::rows::Rows;
 use indexmap::IndexMap;
-
-/// Who holds a label, and the place of its formula.
-#[derive(Clone, Copy)]
-pub struct Holding {
-    pub holder: u32,
-    pub place: usize,
-}
+use keyed_hash::KeyedHash;
 
 /// The number of labels of a principal and the place of a formula.
-pub type Counts = IndexMap<(u32, usize), u64>;
+pub type Counts = IndexMap<(u32, usize), u64, KeyedHash>;
 
 /// Counts one more label of this key. It takes no memory.
 fn add_one(counts: &mut Counts, key: (u32, usize))
@@ -45,7 +40,7 @@ pub fn take_one(counts: &mut Counts, key: (u32, usize))
 }
 
 /// Counts the labels of all rows anew. It takes no memory.
-fn recount(counts: &mut Counts, rows: &IndexMap<u64, Holding>)
+fn recount(counts: &mut Counts, rows: &Rows)
     requires room { length rows.now.entries ≤ index_map_len counts.old + spare counts.old }
     ensures numbers { (k : ℕ × ℕ) → count_of counts.new k ≡ counted rows.now.entries k }
     ensures room { index_map_len counts.old + spare counts.old ≤ index_map_len counts.new + spare counts.new }
@@ -53,12 +48,14 @@ fn recount(counts: &mut Counts, rows: &IndexMap<u64, Holding>)
     counts.clear();
     for place in 0..rows.len() {
         let row = &rows[place];
-        add_one(counts, (row.holder, row.place));
+        if row.live {
+            add_one(counts, (row.holder, row.place));
+        }
     }
 }
 
 /// Counts one more label of this key, which the rows have already. It takes no memory.
-pub fn count(counts: &mut Counts, rows: &IndexMap<u64, Holding>, key: (u32, usize))
+pub fn count(counts: &mut Counts, rows: &Rows, key: (u32, usize))
     requires one_less { (k : ℕ × ℕ) → count_of counts.old k + cond (same_key key k) 1 0 ≡ counted rows.now.entries k }
     requires room { length rows.now.entries ≤ index_map_len counts.old + spare counts.old }
     ensures numbers { (k : ℕ × ℕ) → count_of counts.new k ≡ counted rows.now.entries k }

@@ -1,11 +1,14 @@
-ghost use Rattle.std.specs.Prelude.{ℕ, IfOk, length, ◌≡◌, ◌≢◌, ◌+◌, ◌-◌, ◌<◌, ◌≤◌, ◌↔◌, ◌++◌, ◌∷◌, [], Some, None, OnOk, OnErr, slice_get, slice_set};
+ghost use Rattle.std.specs.Prelude.{ℕ, IfOk, length, map, drop, true, ◌≡◌, ◌≢◌, ◌+◌, ◌-◌, ◌<◌, ◌≤◌, ◌↔◌, ◌++◌, ◌∷◌, [], Some, None, OnOk, OnErr, slice_get, slice_set};
 ghost use Rattle.std.specs.List.{All, remove};
 ghost use Rattle.std.specs.Option.{option_map, option_copied};
 ghost use Rattle.nal_term.specs.Trees.{formula_tree};
 ghost use Rattle.label_store.specs.LabelRows.{LabelRow, rows, label_place, holder_of, is_held, labels_of};
+ghost use Rattle.label_store.specs.Held.{IsRowOf, holder_in};
 
-use crate::counts::{Counts, Holding, count, take_one};
+use crate::counts::{Counts, count, take_one};
+use crate::rows::{Holding, Rows, find_row, next_held, push_row, remove_row};
 use indexmap::{IndexMap, IndexSet};
+use keyed_hash::{HashKey, KeyedHash};
 use nal_term::Formula;
 use std::alloc::{AllocError, Global};
 use std::marker::Model;
@@ -24,8 +27,10 @@ pub enum LabelRefusal {
 #[derive(Drop)]
 pub struct LabelStore {
     // The formulas of all labels that were ever said, each once.
-    formulas: IndexSet<Formula>,
-    rows: IndexMap<u64, Holding>,
+    formulas: IndexSet<Formula, KeyedHash>,
+    rows: Rows,
+    // How many of the rows are holes: for the time that a call takes alone.
+    holes: usize,
     counts: Counts,
 }
 
@@ -35,7 +40,7 @@ impl Model for LabelStore {
     ghost use Rattle.nal_term.specs.contracts.terms.Term as t;
     ghost use Rattle.nal_term.specs.contracts.formulas.Formula as f;
     ghost use Rattle.label_store.specs.LabelRows.{Labels};
-    ghost use Rattle.label_store.specs.Held.{held_label, AreHeld, AreCounted};
+    ghost use Rattle.label_store.specs.Held.{held_label, live_entries, AreHeld, AreCounted};
     ghost use Rattle.indexmap.specs.IndexMap.{spare as room, index_map_len};
     ghost use Rattle.indexmap.specs.IndexSet.{spare as set_room};
 
@@ -43,20 +48,22 @@ impl Model for LabelStore {
 
     ghost coded = { Prim.hlevel (codes, t.the_row.coded, f.the_row.coded) };
 
-    ghost view = { λ s. record { held = map (held_label s.formulas.keys) s.rows.entries; spare = min (min (set_room s.formulas) (room s.rows)) (index_map_len s.counts + room s.counts - length s.rows.entries) } };
+    ghost view = { λ s. record { held = map (held_label s.formulas.keys) (live_entries s.rows.entries); spare = min (min (set_room s.formulas) (room s.rows)) (index_map_len s.counts + room s.counts - length s.rows.entries) } };
 
     ghost invariant = { λ s. AreHeld s.formulas.keys s.rows.entries × AreCounted s.counts s.rows.entries };
 }
 
 impl LabelStore {
-    /// A store without labels. It takes no memory.
-    pub fn new(alloc: Global) -> LabelStore
+    /// A store without labels, whose formulas are hashed under this key. It takes no memory.
+    pub fn new(alloc: Global, key: HashKey) -> LabelStore
         ensures { rows result ≡ [] }
     {
+        let hash = KeyedHash::new(key);
         LabelStore {
-            formulas: IndexSet::new(alloc),
-            rows: IndexMap::new(alloc),
-            counts: IndexMap::new(alloc),
+            formulas: IndexSet::with_hasher(alloc, hash),
+            rows: IndexMap::with_hasher(alloc, hash),
+            holes: 0,
+            counts: IndexMap::with_hasher(alloc, hash),
         }
     }
 
@@ -83,7 +90,12 @@ impl LabelStore {
         ensures spare { self.old.spare ≤ self.new.spare + 1 }
     {
         let (place, _) = self.formulas.insert_full(label).unwrap();
-        self.rows.insert(number, Holding { holder, place }).unwrap();
+        let row = Holding {
+            holder,
+            place,
+            live: true,
+        };
+        push_row(&mut self.rows, number, row);
         count(&mut self.counts, &self.rows, (holder, place));
     }
 
@@ -97,10 +109,11 @@ impl LabelStore {
         ensures err { OnErr result (rows self.new ≡ rows self.old) }
         ensures spare { self.old.spare ≤ self.new.spare }
     {
-        let place = self.place_of(number, from)?;
-        let row = &mut self.rows[place];
-        row.holder = to;
-        let formula = row.place;
+        let (index, formula) = match held_row(&self.rows, number, from) {
+            Ok(row) => row,
+            Err(refusal) => return Err(refusal),
+        };
+        self.rows[index].holder = to;
         take_one(&mut self.counts, (from, formula));
         count(&mut self.counts, &self.rows, (to, formula));
         Ok(())
@@ -115,39 +128,21 @@ impl LabelStore {
         ensures err { OnErr result (rows self.new ≡ rows self.old) }
         ensures spare { self.old.spare ≤ self.new.spare }
     {
-        let place = self.place_of(number, from)?;
-        let formula = self.rows[place].place;
-        let _gone = self.rows.shift_remove_index(place);
+        let (index, formula) = match held_row(&self.rows, number, from) {
+            Ok(row) => row,
+            Err(refusal) => return Err(refusal),
+        };
+        remove_row(&mut self.rows, &mut self.holes, index);
         take_one(&mut self.counts, (from, formula));
         Ok(())
-    }
-
-    // The place of the label's row, where `from` holds it.
-    fn place_of(&self, number: u64, from: u32) -> Result<usize, LabelRefusal>
-        ensures no_label { (result ≡ Err LabelRefusal.NoSuchLabel) ↔ (holder_of (rows self.now) number ≡ None) }
-        ensures not_holder { (result ≡ Err LabelRefusal.NotHolder) ↔ ((h : ℕ) × (holder_of (rows self.now) number ≡ Some h) × (h ≢ from)) }
-        ensures place { IfOk result (λ k. label_place (rows self.now) number ≡ Some k) }
-        ensures holder { IfOk result (λ k. holder_of (rows self.now) number ≡ Some from) }
-        ensures within { IfOk result (λ k. k < length (rows self.now)) }
-    {
-        match self.rows.get_full(&number) {
-            None => Err(LabelRefusal::NoSuchLabel),
-            Some((place, _, row)) => {
-                if row.holder == from {
-                    Ok(place)
-                } else {
-                    Err(LabelRefusal::NotHolder)
-                }
-            }
-        }
     }
 
     /// The holder of the label with this number. None exactly where no label has it.
     pub fn find(&self, number: u64) -> Option<u32>
         ensures { result ≡ holder_of (rows self.now) number }
     {
-        match self.rows.get(&number) {
-            Some(row) => Some(row.holder),
+        match find_row(&self.rows, number) {
+            Some((_, row)) => Some(row.holder),
             None => None,
         }
     }
@@ -166,8 +161,21 @@ impl LabelStore {
         }
     }
 
+    /// The labels of a principal in the order of the rows, one after another. It takes no memory.
+    pub fn labels(&self, holder: u32) -> LabelsOf<'_>
+        ensures { map formula_tree result ≡ labels_of (rows self.now) holder }
+    {
+        LabelsOf {
+            formulas: &self.formulas,
+            rows: &self.rows,
+            holder,
+            index: 0,
+        }
+    }
+
     /// The k-th label of a principal in the order of the rows, from 1. None exactly where k is 0 or the
-    /// principal holds fewer. It takes no memory.
+    /// principal holds fewer. It takes no memory, and time for all rows up to that label: `labels` serves for
+    /// more than one.
     pub fn label(&self, holder: u32, k: u64) -> Option<&Formula>
         ensures zero { k ≡ 0 → option_copied result ≡ None }
         ensures value { 0 < k → option_map formula_tree (option_copied result) ≡ slice_get (labels_of (rows self.now) holder) (k - 1) }
@@ -175,16 +183,74 @@ impl LabelStore {
         if k == 0 {
             return None;
         }
-        let mut left = k;
-        for place in 0..self.rows.len() {
-            let row = &self.rows[place];
-            if row.holder == holder {
-                if left == 1 {
-                    return self.formulas.get_index(row.place);
-                }
-                left -= 1;
+        let mut labels = self.labels(holder);
+        for _ in 1..k {
+            match labels.next() {
+                Some(_) => {}
+                None => return None,
             }
         }
-        None
+        labels.next()
+    }
+}
+
+// The index of the label's row and the place of its formula, where `from` holds it.
+fn held_row(rows: &Rows, number: u64, from: u32) -> Result<(usize, usize), LabelRefusal>
+    ensures no_label { (result ≡ Err LabelRefusal.NoSuchLabel) ↔ (holder_in rows.now.entries number ≡ None) }
+    ensures not_holder { (result ≡ Err LabelRefusal.NotHolder) ↔ ((h : ℕ) × (holder_in rows.now.entries number ≡ Some h) × (h ≢ from)) }
+    ensures row { IfOk result (λ r. IsRowOf rows.now.entries number r.0 (record { holder = from; place = r.1; live = true })) }
+    ensures within { IfOk result (λ r. r.0 < length rows.now.entries) }
+{
+    let (index, row) = match find_row(rows, number) {
+        Some(found) => found,
+        None => return Err(LabelRefusal::NoSuchLabel),
+    };
+    if row.holder == from {
+        Ok((index, row.place))
+    } else {
+        Err(LabelRefusal::NotHolder)
+    }
+}
+
+/// The labels of a principal that are still to come, in their order. Contracts see their list.
+#[derive(Drop)]
+pub struct LabelsOf<'a> {
+    formulas: &'a IndexSet<Formula, KeyedHash>,
+    rows: &'a Rows,
+    holder: u32,
+    // The index of the next row to look at.
+    index: usize,
+}
+
+impl<'a> Model for LabelsOf<'a> {
+    ghost use Rattle.std.specs.Prelude.{List};
+    ghost use Rattle.std.specs.Coded.{codes};
+    ghost use Rattle.nal_term.specs.contracts.terms.Term as t;
+    ghost use Rattle.nal_term.specs.contracts.formulas.Formula as f;
+    ghost use Rattle.nal_term.specs.declared.formulas.Formula.{Formula};
+    ghost use Rattle.label_store.specs.Held.{labels_from, HasPlaces};
+
+    ghost Value = { List Formula };
+
+    ghost coded = { Prim.hlevel (codes, t.the_row.coded, f.the_row.coded) };
+
+    ghost view = { λ l. labels_from l.formulas.now.keys l.rows.now.entries l.holder l.index };
+
+    ghost invariant = { λ l. HasPlaces l.formulas.now.keys l.rows.now.entries };
+}
+
+impl<'a> LabelsOf<'a> {
+    /// The next label. None exactly where none is left.
+    pub fn next(&mut self) -> Option<&'a Formula>
+        ensures label { option_map formula_tree (option_copied result) ≡ slice_get (map formula_tree self.old) 0 }
+        ensures rest { map formula_tree self.new ≡ drop 1 (map formula_tree self.old) }
+    {
+        match next_held(self.rows, self.holder, self.index) {
+            Some((after, row)) => {
+                self.index = after;
+                self.formulas.get_index(row.place)
+            }
+            None => None,
+        }
     }
 }

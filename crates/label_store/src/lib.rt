@@ -3,7 +3,8 @@
 
 mod counts;
 mod labels;
+mod rows;
 #[cfg(test)]
 mod tests;
 
-pub use labels::{LabelRefusal, LabelStore};
+pub use labels::{LabelRefusal, LabelStore, LabelsOf};

@@ -1,5 +1,6 @@
 // The calls of the store, each with its answers, at labels worked out by hand.
 use super::*;
+use keyed_hash::HashKey;
 use nal_term::{Args, Formula, Name, equal};
 use std::alloc::{AllocError, Global};
 
@@ -18,7 +19,7 @@ fn three(
     second: (u32, &str),
     third: (u32, &str),
 ) -> Result<LabelStore, AllocError> {
-    let mut store = LabelStore::new(alloc);
+    let mut store = LabelStore::new(alloc, HashKey::new(1, 2));
     let label = atom(alloc, first.1)?;
     store.reserve()?;
     store.say(3, first.0, label);
@@ -122,6 +123,63 @@ fn labels_are_counted_for_each_holder(rt: HostRuntime) -> Result<(), AllocError>
     ] {
         assert!(rt; is_label(&store, alloc, holder, k, label)?);
     }
+    Ok(())
+}
+
+// Whether the principal's labels are the atoms of these names, in this order.
+fn are_labels(
+    store: &LabelStore,
+    alloc: Global,
+    holder: u32,
+    wanted: &[&str],
+) -> Result<bool, AllocError> {
+    let mut labels = store.labels(holder);
+    for name in wanted {
+        match labels.next() {
+            Some(label) => {
+                if !equal(label, &atom(alloc, name)?) {
+                    return Ok(false);
+                }
+            }
+            None => return Ok(false),
+        }
+    }
+    Ok(labels.next().is_none() && labels.next().is_none())
+}
+
+// A store with these labels, under the numbers from 0 on.
+fn store_of(alloc: Global, labels: &[(u32, &str)]) -> Result<LabelStore, AllocError> {
+    let mut store = LabelStore::new(alloc, HashKey::new(1, 2));
+    for number in 0..labels.len() {
+        let (holder, name) = labels[number];
+        let label = atom(alloc, name)?;
+        store.reserve()?;
+        store.say(number as u64, holder, label);
+    }
+    Ok(store)
+}
+
+// Rows are deleted until the holes are closed up.
+#[test]
+fn labels_stay_in_order(rt: HostRuntime) -> Result<(), AllocError> {
+    let alloc = rt.alloc();
+    let labels = [(0, "a"), (1, "b"), (0, "c"), (0, "d"), (1, "e"), (0, "a")];
+    let mut store = store_of(alloc, &labels)?;
+    assert!(rt; are_labels(&store, alloc, 0, &["a", "c", "d", "a"])?);
+    for (number, holder, left) in [
+        (0, 0, ["c", "d", "a"].as_slice()),
+        (3, 0, ["c", "a"].as_slice()),
+        (1, 1, ["c", "a"].as_slice()),
+        (2, 0, ["a"].as_slice()),
+    ] {
+        assert_eq!(rt; delete(&mut store, number, holder), "ok");
+        assert_eq!(rt; find(&store, number), None);
+        assert!(rt; are_labels(&store, alloc, 0, left)?);
+    }
+    assert!(rt; are_labels(&store, alloc, 1, &["e"])?);
+    assert_eq!(rt; give(&mut store, 4, 1, 0), "ok");
+    assert!(rt; are_labels(&store, alloc, 0, &["e", "a"])?);
+    assert!(rt; is_held(&store, alloc, 0, "a")? && !is_held(&store, alloc, 0, "c")?);
     Ok(())
 }
 

@@ -2,6 +2,7 @@ ghost use Rattle.std.specs.Prelude.{◌≡◌, ◌+◌, ◌<◌, ◌≤◌, ◌+
 ghost use Rattle.object_table.specs.Objects.{names_of, number_of, owner_of};
 
 use indexmap::IndexMap;
+use keyed_hash::{HashKey, KeyedHash};
 use nal_term::Name;
 use std::alloc::{AllocError, Global};
 use std::marker::Model;
@@ -14,7 +15,7 @@ pub const MOST_OBJECTS: usize = 4096;
 /// `spare` of rows that there is memory for.
 #[derive(Drop)]
 pub struct ObjectTable {
-    rows: IndexMap<Name, u32>,
+    rows: IndexMap<Name, u32, KeyedHash>,
 }
 
 impl Model for ObjectTable {
@@ -30,12 +31,12 @@ impl Model for ObjectTable {
 }
 
 impl ObjectTable {
-    /// A table without objects. It takes no memory.
-    pub fn new(alloc: Global) -> ObjectTable
+    /// A table without objects, whose names are hashed under this key. It takes no memory.
+    pub fn new(alloc: Global, key: HashKey) -> ObjectTable
         ensures { result.rows ≡ [] }
     {
         ObjectTable {
-            rows: IndexMap::new(alloc),
+            rows: IndexMap::with_hasher(alloc, KeyedHash::new(key)),
         }
     }
 

@@ -1,4 +1,5 @@
 use super::*;
+use keyed_hash::HashKey;
 use nal_term::Name;
 use std::alloc::{AllocError, Global};
 
@@ -21,7 +22,7 @@ fn add(table: &mut ObjectTable, name: Name, owner: u32) -> Result<Option<u64>, A
 #[test]
 fn objects_are_numbered_in_their_order(rt: HostRuntime) -> Result<(), AllocError> {
     let alloc = rt.alloc();
-    let mut table = ObjectTable::new(alloc);
+    let mut table = ObjectTable::new(alloc, HashKey::new(1, 2));
     assert_eq!(rt; table.count(), 0);
     assert_eq!(rt; table.owner(0), None);
     for (bytes, owner, number) in [

@@ -56,6 +56,15 @@ same_keys_are k l e =
     let c = (unsigned_Decides k.2 l.2).0 (second_of (nat_eq k.0 l.0 && nat_eq k.1 l.1) (nat_eq k.2 l.2) e) in
     λ i. (sym a i, sym b i, sym c i)
 
+-- a row that is the one of a subject, an operation and an object has them
+pub same_case : (subject : ℕ) (op : List ℕ) (object : ℕ) (row : CaseRow) → is_case subject op object row ≡ true → (subject ≡ row.0) × (op ≡ row.1) × (object ≡ row.2)
+same_case subject op object row e =
+    let front = first_of (nat_eq subject row.0 && same_bytes op row.1) (nat_eq object row.2) e in (
+      (unsigned_Decides subject row.0).0 (first_of (nat_eq subject row.0) (same_bytes op row.1) front),
+      (same_bytes-Decides op row.1).0 (second_of (nat_eq subject row.0) (same_bytes op row.1) front),
+      (unsigned_Decides object row.2).0 (second_of (nat_eq subject row.0 && same_bytes op row.1) (nat_eq object row.2) e),
+    )
+
 -- a new value at a key is a new row in its place
 map-set_value_at : {K X R : Type 0} (f : K × X → R) (es : List (K × X)) (i : ℕ) (k : K) (w : X) → get_or (keys_in es) i k ≡ k → map f (set_value_at es i w) ≡ slice_set (map f es) i (f (k, w))
 map-set_value_at f [] i k w at = refl

@@ -1,1 +1,2 @@
 pub mod HeldCases
+pub mod CaseFacts

@@ -4,6 +4,7 @@ ghost use Rattle.proof_lines.specs.Lines.{line_trees};
 ghost use Rattle.proof_store.specs.Cases.{rows, number_of, proof_of};
 
 use indexmap::{IndexMap, IndexSet};
+use keyed_hash::{HashKey, KeyedHash};
 use nal_term::Name;
 use proof_lines::Proof;
 use std::alloc::{AllocError, Global};
@@ -18,8 +19,8 @@ pub const MOST_CASES: usize = 65_536;
 #[derive(Drop)]
 pub struct ProofStore {
     // The operations of the cases. A case's key has its operation's place here.
-    ops: IndexSet<Name>,
-    cases: IndexMap<(u32, usize, u64), Option<Proof>>,
+    ops: IndexSet<Name, KeyedHash>,
+    cases: IndexMap<(u32, usize, u64), Option<Proof>, KeyedHash>,
 }
 
 impl Model for ProofStore {
@@ -42,13 +43,14 @@ impl Model for ProofStore {
 }
 
 impl ProofStore {
-    /// A store without cases. It takes no memory.
-    pub fn new(alloc: Global) -> ProofStore
+    /// A store without cases, whose names are hashed under this key. It takes no memory.
+    pub fn new(alloc: Global, key: HashKey) -> ProofStore
         ensures { rows result ≡ [] }
     {
+        let hash = KeyedHash::new(key);
         ProofStore {
-            ops: IndexSet::new(alloc),
-            cases: IndexMap::new(alloc),
+            ops: IndexSet::with_hasher(alloc, hash),
+            cases: IndexMap::with_hasher(alloc, hash),
         }
     }
 

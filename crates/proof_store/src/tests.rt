@@ -1,5 +1,6 @@
 // The calls of the store, each with its answers, at cases worked out by hand.
 use super::*;
+use keyed_hash::HashKey;
 use nal_term::{Formula, Name};
 use proof_lines::{Line, Proof, Refs, Rule};
 use std::alloc::{AllocError, Global};
@@ -59,7 +60,7 @@ fn proof_lines(store: &ProofStore, case: u64) -> Option<u64> {
 #[test]
 fn a_cleared_case_keeps_its_number(rt: HostRuntime) -> Result<(), AllocError> {
     let alloc = rt.alloc();
-    let mut store = ProofStore::new(alloc);
+    let mut store = ProofStore::new(alloc, HashKey::new(1, 2));
     let read = name(alloc, "read")?;
     assert_eq!(rt; set(&mut store, alloc, 0, "read", 0, 1)?, Some(0));
     assert_eq!(rt; set(&mut store, alloc, 1, "read", 0, 2)?, Some(1));
@@ -76,7 +77,7 @@ fn a_cleared_case_keeps_its_number(rt: HostRuntime) -> Result<(), AllocError> {
 #[test]
 fn cases_are_told_apart_by_each_part(rt: HostRuntime) -> Result<(), AllocError> {
     let alloc = rt.alloc();
-    let mut store = ProofStore::new(alloc);
+    let mut store = ProofStore::new(alloc, HashKey::new(1, 2));
     assert_eq!(rt; store.count(), 0);
     assert_eq!(rt; proof_lines(&store, 0), None);
     for (subject, op, object, number) in [

@@ -1,62 +1,64 @@
-use Rattle.std.proofs.Common.{◌≡◌, ◌∙◌, sym, subst, Some, arith}
-use Rattle.label_store.specs.LabelRows.{rows, label_place, holder_of}
-use Rattle.label_store.proofs.HeldLabels.{label_place_of_key, holder_at, same_some, given_held, given_rows}
-use Rattle.label_store.proofs.HeldCounts.{taken_some, given_numbers, length-set_value_at}
+use Rattle.std.proofs.Common.{refl, true, arith}
+use Rattle.label_store.specs.declared.labels.LabelRefusal.TheVariants as LabelRefusal
+use Rattle.label_store.proofs.LiveRows.{some_is_no_none, same_some}
+use Rattle.label_store.proofs.HeldLabels.{refused_none, refused_other, holder_is, given_rows, set_held}
+use Rattle.label_store.proofs.HeldCounts.{own_row, own_some, own_given, length-set_value_at}
 use Rattle.label_store.proofs.labels.LabelStore.transfer.Goals as goal
+
+pub returns-in-Err-clause-no_label : goal.returns-in-Err-clause-no_label
+returns-in-Err-clause-no_label c =
+    rw (← c.self.view_is) (refused_none c.self.inside.formulas.keys c.self.inside.rows.entries c.args.number c.in-Err.refusal LabelRefusal.NoSuchLabel c.in-Err.ensures.no_label)
+
+pub returns-in-Err-clause-not_holder : goal.returns-in-Err-clause-not_holder
+returns-in-Err-clause-not_holder c =
+    rw (← c.self.view_is) (refused_other c.self.inside.formulas.keys c.self.inside.rows.entries c.args.number c.in-Err.refusal LabelRefusal.NotHolder c.args.from c.in-Err.ensures.not_holder)
 
 pub take_one-requires : goal.take_one-requires
 take_one-requires c =
-    let formulas = c.self.inside.formulas.keys in
-    let es = c.self.inside.rows.entries in
-    let place = c.in_ok-place.place in
-    let at = sym (label_place_of_key formulas es c.args.number) ∙ subst (λ s. label_place (rows s) c.args.number ≡ Some place) (sym c.self.view_is) c.in_ok-place.ensures.place in
-    let holder = subst (λ s. holder_of (rows s) c.args.number ≡ Some c.args.from) (sym c.self.view_is) c.in_ok-place.ensures.holder in
-    let w = c.index_mut-row.result.now in
-    let held = same_some (holder_at formulas es c.args.number place at w c.index_mut-row.ensures.value) holder in
-    record { some = taken_some es place w c.index_mut-row.ensures.value c.self.inside.counts c.self.invariant.1.numbers c.args.from held }
+    record { some = own_some c.self.inside.rows.entries c.args.number c.in-Ok.row.0 c.args.from c.in-Ok.row.1 c.in-Ok.ensures.row c.index_mut.result.now c.index_mut.ensures.value c.self.inside.counts c.self.invariant.1.numbers }
 
 pub count-requires-clause-one_less : goal.count-requires-clause-one_less
 count-requires-clause-one_less c =
-    let formulas = c.self.inside.formulas.keys in
-    let es = c.self.inside.rows.entries in
-    let place = c.in_ok-place.place in
-    let at = sym (label_place_of_key formulas es c.args.number) ∙ subst (λ s. label_place (rows s) c.args.number ≡ Some place) (sym c.self.view_is) c.in_ok-place.ensures.place in
-    let holder = subst (λ s. holder_of (rows s) c.args.number ≡ Some c.args.from) (sym c.self.view_is) c.in_ok-place.ensures.holder in
-    let w = c.index_mut-row.result.now in
-    let held = same_some (holder_at formulas es c.args.number place at w c.index_mut-row.ensures.value) holder in
-    given_numbers es place w c.index_mut-row.ensures.value c.self.inside.counts c.self.invariant.1.numbers c.args.from held c.take_one.new.counts c.take_one.ensures.numbers c.args.to
+    own_given c.self.inside.rows.entries c.args.number c.in-Ok.row.0 c.args.from c.in-Ok.row.1 c.in-Ok.ensures.row c.index_mut.result.now c.index_mut.ensures.value c.self.inside.counts c.self.invariant.1.numbers
+    c.take_one.new.counts c.take_one.ensures.numbers c.args.to
 
 pub count-requires-clause-room : goal.count-requires-clause-room
 count-requires-clause-room c =
-    let same = length-set_value_at c.self.inside.rows.entries c.in_ok-place.place (record { holder = c.args.to; place = c.index_mut-row.result.now.place }) in
+    let w = c.index_mut.result.now in
+    let same = length-set_value_at c.self.inside.rows.entries c.in-Ok.row.0 (record { holder = c.args.to; place = w.place; live = w.live }) in
     omega (arith, same, c.take_one.ensures.room, c.self.invariant.1.room)
 
 pub invariant_of-self : goal.invariant_of-self
 invariant_of-self c =
-    let formulas = c.self.inside.formulas.keys in
     let es = c.self.inside.rows.entries in
-    let place = c.in_ok-place.place in
-    let at = sym (label_place_of_key formulas es c.args.number) ∙ subst (λ s. label_place (rows s) c.args.number ≡ Some place) (sym c.self.view_is) c.in_ok-place.ensures.place in
-    let holder = subst (λ s. holder_of (rows s) c.args.number ≡ Some c.args.from) (sym c.self.view_is) c.in_ok-place.ensures.holder in
-    let w = c.index_mut-row.result.now in
-    let held = same_some (holder_at formulas es c.args.number place at w c.index_mut-row.ensures.value) holder in
-    let same = length-set_value_at c.self.inside.rows.entries c.in_ok-place.place (record { holder = c.args.to; place = c.index_mut-row.result.now.place }) in (
-      given_held formulas es c.args.number place at c.index_mut-row.result.now c.index_mut-row.ensures.value c.args.to c.self.invariant.0,
+    let w = c.index_mut.result.now in
+    let row = own_row es c.args.number c.in-Ok.row.0 c.args.from c.in-Ok.row.1 c.in-Ok.ensures.row w c.index_mut.ensures.value in
+    let same = length-set_value_at es c.in-Ok.row.0 (record { holder = c.args.to; place = w.place; live = w.live }) in (
+      set_held c.self.inside.formulas.keys es c.args.number c.in-Ok.row.0 w row (record { holder = c.args.to; place = w.place; live = w.live }) refl c.self.invariant.0,
       record { numbers = c.count.ensures.numbers; room = omega (arith, same, c.take_one.ensures.room, c.count.ensures.room, c.self.invariant.1.room) },
     )
 
+pub returns-clause-no_label : goal.returns-clause-no_label
+returns-clause-no_label c =
+    let es = c.self.inside.rows.entries in
+    let held = holder_is c.self.inside.formulas.keys es c.args.number c.in-Ok.row.0 (record { holder = c.args.from; place = c.in-Ok.row.1; live = true }) c.in-Ok.ensures.row in
+    rw (← c.self.view_is) (λ e. absurd (cc e), λ none. absurd (some_is_no_none held none))
+
+pub returns-clause-not_holder : goal.returns-clause-not_holder
+returns-clause-not_holder c =
+    let es = c.self.inside.rows.entries in
+    let held = holder_is c.self.inside.formulas.keys es c.args.number c.in-Ok.row.0 (record { holder = c.args.from; place = c.in-Ok.row.1; live = true }) c.in-Ok.ensures.row in
+    rw (← c.self.view_is) (λ e. absurd (cc e), λ h. absurd (h.2 (same_some h.1 held)))
+
 pub returns-clause-moved : goal.returns-clause-moved
 returns-clause-moved c =
-    let formulas = c.self.inside.formulas.keys in
     let es = c.self.inside.rows.entries in
-    let place = c.in_ok-place.place in
-    let at = sym (label_place_of_key formulas es c.args.number) ∙ subst (λ s. label_place (rows s) c.args.number ≡ Some place) (sym c.self.view_is) c.in_ok-place.ensures.place in
-    let holder = subst (λ s. holder_of (rows s) c.args.number ≡ Some c.args.from) (sym c.self.view_is) c.in_ok-place.ensures.holder in
-    let w = c.index_mut-row.result.now in
-    let held = same_some (holder_at formulas es c.args.number place at w c.index_mut-row.ensures.value) holder in
-    rw (← c.self.view_is) (given_rows formulas es c.args.number place at c.index_mut-row.result.now c.index_mut-row.ensures.value c.args.to)
+    let w = c.index_mut.result.now in
+    let row = own_row es c.args.number c.in-Ok.row.0 c.args.from c.in-Ok.row.1 c.in-Ok.ensures.row w c.index_mut.ensures.value in
+    rw (← c.self.view_is) (given_rows c.self.inside.formulas.keys es c.args.number c.in-Ok.row.0 w row c.args.to)
 
 pub returns-clause-spare : goal.returns-clause-spare
 returns-clause-spare c =
-    let same = length-set_value_at c.self.inside.rows.entries c.in_ok-place.place (record { holder = c.args.to; place = c.index_mut-row.result.now.place }) in
+    let w = c.index_mut.result.now in
+    let same = length-set_value_at c.self.inside.rows.entries c.in-Ok.row.0 (record { holder = c.args.to; place = w.place; live = w.live }) in
     rw (← c.self.view_is) (omega (arith, same, c.take_one.ensures.room, c.count.ensures.room))
