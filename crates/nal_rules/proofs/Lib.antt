@@ -3,3 +3,4 @@ pub mod Discharge
 pub mod Weakened
 pub mod Consistent
 pub mod OneNamed
+pub mod ForCallers

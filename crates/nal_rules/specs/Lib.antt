@@ -5,3 +5,5 @@ pub mod Verdicts
 pub mod Valuation
 pub mod OneName
 pub mod Laws
+pub mod Numbers
+pub mod Asking

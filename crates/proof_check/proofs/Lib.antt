@@ -13,3 +13,4 @@ pub mod Reached
 pub mod Counted
 pub mod Decided
 pub mod Faultless
+pub mod AllowedCases

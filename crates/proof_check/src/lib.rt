@@ -24,5 +24,5 @@ mod substitutions;
 mod tests;
 
 pub use checks::{CheckError, Checked, check, check_counted};
-pub use laws::faultless_proofs_derive;
+pub use laws::{allowed_cases_derive, faultless_proofs_derive};
 pub use lists::LineList;
