@@ -1,0 +1,13 @@
+pub mod HeadLists
+pub mod Limits
+pub mod RowLists
+pub mod Changed
+pub mod CaseLists
+pub mod Acceptance
+pub mod Soundness
+pub mod Keeping
+pub mod RowLaws
+pub mod Lasting
+pub mod RightLaw
+pub mod FirstRefusals
+pub mod Staying

@@ -1,0 +1,48 @@
+use Rattle.std.proofs.Common.{◌≡◌, ◌<◌, ◌≤◌, ◌+◌, ◌^◌, ℕ, List, Option, Some, None, length, refl, sym, ap, ◌∙◌, subst, arith}
+use Rattle.std.proofs.lemmas.List.{length-map}
+use Rattle.policy_history.specs.declared.heads.Head.{Head}
+use Rattle.policy_history.specs.declared.events.Entry.{Entry}
+use Rattle.policy_history.specs.declared.events.Refusal.{Refusal}
+use Rattle.policy_history.specs.declared.events.Refusal.TheVariants.{Quota}
+use Rattle.policy_history.specs.declared.tables.Policy.{Policy}
+use Rattle.policy_history.specs.Events.{EntryTree, entry_tree, event_tree}
+use Rattle.policy_history.specs.Kept.{IsKept}
+use Rattle.policy_history.specs.Machine.{accepted, refusal_of, replay}
+use Rattle.policy_history.specs.Sound.{IsSound}
+use Rattle.policy_history.specs.States.{State, empty_state}
+use Rattle.policy_history.specs.Tables.{state_of}
+use Rattle.policy_history.specs.Values.{entry_trees}
+use Rattle.policy_history.proofs.Acceptance.{line_unspent, none_applies}
+use Rattle.policy_history.proofs.Soundness.{entries_below, entries_most, sound_replay}
+use Rattle.policy_history.proofs.Keeping.{accepted_where, decided, kept_sound, kept_length, kept_more}
+use Rattle.policy_history.proofs.journal.Journal.append.Goals as goal
+
+pub apply-due-requires-clause-accepted : goal.apply-due-requires-clause-accepted
+apply-due-requires-clause-accepted c =
+    let free = accepted_where c.self.inside.head (replay c.self.inside.head (entry_trees c.self.inside.entries.items)) c.args.session c.args.principal (event_tree c.args.event) (rw (← c.self.view_is) at c.requires.accepted) in
+    none_applies c.self.inside.head (state_of c.self.inside.policy) c.args.session c.args.principal (event_tree c.args.event) (rw c.self.invariant.state free)
+
+pub apply-due-requires-clause-sound : goal.apply-due-requires-clause-sound
+apply-due-requires-clause-sound c = kept_sound c.self.inside.head c.self.inside.entries.items c.self.inside.policy c.self.inside.greatest_session c.self.invariant
+
+pub apply-due-requires-clause-entries : goal.apply-due-requires-clause-entries
+apply-due-requires-clause-entries c =
+    let h = c.self.inside.head in
+    let few : length h.principals ≤ 64 = omega (arith, c.count-principals.ensures.count, c.count-principals.ensures.bound) in
+    let most = entries_most h (state_of c.self.inside.policy) (kept_sound c.self.inside.head c.self.inside.entries.items c.self.inside.policy c.self.inside.greatest_session c.self.invariant) few in
+    omega (arith, most)
+
+pub invariant_of-self : goal.invariant_of-self
+invariant_of-self c =
+    let items = rw c.unwrap.ensures at c.push.ensures.items in
+    let below = rw (← c.self.view_is) at c.requires.principal in
+    let free = accepted_where c.self.inside.head (replay c.self.inside.head (entry_trees c.self.inside.entries.items)) c.args.session c.args.principal (event_tree c.args.event) (rw (← c.self.view_is) at c.requires.accepted) in
+    rw items (kept_more c.self.inside.head c.self.inside.entries.items c.self.inside.policy c.self.inside.greatest_session c.self.invariant _ c.apply-due.new.self c.max-self-inside.result below (rw c.self.invariant.state free) c.apply-due.ensures.state c.max-self-inside.ensures)
+
+pub returns-clause-decision : goal.returns-clause-decision
+returns-clause-decision c =
+    let h = c.self.inside.head in
+    let s = replay h (entry_trees c.self.inside.entries.items) in
+    let free = accepted_where h s c.args.session c.args.principal (event_tree c.args.event) (rw (← c.self.view_is) at c.requires.accepted) in
+    let due = c.apply-due.result in
+    rw (← c.self.view_is) (decided h s c.args.session c.args.principal (event_tree c.args.event) due.number due.bytes free (rw (← c.self.invariant.state) c.apply-due.ensures.number) c.apply-due.ensures.bytes)

@@ -1,0 +1,21 @@
+-- The head of a policy text: who the principals are, and which authorities can be asked.
+use Rattle.std.specs.Prelude.{◌≡◌, ◌≢◌, ◌≤◌, ◌<◌, ℕ, List, length, IsTrue}
+use Rattle.std.specs.List.{All, AllPairs}
+use Rattle.nal_term.specs.Secrets.{IsSecret}
+use Rattle.policy_history.specs.declared.heads.Principal.{Principal}
+use Rattle.policy_history.specs.declared.heads.Authority.{Authority}
+
+-- at most 64 principals, each with a name of its own
+pub record ArePrincipals (xs : List Principal) : Type 0 where
+  pub bound : length xs ≤ 64
+  pub distinct : AllPairs (λ (x y : Principal). x.name ≢ y.name) xs
+
+-- the port is one of 0 to 15, and the address is made as a secret is
+abbrev pub IsAuthority : Authority → Type 0
+IsAuthority a = (a.port < 16) × IsSecret a.address
+
+-- at most 16 authorities, each with a port of its own
+pub record AreAuthorities (xs : List Authority) : Type 0 where
+  pub bound : length xs ≤ 16
+  pub each : All IsAuthority xs
+  pub distinct : AllPairs (λ (x y : Authority). x.port ≢ y.port) xs

@@ -1,0 +1,321 @@
+//! The head of a policy: the principals with their secrets, and the authorities with their ports.
+ghost use Rattle.std.specs.Prelude.{◌≡◌, ◌↔◌, ◌++◌, ◌∷◌, ◌≤◌, ◌<◌, [], length, slice_get, IfOk, IfSome, IsTrue, OnOk, OnErr, nat_eq};
+ghost use Rattle.std.specs.List.{list_any};
+ghost use Rattle.std.specs.Option.{option_copied};
+ghost use Rattle.policy_history.specs.Events.{admitted, name_of, numbered};
+ghost use Rattle.policy_history.specs.Heads.{AreAuthorities, ArePrincipals, IsAuthority};
+
+use nal_term::{ListError, Name, Secret, is_secret};
+use nx_io::Bytes;
+use std::alloc::{AllocError, Global};
+use std::marker::Model;
+
+/// Someone who can make statements and requests, and the secret that proves it.
+#[derive(Drop)]
+pub struct Principal {
+    pub name: Name,
+    pub secret: Secret,
+}
+
+/// Someone who can be asked whether a statement holds now: under which port of the policy, and where.
+#[derive(Drop)]
+pub struct Authority {
+    pub port: u64,
+    pub address: Bytes,
+}
+
+/// The principals of a policy, numbered from 0: at most 64, each with a name of its own. Contracts see the list of them.
+#[derive(Drop)]
+pub struct Principals {
+    items: Vec<Principal>,
+}
+
+impl Model for Principals {
+    ghost use Rattle.std.specs.Prelude.{List};
+    ghost use Rattle.policy_history.specs.declared.heads.Principal.{Principal};
+    ghost use Rattle.policy_history.specs.Heads.{ArePrincipals};
+
+    ghost Value = { List Principal };
+
+    ghost view = { λ p. p.items.items };
+
+    ghost invariant = { λ p. ArePrincipals p.items.items };
+}
+
+/// The authorities of a policy: at most 16, each with a port of its own from 0 to 15 and an address of 1 to 64 bytes
+/// from 0x21 to 0x7E. Contracts see the list of them.
+#[derive(Drop)]
+pub struct Authorities {
+    items: Vec<Authority>,
+}
+
+impl Model for Authorities {
+    ghost use Rattle.std.specs.Prelude.{List};
+    ghost use Rattle.policy_history.specs.declared.heads.Authority.{Authority};
+    ghost use Rattle.policy_history.specs.Heads.{AreAuthorities};
+
+    ghost Value = { List Authority };
+
+    ghost view = { λ a. a.items.items };
+
+    ghost invariant = { λ a. AreAuthorities a.items.items };
+}
+
+/// The head of a policy, which is fixed while a service runs. `docs/FORMATS.md`, "Policy text", states its form.
+#[derive(Drop)]
+pub struct Head {
+    pub principals: Principals,
+    pub authorities: Authorities,
+}
+
+impl Principal {
+    /// A copy of the principal. An `Err` says that there was no memory for it.
+    pub fn copy(&self, alloc: Global) -> Result<Principal, AllocError>
+        ensures { IfOk result (λ copy. copy ≡ self.now) }
+    {
+        Ok(Principal {
+            name: self.name.copy(alloc)?,
+            secret: self.secret.copy(alloc)?,
+        })
+    }
+}
+
+impl Principals {
+    /// No principals. It takes no memory.
+    pub fn new(alloc: Global) -> Principals
+        ensures { result ≡ [] }
+    {
+        Principals {
+            items: Vec::new(alloc),
+        }
+    }
+
+    /// Adds a principal at the end. `Bound` exactly where there are 64 or one has its name, `Memory` where there was
+    /// none for it; an `Err` changes nothing.
+    pub fn push(&mut self, item: Principal) -> Result<(), ListError>
+        ensures ok { OnOk result (self.new ≡ self.old ++ item ∷ []) }
+        ensures bound { (result ≡ Err ListError.Bound) ↔ ¬ ArePrincipals (self.old ++ item ∷ []) }
+        ensures err { OnErr result (self.new ≡ self.old) }
+    {
+        if !takes_principal(self.items.as_slice(), &item) {
+            return Err(ListError::Bound);
+        }
+        match self.items.push(item) {
+            Ok(()) => Ok(()),
+            Err(_) => Err(ListError::Memory),
+        }
+    }
+
+    /// How many principals there are: at most 64.
+    pub fn count(&self) -> u64
+        ensures count { result ≡ length self.now }
+        ensures bound { result ≤ 64 }
+    {
+        self.items.len() as u64
+    }
+
+    /// The principal with this number, from 0. None exactly where there is none.
+    pub fn get(&self, number: u64) -> Option<&Principal>
+        ensures { option_copied result ≡ slice_get self.now number }
+    {
+        if number < self.count() {
+            Some(&self.items[number as usize])
+        } else {
+            None
+        }
+    }
+
+    /// The principals as a slice.
+    pub fn as_slice(&self) -> &[Principal]
+        ensures { result.now ≡ self.now }
+    {
+        self.items.as_slice()
+    }
+
+    /// The name of the principal with this number.
+    pub fn name(&self, number: u32) -> &Name
+        requires { number < length self.now }
+        ensures { result.now ≡ name_of self.now number }
+    {
+        &self.items[number as usize].name
+    }
+
+    /// The number of the principal with this name. None exactly where nobody has it.
+    pub fn number_of(&self, name: &Name) -> Option<u32>
+        ensures number { result ≡ numbered self.now name.now }
+        ensures within { IfSome result (λ p. p < length self.now) }
+    {
+        match place_of(self.items.as_slice(), name) {
+            Some(place) => Some(place as u32),
+            None => None,
+        }
+    }
+
+    /// The number of the principal with this name and this secret. None exactly where nobody has both.
+    pub fn admit(&self, name: &Name, secret: &Secret) -> Option<u32>
+        ensures number { result ≡ admitted self.now name.now secret.now }
+        ensures within { IfSome result (λ p. p < length self.now) }
+    {
+        match place_with(self.items.as_slice(), name, secret) {
+            Some(place) => Some(place as u32),
+            None => None,
+        }
+    }
+
+    /// A copy of the principals. An `Err` says that there was no memory for it.
+    pub fn copy(&self, alloc: Global) -> Result<Principals, AllocError>
+        ensures { IfOk result (λ copy. copy ≡ self.now) }
+    {
+        let mut items = Vec::new(alloc);
+        for item in &self.items {
+            items.push(item.copy(alloc)?)?;
+        }
+        Ok(Principals { items })
+    }
+}
+
+// The place of the principal with this name.
+fn place_of(items: &[Principal], name: &Name) -> Option<usize>
+    ensures place { result ≡ numbered items.now name.now }
+    ensures within { IfSome result (λ p. p < length items.now) }
+{
+    items.iter().position(|item| *name == item.name)
+}
+
+// The place of the principal with this name and this secret.
+fn place_with(items: &[Principal], name: &Name, secret: &Secret) -> Option<usize>
+    ensures place { result ≡ admitted items.now name.now secret.now }
+    ensures within { IfSome result (λ p. p < length items.now) }
+{
+    items.iter().position(|item| *name == item.name && secret.as_slice() == item.secret.as_slice())
+}
+
+// Whether the principals may have this one more.
+fn takes_principal(items: &[Principal], item: &Principal) -> bool
+    requires { ArePrincipals items.now }
+    ensures { IsTrue result ↔ ArePrincipals (items.now ++ item.now ∷ []) }
+{
+    if items.len() >= 64 {
+        return false;
+    }
+    match place_of(items, &item.name) {
+        Some(_) => false,
+        None => true,
+    }
+}
+
+// Whether one of the authorities has this port.
+fn is_port_of(items: &[Authority], port: u64) -> bool
+    ensures { result ≡ list_any (λ a. nat_eq port a.port) items.now }
+{
+    items.iter().any(|item| port == item.port)
+}
+
+// Whether the authorities may have this one more.
+fn takes_authority(items: &[Authority], item: &Authority) -> bool
+    requires { AreAuthorities items.now }
+    ensures { IsTrue result ↔ AreAuthorities (items.now ++ item.now ∷ []) }
+{
+    if items.len() >= 16 {
+        return false;
+    }
+    if !is_formed(item) {
+        return false;
+    }
+    !is_port_of(items, item.port)
+}
+
+// Whether the port is one of 0 to 15, and the address has its form.
+fn is_formed(item: &Authority) -> bool
+    ensures { IsTrue result ↔ IsAuthority item.now }
+{
+    item.port < 16 && is_secret(item.address.as_slice())
+}
+
+impl Authority {
+    /// A copy of the authority. An `Err` says that there was no memory for it.
+    pub fn copy(&self, alloc: Global) -> Result<Authority, AllocError>
+        ensures { IfOk result (λ copy. copy ≡ self.now) }
+    {
+        Ok(Authority {
+            port: self.port,
+            address: Bytes::of(alloc, self.address.as_slice())?,
+        })
+    }
+}
+
+impl Authorities {
+    /// No authorities. It takes no memory.
+    pub fn new(alloc: Global) -> Authorities
+        ensures { result ≡ [] }
+    {
+        Authorities {
+            items: Vec::new(alloc),
+        }
+    }
+
+    /// Adds an authority at the end. `Bound` exactly where there are 16, one has its port, the port is over 15, or the
+    /// address has not the form; `Memory` where there was none for it. An `Err` changes nothing.
+    pub fn push(&mut self, item: Authority) -> Result<(), ListError>
+        ensures ok { OnOk result (self.new ≡ self.old ++ item ∷ []) }
+        ensures bound { (result ≡ Err ListError.Bound) ↔ ¬ AreAuthorities (self.old ++ item ∷ []) }
+        ensures err { OnErr result (self.new ≡ self.old) }
+    {
+        if !takes_authority(self.items.as_slice(), &item) {
+            return Err(ListError::Bound);
+        }
+        match self.items.push(item) {
+            Ok(()) => Ok(()),
+            Err(_) => Err(ListError::Memory),
+        }
+    }
+
+    /// How many authorities there are: at most 16.
+    pub fn count(&self) -> u64
+        ensures count { result ≡ length self.now }
+        ensures bound { result ≤ 16 }
+    {
+        self.items.len() as u64
+    }
+
+    /// The authority at a place, from 0. None exactly where there is none.
+    pub fn get(&self, place: u64) -> Option<&Authority>
+        ensures { option_copied result ≡ slice_get self.now place }
+    {
+        if place < self.count() {
+            Some(&self.items[place as usize])
+        } else {
+            None
+        }
+    }
+
+    /// Whether an authority has this port.
+    pub fn has_port(&self, port: u64) -> bool
+        ensures { result ≡ list_any (λ a. nat_eq port a.port) self.now }
+    {
+        is_port_of(self.items.as_slice(), port)
+    }
+
+    /// A copy of the authorities. An `Err` says that there was no memory for it.
+    pub fn copy(&self, alloc: Global) -> Result<Authorities, AllocError>
+        ensures { IfOk result (λ copy. copy ≡ self.now) }
+    {
+        let mut items = Vec::new(alloc);
+        for item in &self.items {
+            items.push(item.copy(alloc)?)?;
+        }
+        Ok(Authorities { items })
+    }
+}
+
+impl Head {
+    /// A copy of the head. An `Err` says that there was no memory for it.
+    pub fn copy(&self, alloc: Global) -> Result<Head, AllocError>
+        ensures { IfOk result (λ copy. copy ≡ self.now) }
+    {
+        Ok(Head {
+            principals: self.principals.copy(alloc)?,
+            authorities: self.authorities.copy(alloc)?,
+        })
+    }
+}
