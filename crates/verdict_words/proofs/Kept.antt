@@ -1,5 +1,5 @@
 -- The rule is kept where one seat's view changes, and the words with it.
-use Rattle.std.proofs.Common.{◌≡◌, ◌≢◌, ℕ, ◌+◌, ◌<◌, ◌≤◌, List, [], ◌∷◌, ◌++◌, take, set, get_or, refl, sym, ap, ◌∙◌, subst, inl, inr, ⊎_elim, arith, length-set, get_or-set_other, get_or-set_same, Bool, true, false, true≢false}
+use Rattle.std.proofs.Common.{◌≡◌, ◌≢◌, ℕ, zero, suc, ◌+◌, ◌<◌, ◌≤◌, List, [], ◌∷◌, ◌++◌, length, take, set, get_or, refl, sym, ap, ◌∙◌, subst, inl, inr, ⊎_elim, arith, length-set, get_or-set_other, get_or-set_same, Bool, true, false, true≢false}
 use Rattle.std.specs.Prelude.{All}
 use Rattle.std.proofs.lemmas.List.Elements.{All-append, All-cons, All-nil}
 use mathlib.Core.Logic.{dite}
@@ -9,10 +9,10 @@ use native.Mathlib.Decide.{ℕ_discrete}
 use lib.ListN.{get_elem?}
 use lib.Seq.{set-get_or}
 use Rattle.atomic_table.specs.Table.{State}
-use Rattle.atomic_table.proofs.Lists.{at_set, set_else}
+use Rattle.atomic_table.proofs.Lists.{at_set, set_here, set_else}
 use Rattle.verdict_words.specs.Histories.{IsPrefix, Untouched}
 use Rattle.verdict_words.specs.Words.{Sound, object_region, store_region}
-use Rattle.verdict_words.specs.Rule.{met_after, last_met, IsLoaded, IsLoading, PassOk, RegionOk, WordsOk, ViewOk, IsKept}
+use Rattle.verdict_words.specs.Rule.{met_after, last_met, Stepped, IsLoaded, IsLoading, PassOk, RegionOk, WordsOk, ViewOk, HasPass, IsKept}
 use Rattle.verdict_words.specs.declared.places.Held.{Held}
 use Rattle.verdict_words.specs.declared.views.Origin.{Origin}
 use Rattle.verdict_words.specs.declared.views.Item.{Item}
@@ -24,6 +24,7 @@ use Rattle.verdict_words.specs.declared.views.BookView.{BookView}
 use Rattle.verdict_words.specs.declared.views.View.{View}
 use Rattle.verdict_words.specs.declared.views.View.TheVariants.{Book, Pass, Spent}
 use Rattle.verdict_words.proofs.Growing.{prefix_whole, prefix_length, prefix_take}
+use Rattle.verdict_words.proofs.Working.{put, put_here, put_else, Works}
 
 pub met_append : (n : ℕ) (xs ys : List Item) → met_after n (xs ++ ys) ≡ met_after (met_after n xs) ys
 met_append n [] ys = refl
@@ -38,6 +39,11 @@ All-with P Q xs f all k d lt = f _ (all k d lt)
 pub All-snoc : {X : Type 0} (P : X → Type 0) (xs : List X) (x : X) → All P xs → P x → All P (xs ++ x ∷ [])
 All-snoc P xs x all last = All-append P xs (x ∷ []) all (All-cons P x [] last (All-nil P))
 
+pub there_below : {A : Type 0} (l : List A) (i : ℕ) (a : A) → get_elem? l i ≡ some a → i < length l
+there_below [] i a e = absurd (maybe.some-ne-none a (sym e))
+there_below (x ∷ xs) zero a e = omega arith
+there_below (x ∷ xs) (suc i) a e = let h = there_below xs i a e in omega arith
+
 module _ {E H : Type 0} where
   abbrev is_book : maybe.Option (View E H) → Bool
   is_book none = false
@@ -47,6 +53,15 @@ module _ {E H : Type 0} where
 
   pub apart : (x : maybe.Option (View E H)) (b : BookView E H) (p : PassView E H) → x ≡ some (Book b) → x ≡ some (Pass p) → ⊥
   apart x b p e f = true≢false (sym (ap is_book e) ∙ ap is_book f)
+
+  abbrev pass_or : PassView E H → maybe.Option (View E H) → PassView E H
+  pass_or d none = d
+  pass_or d (some (Book b)) = d
+  pass_or d (some (Pass p)) = p
+  pass_or d (some Spent) = d
+
+  pub view_once : (p q : PassView E H) → some (Pass p) ≡ some (Pass q) → p ≡ q
+  view_once p q e = ap (pass_or p) e
 
   -- a property of each seat's view, where one changes
   pub each_set : (K : ℕ → View E H → Type 0) (vs : List (View E H)) (me : ℕ) (w : View E H) → K me w → ((j : ℕ) (v : View E H) → j ≢ me → get_elem? vs j ≡ some v → K j v)
@@ -89,22 +104,57 @@ module _ {E H : Type 0} (session : E → ℕ) (right : List E → ℕ → Held �
   W = WordsOk right touches
 
   -- what is known of the pass of a seat
-  pub known_pass : (s : St) (k : K s) (id : ℕ) (p : PassView E H) → get_elem? s.views id ≡ some (Pass p) → (k.holder p.session ≡ id) × P k.book p
+  pub known_pass : (s : St) (k : K s) (id : ℕ) (p : PassView E H) → get_elem? s.views id ≡ some (Pass p) → (k.holder p.session ≡ id) × (k.trails p.session ≡ p.trail) × P k.book p
   known_pass s k id p at = k.views_ok id (Pass p) at
+
+  abbrev V : BookView E H → ℕ → (ℕ → ℕ) → (ℕ → List Item) → ℕ → View E H → Type 0
+  V = ViewOk session right touches o
+
+  -- what is known of the view of another seat, where one session's trail changes
+  other_trail : (b : BookView E H) (seat : ℕ) (holder : ℕ → ℕ) (trails : ℕ → List Item) (n : ℕ) (trail : List Item) (j : ℕ) (v : View E H) → j ≢ holder n → V b seat holder trails j v → V b seat holder (put trails n trail) j v
+  other_trail b seat holder trails n trail j (Book d) ne ok = ok
+  other_trail b seat holder trails n trail j (Pass p) ne ok = (ok.0, put_else trails n trail p.session (λ e. ne (sym ok.0 ∙ ap holder e)) ∙ ok.1, ok.2)
+  other_trail b seat holder trails n trail j Spent ne ok = tt
+
+  -- a session has a pass, also where a pass makes a step
+  stays_present : (views : List (View E H)) (held : List (PassView E H)) (j n id : ℕ) (p q : PassView E H) → get_elem? views id ≡ some (Pass p) → q.session ≡ p.session
+      → HasPass views held j n → HasPass (set views id (Pass q)) held j n
+  stays_present views held j n id p q at same (r, is, inr in_held) = (r, is, inr in_held)
+  stays_present views held j n id p q at same (r, is, inl there) = dite (ℕ_discrete j id)
+      (λ e. let one : p ≡ r = view_once p r (sym at ∙ (ap (get_elem? views) (sym e) ∙ there)) in
+      (q, same ∙ (ap (λ (z : PassView E H). z.session) one ∙ is), inl (ap (get_elem? (set views id (Pass q))) e ∙ set_here views id (Pass q) (there_below views id (Pass p) at))))
+      (λ ne. (r, is, inl (set_else views id j (Pass q) ne ∙ there)))
+
+  -- and where one session's pass moves
+  pub other_holder : (b : BookView E H) (seat : ℕ) (holder : ℕ → ℕ) (trails : ℕ → List Item) (n x : ℕ) (j : ℕ) (v : View E H) → j ≢ holder n → V b seat holder trails j v → V b seat (put holder n x) trails j v
+  other_holder b seat holder trails n x j (Book d) ne ok = ok
+  other_holder b seat holder trails n x j (Pass p) ne ok = (put_else holder n x p.session (λ e. ne (sym ok.0 ∙ ap holder e)) ∙ ok.0, ok.1, ok.2)
+  other_holder b seat holder trails n x j Spent ne ok = tt
 
   -- a step of a pass
   pub pass_step : (s : St) (k : K s) (id : ℕ) (p q : PassView E H) → get_elem? s.views id ≡ some (Pass p) → q.session ≡ p.session → P k.book q
-      → (words : List ℕ) → W k.book words → K record { words = words; homes = s.homes; views = set s.views id (Pass q) }
-  pass_step s k id p q at same ok words words_ok = record {
-    seat = k.seat;
-    book = k.book;
-    holder = k.holder;
-    place = set_else s.views id k.seat (Pass q) (λ e. apart (get_elem? s.views k.seat) k.book p k.place (ap (get_elem? s.views) e ∙ at)) ∙ k.place;
-    book_ok = k.book_ok;
-    words_ok = words_ok;
-    views_ok = each_set (ViewOk session right touches o k.book k.seat k.holder) s.views id (Pass q) (ap k.holder same ∙ (known_pass s k id p at).0, ok) (λ j v _ e. k.views_ok j v e);
-    held_ok = k.held_ok;
-  }
+      → (words : List ℕ) → W k.book words → (steps : ℕ → List Stepped) → Works o.first k.book.next (put k.trails p.session q.trail) words steps
+      → K record { words = words; homes = s.homes; views = set s.views id (Pass q) }
+  pass_step s k id p q at same ok words words_ok steps works =
+      let known = known_pass s k id p at in
+      let seat_apart : k.seat ≢ id = λ e. apart (get_elem? s.views k.seat) k.book p k.place (ap (get_elem? s.views) e ∙ at) in record {
+        seat = k.seat;
+        book = k.book;
+        holder = k.holder;
+        trails = put k.trails p.session q.trail;
+        steps = steps;
+        place = set_else s.views id k.seat (Pass q) seat_apart ∙ k.place;
+        book_ok = k.book_ok;
+        words_ok = words_ok;
+        works_ok = works;
+        views_ok = each_set (V k.book k.seat k.holder (put k.trails p.session q.trail)) s.views id (Pass q)
+            (ap k.holder same ∙ known.0, ap (put k.trails p.session q.trail) same ∙ put_here k.trails p.session q.trail, ok)
+            (λ j v ne e. other_trail k.book k.seat k.holder k.trails p.session q.trail j v (λ z. ne (z ∙ known.0)) (k.views_ok j v e));
+        held_ok = All-with (λ h. V k.book k.seat k.holder k.trails k.seat (Pass h)) (λ h. V k.book k.seat k.holder (put k.trails p.session q.trail) k.seat (Pass h)) k.book.held
+            (λ h. other_trail k.book k.seat k.holder k.trails p.session q.trail k.seat (Pass h) (λ z. seat_apart (z ∙ known.0))) k.held_ok;
+        apart = k.apart;
+        present = λ n low high. stays_present s.views k.book.held (k.holder n) n id p q at same (k.present n low high);
+      }
 
   -- the words after a load
   pub words_loaded : (book : BookView E H) (words : List ℕ) (i : ℕ) → W book words → W book (set words i (get_or words i 0))

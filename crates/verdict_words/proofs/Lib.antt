@@ -1,3 +1,5 @@
+pub mod Working
+pub mod AtHome
 pub mod Answering
 pub mod Growing
 pub mod Kept
@@ -6,5 +8,7 @@ pub mod PassSteps
 pub mod BookKept
 pub mod Seated
 pub mod Meetings
+pub mod Settled
+pub mod Together
 pub mod Opening
-pub mod LastMet
+pub mod ForCallers

@@ -1,59 +1,39 @@
 -- What a look knows after each of its loads, and why a hit is right.
-use Rattle.std.proofs.Common.{◌≡◌, ℕ, ◌+◌, ◌*◌, ◌<◌, ◌≤◌, List, [], ◌∷◌, ◌++◌, length, take, refl, sym, ap, ◌∙◌, subst, inl, inr, arith, Option, Some}
+use Rattle.std.proofs.Common.{◌≡◌, ℕ, ◌+◌, ◌-◌, ◌*◌, ◌<◌, ◌≤◌, List, [], ◌∷◌, ◌++◌, length, take, refl, sym, ◌∙◌, subst, inl, inr, arith, Option, Some}
+use Rattle.atomic_table.specs.Table.{Me, step}
 use mathlib.Core.Option.{none}
-use Rattle.atomic_table.specs.Table.{Me, Step, step}
 use Rattle.verdict_words.specs.Histories.{IsPrefix, Untouched}
-use Rattle.verdict_words.specs.Words.{slot_word, most_entries, Sound, Spells, IsSlot, object_region, store_region}
-use Rattle.verdict_words.specs.Steps.{loaded_slot, loaded_count, loaded_object, loaded_store, counted, with_object, with_store, SlotSound, ObjectStill, StoreStill}
-use Rattle.verdict_words.specs.Values.{Identity, PassValue, seen_of, trail_of}
-use Rattle.verdict_words.specs.declared.views.Origin.{Origin}
+use Rattle.verdict_words.specs.Words.{region_word, most_entries, Sound, Spells, IsSlot, object_region, store_region}
+use Rattle.verdict_words.specs.Steps.{On, ForSlot, ForCount, ForObject, ran, loaded_slot, loaded_count, loaded_object, loaded_store}
+use Rattle.verdict_words.specs.declared.views.RegisterStep.{RegisterStep}
 use Rattle.verdict_words.specs.Answers.{IsAnswer, HitIsRight}
 use Rattle.verdict_words.specs.declared.places.Held.{Held}
 use Rattle.verdict_words.specs.declared.places.CasePlace.{CasePlace}
 use Rattle.verdict_words.specs.declared.places.Look.{Look}
 use Rattle.verdict_words.specs.declared.places.Look.TheVariants.{Hit, Miss}
 use Rattle.verdict_words.specs.declared.views.Item.{Item}
-use Rattle.verdict_words.specs.declared.views.Item.TheVariants.{Loaded}
+use Rattle.verdict_words.specs.declared.views.Item.TheVariants.{Loaded, Ran}
 use Rattle.verdict_words.specs.declared.views.Loading.TheVariants.{Nothing, Slot, Count, Object}
 use Rattle.verdict_words.specs.declared.views.PassView.{PassView}
 use Rattle.verdict_words.specs.declared.views.View.{View}
 use Rattle.verdict_words.specs.declared.views.View.TheVariants.{Pass}
 use Rattle.verdict_words.specs.Steps.{stored_slot}
 use Rattle.verdict_words.specs.declared.views.Item.TheVariants.{Filled}
-use Rattle.verdict_words.specs.declared.views.Loading.{Loading}
 use Rattle.verdict_words.proofs.Growing.{each_later}
-use Rattle.verdict_words.proofs.PassSteps.{slot_is, filled_is}
-
-abbrev any : Step (Unit {0})
-any = step 0 0 0 0 none
 
 module _ {E H : Type 0} where
-  pub after_slot : (m m' : Me (Unit {0}) (View E H)) (p : PassView E H) (said : Option CasePlace) (place : CasePlace) (found : ℕ) → m ≡ (Pass p, []) → said ≡ Some place
-      → loaded_slot said (step 0 (slot_word place.case) 0 0 none) m found m' → m' ≡ (Pass (record p { loading = Slot place found }), [])
-  after_slot m m' p said place found is told saw = subst (λ (z : Me (Unit {0}) (View E H)). loaded_slot said (step 0 (slot_word place.case) 0 0 none) z found m') is saw ∙ ap (λ (l : Loading). (Pass (record p { loading = l }), [])) (slot_is said place found told)
+  pub after_slot : (word operand : ℕ) (m m' : Me (Unit {0}) (View E H)) (p : PassView E H) (said : Option CasePlace) (place : CasePlace) (found : ℕ) → m ≡ (Pass p, []) → said ≡ Some place
+      → loaded_slot said (step 0 word operand 0 none) m found m' → m' ≡ (Pass (record p { loading = Slot place found }), [])
+  after_slot word operand m m' p said place found is told saw = (subst (λ (z : Me (Unit {0}) (View E H) × Option CasePlace). loaded_slot z.1 (step 0 word operand 0 none) z.0 found m') (λ i. (is i, told i)) saw).1
 
-  pub after_store : (m m' : Me (Unit {0}) (View E H)) (p : PassView E H) (said : Option Item) (case at : ℕ) (held : Held) → m ≡ (Pass p, []) → said ≡ Some (Filled case at held)
-      → stored_slot said (step 0 (slot_word case) 0 0 none) m 0 m' → m' ≡ (Pass (record p { trail = p.trail ++ Filled case at held ∷ [] }), [])
-  after_store m m' p said case at held is told saw = subst (λ (z : Me (Unit {0}) (View E H)). stored_slot said (step 0 (slot_word case) 0 0 none) z 0 m') is saw ∙ ap (λ (l : List Item). (Pass (record p { trail = l }), [])) (filled_is said case at held p.trail told)
+  pub after_store : (word operand : ℕ) (m m' : Me (Unit {0}) (View E H)) (p : PassView E H) (said : Option Item) (case at : ℕ) (held : Held) → m ≡ (Pass p, []) → said ≡ Some (Filled case at held)
+      → stored_slot said (step 0 word operand 0 none) m 0 m' → m' ≡ (Pass (record p { trail = p.trail ++ Filled case at held ∷ [] }), [])
+  after_store word operand m m' p said case at held is told saw = (subst (λ (z : Me (Unit {0}) (View E H) × Option Item). stored_slot z.1 (step 0 word operand 0 none) z.0 0 m') (λ i. (is i, told i)) saw).1
 
-  -- the value of the pass after a step that adds an item to its trail
-  pub item_value : (old : PassValue E H) (board : Identity E H) (session : ℕ) (m : Me (Unit {0}) (View E H)) (origin : Origin E H) (seen : List E) (trail : List Item) (item : Item)
-      → record { board = board; session = session; seen = seen; trail = trail } ≡ old
-      → m ≡ (Pass record { origin = origin; session = session; seen = seen; trail = trail ++ item ∷ []; loading = Nothing }, [])
-      → record { board = board; session = session; seen = seen_of m.0; trail = trail_of m.0 } ≡ record old { trail = old.trail ++ item ∷ [] }
-  item_value old board session m origin seen trail item view is =
-      (λ i. record { board = board; session = session; seen = seen_of (is i).0; trail = trail_of (is i).0 }) ∙ (λ i. record (view i) { trail = (view i).trail ++ item ∷ [] })
-
-  -- the value of the pass after a look
-  pub look_value : (old : PassValue E H) (board : Identity E H) (session : ℕ) (m : Me (Unit {0}) (View E H)) (origin : Origin E H) (before seen : List E) (trail : List Item) (place : CasePlace) (slot count object store : ℕ)
-      → record { board = board; session = session; seen = before; trail = trail } ≡ old
-      → m ≡ (Pass record { origin = origin; session = session; seen = seen; trail = trail ++ Loaded place slot count object store ∷ []; loading = Nothing }, []) → length seen ≡ count
-      → record { board = board; session = session; seen = seen_of m.0; trail = trail_of m.0 } ≡ record old { seen = seen_of m.0; trail = old.trail ++ Loaded place slot (length (seen_of m.0)) object store ∷ [] }
-  look_value old board session m origin before seen trail place slot count object store view is long =
-      let told : trail_of m.0 ≡ trail ++ Loaded place slot count object store ∷ [] = ap (λ (z : Me (Unit {0}) (View E H)). trail_of z.0) is in
-      let n : count ≡ length (seen_of m.0) = sym long ∙ ap length (sym (ap (λ (z : Me (Unit {0}) (View E H)). seen_of z.0) is)) in
-      let both = told ∙ ap (λ k. trail ++ Loaded place slot k object store ∷ []) n in
-      (λ i. record { board = board; session = session; seen = seen_of m.0; trail = both i }) ∙ (λ i. record (view i) { seen = seen_of m.0; trail = (view i).trail ++ Loaded place slot (length (seen_of m.0)) object store ∷ [] })
+  pub after_run : (word operand : ℕ) (m m' : Me (Unit {0}) (View E H)) (p : PassView E H) (kind : RegisterStep) (object found : ℕ) → word ≡ 4097 + object → m ≡ (Pass p, [])
+      → ran kind (step 0 word operand 0 none) m found m' → m' ≡ (Pass (record p { trail = p.trail ++ Ran object kind found ∷ [] }), [])
+  after_run word operand m m' p kind object found at_word is saw = let same : word - 4097 ≡ object = omega (arith, at_word) in
+      (subst (λ (z : Me (Unit {0}) (View E H)). ran kind (step 0 word operand 0 none) z found m') is saw).3 ∙ (λ i. (Pass (record p { trail = p.trail ++ Ran (same i) kind found ∷ [] }), []))
 
   module _ (right : H → List E → ℕ → Held → Type 0) (touches : H → List E → E → ℕ → Type 0) where
     pub record Counted (m' : Me (Unit {0}) (View E H)) (p : PassView E H) (place : CasePlace) (slot found : ℕ) : Type 0 where
@@ -64,27 +44,27 @@ module _ {E H : Type 0} where
       pub short : found ≤ most_entries
       pub sound : Sound (right p.origin.setting) seen slot
 
-    pub after_count : (m m' : Me (Unit {0}) (View E H)) (p : PassView E H) (place : CasePlace) (slot found : ℕ) → m ≡ (Pass p, []) → p.loading ≡ Slot place slot
-        → loaded_count right touches any m found m' → Counted m' p place slot found
-    after_count m m' p place slot found is loads saw = let t = subst (λ (z : Me (Unit {0}) (View E H)). loaded_count right touches any z found m') is saw in record {
-      seen = t.0;
-      view = t.1 ∙ (λ i. (Pass (record p { seen = t.0; loading = counted (loads i) found }), []));
-      grows = t.2;
-      long = t.3;
-      short = t.4;
-      sound = subst (SlotSound right touches p.origin.setting t.0) loads t.5;
-    }
+    pub after_count : (word operand : ℕ) (m m' : Me (Unit {0}) (View E H)) (p : PassView E H) (place : CasePlace) (slot found : ℕ) → m ≡ (Pass p, []) → p.loading ≡ Slot place slot
+        → loaded_count right touches (step 0 word operand 0 none) m found m' → Counted m' p place slot found
+    after_count word operand m m' p place slot found is loads saw =
+        let t = subst (λ l. ForSlot l (λ x y. (seen : List E) × (m' ≡ (Pass (record p { seen = seen; loading = Count x y found }), [])) × IsPrefix p.seen seen × (length seen ≡ found) × (found ≤ most_entries) × Sound (right p.origin.setting) seen y)) loads
+        (subst (λ (z : Me (Unit {0}) (View E H)). loaded_count right touches (step 0 word operand 0 none) z found m') is saw).1 in
+        record { seen = t.0; view = t.1; grows = t.2; long = t.3; short = t.4; sound = t.5 }
 
-    pub after_object : (m m' : Me (Unit {0}) (View E H)) (p : PassView E H) (place : CasePlace) (slot count found : ℕ) → m ≡ (Pass p, []) → p.loading ≡ Count place slot count
-        → loaded_object right touches any m found m' → (m' ≡ (Pass (record p { loading = Object place slot count found }), [])) × Untouched (touches p.origin.setting) p.seen found (object_region place.object)
-    after_object m m' p place slot count found is loads saw = let t = subst (λ (z : Me (Unit {0}) (View E H)). loaded_object right touches any z found m') is saw in
-        (t.0 ∙ (λ i. (Pass (record p { loading = with_object (loads i) found }), [])), subst (ObjectStill right touches p.origin.setting p.seen found) loads t.1)
+    pub after_object : (word operand : ℕ) (m m' : Me (Unit {0}) (View E H)) (p : PassView E H) (place : CasePlace) (slot count found : ℕ) → m ≡ (Pass p, []) → p.loading ≡ Count place slot count
+        → loaded_object right touches (step 0 word operand 0 none) m found m' → (m' ≡ (Pass (record p { loading = Object place slot count found }), [])) × Untouched (touches p.origin.setting) p.seen found (object_region place.object)
+    after_object word operand m m' p place slot count found is loads saw =
+        let t = subst (λ l. ForCount l (λ x y z. On (step 0 word operand 0 none) (region_word (object_region x.object)) 0 × (m' ≡ (Pass (record p { loading = Object x y z found }), [])) × Untouched (touches p.origin.setting) p.seen found (object_region x.object))) loads
+        (subst (λ (z : Me (Unit {0}) (View E H)). loaded_object right touches (step 0 word operand 0 none) z found m') is saw) in
+        (t.1, t.2)
 
-    pub after_look : (m m' : Me (Unit {0}) (View E H)) (p : PassView E H) (place : CasePlace) (slot count object found : ℕ) → m ≡ (Pass p, []) → p.loading ≡ Object place slot count object
-        → loaded_store right touches any m found m'
+    pub after_look : (word operand : ℕ) (m m' : Me (Unit {0}) (View E H)) (p : PassView E H) (place : CasePlace) (slot count object found : ℕ) → m ≡ (Pass p, []) → p.loading ≡ Object place slot count object
+        → loaded_store right touches (step 0 word operand 0 none) m found m'
         → (m' ≡ (Pass (record p { trail = p.trail ++ Loaded place slot count object found ∷ []; loading = Nothing }), [])) × Untouched (touches p.origin.setting) p.seen found (store_region place.store)
-    after_look m m' p place slot count object found is loads saw = let t = subst (λ (z : Me (Unit {0}) (View E H)). loaded_store right touches any z found m') is saw in
-        (t.0 ∙ (λ i. (Pass (record p { trail = with_store (loads i) found p.trail; loading = Nothing }), [])), subst (StoreStill right touches p.origin.setting p.seen found) loads t.1)
+    after_look word operand m m' p place slot count object found is loads saw =
+        let t = subst (λ l. ForObject l (λ x y z u. On (step 0 word operand 0 none) (region_word (store_region x.store)) 0 × (m' ≡ (Pass (record p { trail = p.trail ++ Loaded x y z u found ∷ []; loading = Nothing }), [])) × Untouched (touches p.origin.setting) p.seen found (store_region x.store))) loads
+        (subst (λ (z : Me (Unit {0}) (View E H)). loaded_store right touches (step 0 word operand 0 none) z found m') is saw) in
+        (t.1, t.2)
 
 -- a word spells one case, one point and one verdict
 digits : (f l c k v f' l' c' k' v' : ℕ) → v < 1048576 → v' < 1048576 → k < 1048576 → k' < 1048576 → c < 16 → c' < 16 → l < 4096 → l' < 4096

@@ -1,9 +1,9 @@
--- What each atomic step does to what a seat knows, and what it tells.
-use Rattle.std.specs.Prelude.{cond, ◌≡◌, ℕ, ◌+◌, ◌-◌, ◌≤◌, ◌==◌, not, List, [], ◌∷◌, ◌++◌, length, filter, Option, Some, None}
+-- What each atomic step is, and what it does to what a seat knows.
+use Rattle.std.specs.Prelude.{◌≡◌, ◌≢◌, ℕ, ◌+◌, ◌-◌, ◌<◌, ◌≤◌, ◌==◌, not, List, [], ◌∷◌, ◌++◌, length, filter, All, Option, Some, None}
 use Rattle.atomic_table.specs.Table.{Me, Step}
 use Rattle.verdict_words.specs.Histories.{IsPrefix, Untouched}
-use Rattle.verdict_words.specs.Words.{slot_word, most_entries, object_region, store_region, Sound}
-use Rattle.verdict_words.specs.Rule.{PassOk}
+use Rattle.verdict_words.specs.Words.{slot_word, register_word, region_word, most_entries, object_region, store_region, spelling, Sound}
+use Rattle.verdict_words.specs.Rule.{Stepped, Replays, IsPart, AreOf, PassOk}
 use Rattle.verdict_words.specs.declared.places.Held.{Held}
 use Rattle.verdict_words.specs.declared.places.CasePlace.{CasePlace}
 use Rattle.verdict_words.specs.declared.views.Item.{Item}
@@ -17,55 +17,69 @@ use Rattle.verdict_words.specs.declared.views.BookView.{BookView}
 use Rattle.verdict_words.specs.declared.views.View.{View}
 use Rattle.verdict_words.specs.declared.views.View.TheVariants.{Book, Pass, Spent}
 
--- the sessions but this one
-abbrev pub without : ℕ → List ℕ → List ℕ
-without s lag = filter (λ x. not (x == s)) lag
-
--- the trail after a slot was stored, as the item says: it is the slot of the item's case
-abbrev pub filled : Option Item → ℕ → List Item → List Item
-filled (Some (Filled case at held)) word trail = cond (word == slot_word case) (trail ++ Filled case at held ∷ []) trail
-filled (Some (Loaded place slot count object store)) word trail = trail
-filled (Some (Met n)) word trail = trail
-filled (Some (Ran object step value)) word trail = trail
-filled None word trail = trail
-
--- a slot was loaded, for the place that is said: it is the slot of the place's case
-abbrev pub slot_loading : Option CasePlace → ℕ → ℕ → Loading
-slot_loading (Some place) word slot = cond (word == slot_word place.case) (Slot place slot) Nothing
-slot_loading None word slot = Nothing
-
--- the count was loaded
-abbrev pub counted : Loading → ℕ → Loading
-counted (Slot place slot) n = Count place slot n
-counted Nothing n = Nothing
-counted (Count place slot count) n = Nothing
-counted (Object place slot count object) n = Nothing
-
--- the object's region was loaded
-abbrev pub with_object : Loading → ℕ → Loading
-with_object (Count place slot count) object = Object place slot count object
-with_object Nothing object = Nothing
-with_object (Slot place slot) object = Nothing
-with_object (Object place slot count other) object = Nothing
-
--- the store's region was loaded: the look is finished
-abbrev pub with_store : Loading → ℕ → List Item → List Item
-with_store (Object place slot count object) store trail = trail ++ Loaded place slot count object store ∷ []
-with_store Nothing store trail = trail
-with_store (Slot place slot) store trail = trail
-with_store (Count place slot count) store trail = trail
+-- No step is silent: each definition of a step below says through `On` which word it is on and with which operand, and through one of the five after it of which kind the seat's view is; on another word, with another operand or by another seat it is not allowed
+abbrev pub On : Step (Unit {0}) → ℕ → ℕ → Type 0
+On st word operand = (st.word ≡ word) × (st.first ≡ operand) × (st.second ≡ 0)
 
 module _ {E H : Type 0} where
   abbrev pub ForPass : View E H → (PassView E H → Type 0) → Type 0
   ForPass (Pass p) F = F p
-  ForPass (Book b) F = Unit {0}
-  ForPass Spent F = Unit {0}
+  ForPass (Book b) F = ⊥
+  ForPass Spent F = ⊥
 
   abbrev pub ForBook : View E H → (BookView E H → Type 0) → Type 0
   ForBook (Book b) F = F b
-  ForBook (Pass p) F = Unit {0}
-  ForBook Spent F = Unit {0}
+  ForBook (Pass p) F = ⊥
+  ForBook Spent F = ⊥
 
+-- a look has loaded its slot
+abbrev pub ForSlot : Loading → (CasePlace → ℕ → Type 0) → Type 0
+ForSlot (Slot place slot) F = F place slot
+ForSlot Nothing F = ⊥
+ForSlot (Count place slot count) F = ⊥
+ForSlot (Object place slot count object) F = ⊥
+
+-- and then the count
+abbrev pub ForCount : Loading → (CasePlace → ℕ → ℕ → Type 0) → Type 0
+ForCount (Count place slot count) F = F place slot count
+ForCount Nothing F = ⊥
+ForCount (Slot place slot) F = ⊥
+ForCount (Object place slot count object) F = ⊥
+
+-- and then the region of the object
+abbrev pub ForObject : Loading → (CasePlace → ℕ → ℕ → ℕ → Type 0) → Type 0
+ForObject (Object place slot count object) F = F place slot count object
+ForObject Nothing F = ⊥
+ForObject (Slot place slot) F = ⊥
+ForObject (Count place slot count) F = ⊥
+
+-- what a step is told, beside its words
+abbrev pub ForSaid : {X : Type 0} → Option X → (X → Type 0) → Type 0
+ForSaid (Some x) F = F x
+ForSaid None F = ⊥
+
+-- that a verdict is kept
+abbrev pub ForFilled : Item → (ℕ → ℕ → Held → Type 0) → Type 0
+ForFilled (Filled case at held) F = F case at held
+ForFilled (Loaded place slot count object store) F = ⊥
+ForFilled (Met n) F = ⊥
+ForFilled (Ran object step value) F = ⊥
+
+-- the operand of a step on a register
+abbrev pub operand : RegisterStep → ℕ
+operand Read = 0
+operand (Write x) = x
+operand (Add x) = x
+
+-- the sessions but this one
+abbrev pub without : ℕ → List ℕ → List ℕ
+without s lag = filter (λ x. not (x == s)) lag
+
+-- what a step tells: of the step itself, the seat before, the number found (at a store, the number stored) and the seat after
+abbrev pub Told : Type 0 → Type 0 → Type 1
+Told E H = Step (Unit {0}) → Me (Unit {0}) (View E H) → ℕ → Me (Unit {0}) (View E H) → Type 0
+
+module _ {E H : Type 0} where
   -- the pass at its next step: the item stands last in its trail
   abbrev pub gained : Item → PassView E H → PassView E H
   gained item p = record p { trail = p.trail ++ item ∷ [] }
@@ -89,22 +103,33 @@ module _ {E H : Type 0} where
   admitted (Pass p) = Spent
   admitted Spent = Spent
 
+  -- what a pass knows goes to another seat
+  abbrev pub yielding : View E H → View E H
+  yielding (Pass p) = Spent
+  yielding (Book b) = Book b
+  yielding Spent = Spent
+
+  abbrev pub yielded : View E H → View E H
+  yielded (Pass p) = Pass p
+  yielded (Book b) = Spent
+  yielded Spent = Spent
+
   -- the book takes a pass in: it is the turn of its session
   abbrev pub receiving : View E H → View E H → View E H
-  receiving (Book b) (Pass p) = Book (record b { turn = p.session; held = Some p })
+  receiving (Book b) (Pass p) = Book (record b { turn = p.session; held = b.held ++ p ∷ [] })
   receiving (Book b) (Book c) = Book b
   receiving (Book b) Spent = Book b
   receiving (Pass p) w = Pass p
   receiving Spent w = Spent
 
-  -- the book without the pass that it holds, whose session no longer lags
-  abbrev pub released : BookView E H → Option (PassView E H) → BookView E H
-  released b (Some p) = record b { lag = without p.session b.lag; held = None }
-  released b None = b
+  -- the book without the first of the passes that it holds, whose session no longer lags
+  abbrev pub released : BookView E H → List (PassView E H) → BookView E H
+  released b (p ∷ ps) = record b { lag = without p.session b.lag; held = ps }
+  released b [] = b
 
-  abbrev pub returned : BookView E H → Option (PassView E H) → View E H
-  returned b (Some p) = Pass (met_pass b p)
-  returned b None = Spent
+  abbrev pub returned : BookView E H → List (PassView E H) → View E H
+  returned b (p ∷ ps) = Pass (met_pass b p)
+  returned b [] = Spent
 
   abbrev pub releasing : View E H → View E H
   releasing (Book b) = Book (released b b.held)
@@ -116,75 +141,62 @@ module _ {E H : Type 0} where
   returning (Pass p) = Spent
   returning Spent = Spent
 
-  -- the sight of a register step
-  abbrev pub ran : RegisterStep → Step (Unit {0}) → Me (Unit {0}) (View E H) → ℕ → Me (Unit {0}) (View E H) → Type 0
-  ran kind st m value m' = ForPass m.0 (λ p. m' ≡ (Pass (gained (Ran (st.word - 4097) kind value) p), m.1))
+  -- a step on a register
+  abbrev pub ran : RegisterStep → Told E H
+  ran kind st m value m' = On st st.word (operand kind) × (register_word 0 ≤ st.word) × (st.word < register_word 4096)
+      × ForPass m.0 (λ p. m' ≡ (Pass (gained (Ran (st.word - register_word 0) kind value) p), m.1))
 
-  abbrev pub has_read : Step (Unit {0}) → Me (Unit {0}) (View E H) → ℕ → Me (Unit {0}) (View E H) → Type 0
+  abbrev pub has_read : Told E H
   has_read st = ran Read st
 
-  abbrev pub has_written : Step (Unit {0}) → Me (Unit {0}) (View E H) → ℕ → Me (Unit {0}) (View E H) → Type 0
+  abbrev pub has_written : Told E H
   has_written st = ran (Write st.first) st
 
-  abbrev pub has_added : Step (Unit {0}) → Me (Unit {0}) (View E H) → ℕ → Me (Unit {0}) (View E H) → Type 0
+  abbrev pub has_added : Told E H
   has_added st = ran (Add st.first) st
 
-  abbrev pub loaded_slot : Option CasePlace → Step (Unit {0}) → Me (Unit {0}) (View E H) → ℕ → Me (Unit {0}) (View E H) → Type 0
-  loaded_slot said st m found m' = ForPass m.0 (λ p. m' ≡ (Pass (record p { loading = slot_loading said st.word found }), m.1))
+  -- the slot of the place that is said was loaded
+  abbrev pub loaded_slot : Option CasePlace → Told E H
+  loaded_slot said st m found m' = ForSaid said (λ place. On st (slot_word place.case) 0 × ForPass m.0 (λ p. m' ≡ (Pass (record p { loading = Slot place found }), m.1)))
 
-  -- a slot was stored, as the item says
-  abbrev pub stored_slot : Option Item → Step (Unit {0}) → Me (Unit {0}) (View E H) → ℕ → Me (Unit {0}) (View E H) → Type 0
-  stored_slot said st m found m' = ForPass m.0 (λ p. m' ≡ (Pass (record p { trail = filled said st.word p.trail }), m.1))
+  -- the slot of the case was stored, with what the item that is said spells
+  abbrev pub stored_slot : Option Item → Told E H
+  stored_slot said st m found m' = ForSaid said (λ item. ForFilled item (λ case at held. On st (slot_word case) (spelling case at held) × ForPass m.0 (λ p. m' ≡ (Pass (gained (Filled case at held) p), m.1))))
 
   -- the region of the word was raised
-  abbrev pub raised_region : Step (Unit {0}) → Me (Unit {0}) (View E H) → ℕ → Me (Unit {0}) (View E H) → Type 0
-  raised_region st m found m' = ForBook m.0 (λ b. m' ≡ (Book (record b { raised = Some (st.word - 8193) }), m.1))
+  abbrev pub raised_region : Told E H
+  raised_region st m found m' = ForBook m.0 (λ b. On st st.word (length b.history + 1) × (region_word 0 ≤ st.word) × (st.word < region_word 512) × (b.raised ≡ None)
+      × (m' ≡ (Book (record b { raised = Some (st.word - region_word 0) }), m.1)))
 
-  -- the entry that is said was published: its session lags
-  abbrev pub after_entry : (E → ℕ) → Option E → BookView E H → BookView E H
-  after_entry session (Some entry) b = record b { history = b.history ++ entry ∷ []; lag = session entry ∷ b.lag; raised = None }
-  after_entry session None b = b
+  -- an entry was published: its session lags
+  abbrev pub after_entry : (E → ℕ) → E → BookView E H → BookView E H
+  after_entry session entry b = record b { history = b.history ++ entry ∷ []; lag = session entry ∷ b.lag; raised = None }
 
-  abbrev pub published : (E → ℕ) → Option E → Step (Unit {0}) → Me (Unit {0}) (View E H) → ℕ → Me (Unit {0}) (View E H) → Type 0
-  published session said st m found m' = ForBook m.0 (λ b. m' ≡ (Book (after_entry session said b), m.1))
+  abbrev pub published : (E → ℕ) → Option E → Told E H
+  published session said st m found m' = ForSaid said (λ entry. On st 0 1 × ForBook m.0 (λ b. (b.turn ≢ 0) × (session entry ≡ b.turn) × (m' ≡ (Book (after_entry session entry b), m.1))))
 
 module _ {E H : Type 0} (right : H → List E → ℕ → Held → Type 0) (touches : H → List E → E → ℕ → Type 0) where
-  -- the word of the slot that was loaded is sound for what is seen
-  abbrev pub SlotSound : H → List E → Loading → Type 0
-  SlotSound setting seen (Slot place slot) = Sound (right setting) seen slot
-  SlotSound setting seen Nothing = Unit {0}
-  SlotSound setting seen (Count place slot count) = Unit {0}
-  SlotSound setting seen (Object place slot count object) = Unit {0}
-
   -- The count was loaded: the pass sees the history, which begins with what it had seen, and for which the slot's word is sound
-  abbrev pub loaded_count : Step (Unit {0}) → Me (Unit {0}) (View E H) → ℕ → Me (Unit {0}) (View E H) → Type 0
-  loaded_count st m found m' = ForPass m.0 (λ p. (seen : List E) × (m' ≡ (Pass (record p { seen = seen; loading = counted p.loading found }), m.1))
-      × IsPrefix p.seen seen × (length seen ≡ found) × (found ≤ most_entries) × SlotSound p.origin.setting seen p.loading)
+  abbrev pub loaded_count : Told E H
+  loaded_count st m found m' = On st 0 0 × ForPass m.0 (λ p. ForSlot p.loading (λ place slot. (seen : List E) × (m' ≡ (Pass (record p { seen = seen; loading = Count place slot found }), m.1))
+      × IsPrefix p.seen seen × (length seen ≡ found) × (found ≤ most_entries) × Sound (right p.origin.setting) seen slot))
 
-  -- no entry that was seen touches the object's region behind its word
-  abbrev pub ObjectStill : H → List E → ℕ → Loading → Type 0
-  ObjectStill setting seen object (Count place slot count) = Untouched (touches setting) seen object (object_region place.object)
-  ObjectStill setting seen object Nothing = Unit {0}
-  ObjectStill setting seen object (Slot place slot) = Unit {0}
-  ObjectStill setting seen object (Object place slot count other) = Unit {0}
+  -- The region of the object was loaded: no entry that was seen touches it behind its word
+  abbrev pub loaded_object : Told E H
+  loaded_object st m found m' = ForPass m.0 (λ p. ForCount p.loading (λ place slot count. On st (region_word (object_region place.object)) 0
+      × (m' ≡ (Pass (record p { loading = Object place slot count found }), m.1)) × Untouched (touches p.origin.setting) p.seen found (object_region place.object)))
 
-  abbrev pub loaded_object : Step (Unit {0}) → Me (Unit {0}) (View E H) → ℕ → Me (Unit {0}) (View E H) → Type 0
-  loaded_object st m found m' = ForPass m.0 (λ p. (m' ≡ (Pass (record p { loading = with_object p.loading found }), m.1)) × ObjectStill p.origin.setting p.seen found p.loading)
+  -- The same of the region of the store, which ends a look
+  abbrev pub loaded_store : Told E H
+  loaded_store st m found m' = ForPass m.0 (λ p. ForObject p.loading (λ place slot count object. On st (region_word (store_region place.store)) 0
+      × (m' ≡ (Pass (record p { trail = p.trail ++ Loaded place slot count object found ∷ []; loading = Nothing }), m.1)) × Untouched (touches p.origin.setting) p.seen found (store_region place.store)))
 
-  -- the same of the store's region
-  abbrev pub StoreStill : H → List E → ℕ → Loading → Type 0
-  StoreStill setting seen store (Object place slot count object) = Untouched (touches setting) seen store (store_region place.store)
-  StoreStill setting seen store Nothing = Unit {0}
-  StoreStill setting seen store (Slot place slot) = Unit {0}
-  StoreStill setting seen store (Count place slot count) = Unit {0}
-
-  abbrev pub loaded_store : Step (Unit {0}) → Me (Unit {0}) (View E H) → ℕ → Me (Unit {0}) (View E H) → Type 0
-  loaded_store st m found m' = ForPass m.0 (λ p. (m' ≡ (Pass (record p { trail = with_store p.loading found p.trail; loading = Nothing }), m.1)) × StoreStill p.origin.setting p.seen found p.loading)
+-- There is one list of steps by sessions of the board which leads from 0 to some word, and F holds of it
+abbrev pub OneList : ℕ → ℕ → (List Stepped → Type 0) → Type 0
+OneList first next F = (steps : List Stepped) × (word : ℕ) × Replays 0 steps word × AreOf first next steps × F steps
 
 module _ {E H : Type 0} (session : E → ℕ) (right : H → List E → ℕ → Held → Type 0) (touches : H → List E → E → ℕ → Type 0) where
-  -- the rule holds of the pass that the book holds
-  abbrev pub HeldOk : BookView E H → Type 0
-  HeldOk b = (p : PassView E H) → b.held ≡ Some p → PassOk session (right b.origin.setting) (touches b.origin.setting) b.origin b p
-
-  abbrev pub checked : Step (Unit {0}) → Me (Unit {0}) (View E H) → ℕ → Me (Unit {0}) (View E H) → Type 0
-  checked st m found m' = (m' ≡ m) × ForBook m.0 HeldOk
+  -- The count was loaded by the book: the rule holds of the passes that it holds, and for each register there is one list whose part of each of their sessions is what its trail says
+  abbrev pub checked : Told E H
+  checked st m found m' = On st 0 0 × (m' ≡ m) × ForBook m.0 (λ b. All (PassOk session (right b.origin.setting) (touches b.origin.setting) b.origin b) b.held
+      × ((object : ℕ) → object < 4096 → OneList b.origin.first b.next (λ steps. All (λ p. IsPart (register_word object) steps p.session p.trail) b.held)))

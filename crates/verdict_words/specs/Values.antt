@@ -1,7 +1,8 @@
 -- What contracts see of a board, of the seat of its book, and of its passes.
-use Rattle.std.specs.Prelude.{◌≡◌, ℕ, ◌≤◌, List, [], length, take, Option, None}
+use Rattle.std.specs.Prelude.{◌≡◌, ◌⊎◌, ℕ, ◌≤◌, List, [], length, take, Option, None}
 use Rattle.atomic_table.specs.Seated.{TableId}
 use Rattle.atomic_table.specs.declared.shared.Seat.{Seat}
+use Rattle.verdict_words.specs.Histories.{IsPrefix}
 use Rattle.verdict_words.specs.Words.{most_entries}
 use Rattle.verdict_words.specs.Rule.{last_met, IsSeated}
 use Rattle.verdict_words.specs.declared.views.Origin.{Origin}
@@ -36,6 +37,12 @@ module _ {E H : Type 0} where
   abbrev pub met_seen : PassValue E H → List E
   met_seen pass = take (last_met pass.trail) pass.seen
 
+  -- the board of a pass: a pass whose view the book holds is of no board, since a board has words
+  abbrev pub board_of : View E H → Identity E H → Identity E H
+  board_of (Pass p) board = board
+  board_of (Book b) board = board
+  board_of Spent board = record { table = record board.table { words = 0 }; origin = record board.origin { opening = [] } }
+
   abbrev pub seen_of : View E H → List E
   seen_of (Pass p) = p.seen
   seen_of (Book b) = b.history
@@ -67,14 +74,16 @@ module _ {E H : Type 0} where
 
   -- what the seat of a resting book knows
   abbrev pub presiding : Origin E H → List E → ℕ → ℕ → List ℕ → Option ℕ → View E H
-  presiding origin entries next turn lag raised = Book record { origin = origin; history = entries; next = next; turn = turn; lag = lag; raised = raised; held = None }
+  presiding origin entries next turn lag raised = Book record { origin = origin; history = entries; next = next; turn = turn; lag = lag; raised = raised; held = [] }
 
--- what holds of every pass: its seat is of its board, and rests
+-- what holds of every pass: its seat is of its board, and rests or is spent
 pub record IsPass {E H : Type 0} (board : Identity E H) (place : Seat (Unit {0}) (View E H)) (session at : ℕ) : Type 0 where
   pub table : place.table_id ≡ board.table
-  pub view : place.me ≡ (resting board.origin session (seen_of place.me.0) (trail_of place.me.0), [])
+  pub view : (place.me ≡ (resting board.origin session (seen_of place.me.0) (trail_of place.me.0), [])) ⊎ (place.me ≡ (Spent, []))
   pub count : at ≡ length (seen_of place.me.0)
   pub short : at ≤ most_entries
+  pub numbered : (1 ≤ session) × ((board_of place.me.0 board).origin.first ≤ session)
+  pub begins : IsPrefix (board_of place.me.0 board).origin.opening (seen_of place.me.0)
 
 -- what holds of every seat of a book: it is of its board, and rests
 pub record IsBookSeat {E H : Type 0} (session : E → ℕ) (board : Identity E H) (place : Seat (Unit {0}) (View E H)) (next count : ℕ) : Type 0 where

@@ -1,11 +1,15 @@
 -- The words of a board, and what the word of a slot says.
-use Rattle.std.specs.Prelude.{◌≡◌, ◌≢◌, ◌⊎◌, ℕ, ◌+◌, ◌*◌, ◌%◌, ◌^◌, ◌<◌, ◌≤◌, List, length, take}
+use Rattle.std.specs.Prelude.{◌≡◌, ◌≢◌, ◌⊎◌, ℕ, ◌+◌, ◌*◌, ◌%◌, ◌^◌, ◌<◌, ◌≤◌, List, ◌∷◌, ◌++◌, length, take, replicate}
 use Rattle.verdict_words.specs.declared.places.Held.{Held}
 use Rattle.verdict_words.specs.declared.places.CasePlace.{CasePlace}
 
 -- Word 0 is the length of the history. Words 1 to 4096 are the slots, 4097 to 8192 the registers, and 8193 to 8704 the regions.
 abbrev pub word_count : ℕ
 word_count = 8705
+
+-- the words of a new board: the count and all regions are the number of entries, and all slots and registers 0
+abbrev pub first_words : ℕ → List ℕ
+first_words entries = (entries ∷ replicate 8192 0) ++ replicate 512 entries
 
 -- the most entries that a history may have
 abbrev pub most_entries : ℕ
@@ -14,6 +18,10 @@ most_entries = 262144
 -- the slot of a case
 abbrev pub slot_word : ℕ → ℕ
 slot_word case = 1 + case % 4096
+
+-- the register of an object
+abbrev pub register_word : ℕ → ℕ
+register_word object = 4097 + object
 
 -- the numbers of regions: 256 of objects, and then 256 of stores
 abbrev pub object_region : ℕ → ℕ

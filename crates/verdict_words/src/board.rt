@@ -1,6 +1,7 @@
 //! The board, and how it is made.
-ghost use Rattle.std.specs.Prelude.{◌≡◌, ◌<◌, ◌≤◌, [], ◌∷◌, ◌++◌, length, replicate, All, IfOk, None};
-ghost use Rattle.verdict_words.specs.Words.{word_count, most_entries};
+ghost use Rattle.std.specs.Prelude.{◌≡◌, ◌<◌, ◌≤◌, [], length, All, IfOk, None};
+ghost use Rattle.verdict_words.specs.Words.{word_count, most_entries, first_words};
+ghost use Rattle.verdict_words.specs.Rule.{StartsWith};
 
 use crate::mark::Mark;
 use crate::matter::Matter;
@@ -34,7 +35,7 @@ impl<M: Matter> Model for Board<M> {
 
 // The words of a new board: the count, the slots and registers, and the regions.
 fn first_words(alloc: Global, count: u64) -> Result<Vec<u64>, AllocError>
-    ensures { IfOk result (λ v. v.items ≡ (count ∷ replicate 8192 0) ++ replicate 512 count) }
+    ensures { IfOk result (λ v. v.items ≡ first_words count) }
 {
     let mut words = Vec::with_capacity(alloc, 8705)?;
     words.push(count)?;
@@ -57,6 +58,7 @@ impl<M: Matter> Board<M> {
         requires sessions { All (λ entry. M.session entry < next) entries.now.items }
         requires short { length entries.now.items ≤ most_entries }
         ensures board { IfOk result (λ r. r.0.origin ≡ record { setting = setting.now; opening = entries.now.items; first = next }) }
+        ensures words { IfOk result (λ r. StartsWith M.session (M.right r.0.origin.setting) (M.touches r.0.origin.setting) r.0.origin (first_words (length entries.now.items))) }
         ensures seat { IfOk result (λ r. r.1 ≡ record { board = r.0; entries = entries.now.items; next = next; turn = 0; lag = []; raised = None }) }
     {
         let count = entries.len() as u64;

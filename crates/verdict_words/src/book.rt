@@ -9,6 +9,7 @@ ghost use Rattle.verdict_words.specs.declared.views.Item.TheVariants.{Met};
 use crate::board::Board;
 use crate::mark::Mark;
 use crate::matter::Matter;
+use crate::padded::Padded;
 use crate::pass::Pass;
 use crate::rule::{Admit, CheckHeld, Publish, RaiseRegion, Receive, Return, Said};
 use crate::seat::BookSeat;
@@ -26,10 +27,11 @@ impl<M: Matter> Board<M> {
         let place = self.words.shared.split_seat::<Admit>(&mut seat.place);
         let session = seat.next;
         seat.next += 1;
+        let at = Padded::new(seat.count);
         Pass {
             place,
             session,
-            at: seat.count,
+            at,
             board: Mark::of(self),
         }
     }
@@ -98,7 +100,7 @@ impl<M: Matter> Board<M> {
         Pass {
             place,
             session,
-            at: seat.count,
+            at: Padded::new(seat.count),
             board,
         }
     }

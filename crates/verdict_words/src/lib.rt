@@ -13,11 +13,13 @@ mod look;
 mod mark;
 mod matter;
 mod naming;
+mod padded;
 mod pass;
 mod places;
 mod registers;
 mod rule;
 mod seat;
+mod settle;
 #[cfg(test)]
 mod tests;
 mod views;

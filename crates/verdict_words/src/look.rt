@@ -35,7 +35,7 @@ fn kept_for(slot: u64, case: u64) -> Option<(u64, Held)>
         line: (slot >> 44) & 0xfff,
         fault: slot >> 56,
     };
-    if held.code == 0 || (slot >> 20) & LOW_20 != case {
+    if slot == 0 || (slot >> 20) & LOW_20 != case {
         return None;
     }
     Some((slot & LOW_20, held))
@@ -50,7 +50,7 @@ fn answer(case: u64, slot: u64, count: u64, object: u64, store: u64) -> Look
     let Some((at, held)) = kept_for(slot, case) else {
         return Look::Miss;
     };
-    if object > at || store > at {
+    if object.max(store) > at {
         return Look::Miss;
     }
     Look::Hit { at: count, held }
@@ -94,7 +94,7 @@ impl<M: Matter> Board<M> {
             8193 + (256 + place.store as usize),
         );
         let found = answer(place.case, slot, count, object, store);
-        pass.at = count;
+        pass.at.value = count;
         found
     }
 

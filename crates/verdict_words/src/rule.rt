@@ -17,7 +17,7 @@ impl<M: Matter> TableRule<(), View<M::Entry, M::Setting>, Key<M::Entry, M::Setti
 
     ghost holds = { λ key. IsKept M.session (M.right key.setting.value) (M.touches key.setting.value) (origin_of key) };
 
-    ghost first = { λ key. Book (first_book key) };
+    ghost first = { λ key. Book (first_book (origin_of key)) };
 }
 
 pub type Words<M> = Table<
@@ -156,6 +156,17 @@ impl<E, H> Split<View<E, H>> for Admit {
     ghost right = { admitted };
 }
 
+/// What a pass knows goes to a seat of its own.
+pub struct Yield;
+
+impl<E, H> Split<View<E, H>> for Yield {
+    ghost use Rattle.verdict_words.specs.Steps.{yielding, yielded};
+
+    ghost left = { yielding };
+
+    ghost right = { yielded };
+}
+
 /// The book takes a pass in.
 pub struct Receive;
 
@@ -168,7 +179,7 @@ impl<E, H> Join<View<E, H>> for Receive {
     ghost spent = { Spent };
 }
 
-/// The book gives the pass back that it holds.
+/// The book gives the first of the passes back that it holds.
 pub struct Return;
 
 impl<E, H> Split<View<E, H>> for Return {

@@ -123,6 +123,36 @@ fn a_register_step_answers_what_the_register_held(rt: HostRuntime) -> Result<(),
     Ok(())
 }
 
+#[test]
+fn passes_are_met_together(rt: HostRuntime) -> Result<(), Fail> {
+    let entries = Vec::new(rt.alloc());
+    let (board, mut seat) = Board::<Flags>::make(rt.alloc(), &(), &entries, 1)?;
+    let mut one = board.enter(&mut seat);
+    let mut two = board.enter(&mut seat);
+    assert_eq!(rt; board.run_add(&mut one, 3, 5), 0);
+    assert_eq!(rt; board.run_write(&mut two, 3, 9), 5);
+    let one = board.meet(&mut seat, one);
+    board.raise(&mut seat, 9);
+    board.publish(
+        &mut seat,
+        &Flag {
+            session: 1,
+            flag: 9,
+        },
+    );
+    let mut passes = Vec::new(rt.alloc());
+    passes.push(one)?;
+    passes.push(two)?;
+    let passes = board.settle(&mut seat, passes);
+    let mut found = [[0u64; 2]; 2];
+    for i in 0..passes.len() {
+        let pass = &passes[i];
+        found[i] = [pass.session(), pass.at()];
+    }
+    assert_eq!(rt; found, [[1, 1], [2, 1]]);
+    Ok(())
+}
+
 /// A subject matter in which each verdict is right.
 struct Anything;
 

@@ -108,8 +108,8 @@ pub struct BookView<E, H> {
     pub lag: LinkedList<u64>,
     /// The region that an entry to come touches.
     pub raised: Option<u64>,
-    /// The pass that is being met.
-    pub held: Option<PassView<E, H>>,
+    /// The passes that are being met, in the order in which they were taken in.
+    pub held: LinkedList<PassView<E, H>>,
 }
 
 pub enum View<E, H> {

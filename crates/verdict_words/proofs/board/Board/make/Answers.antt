@@ -1,11 +1,11 @@
 use Rattle.std.proofs.Common.{rules, ◌≡◌, sym, ap, ◌∙◌, subst, length, ◌<◌, ◌≤◌, [], None}
 use Rattle.std.specs.Prelude.{All}
-use Rattle.verdict_words.specs.Words.{most_entries}
+use Rattle.verdict_words.specs.Words.{most_entries, first_words}
 use Rattle.verdict_words.specs.Rule.{IsSeated, origin_of}
 use Rattle.verdict_words.specs.Values.{seen_of, presiding}
 use Rattle.verdict_words.specs.declared.views.Key.{Key}
 use Rattle.verdict_words.specs.declared.views.Origin.{Origin}
-use Rattle.verdict_words.proofs.Opening.{first_words, opens, seated_first}
+use Rattle.verdict_words.proofs.Opening.{opens, seated_first, starts}
 use Rattle.verdict_words.proofs.Seated.{rests, rests_seated}
 use Rattle.verdict_words.proofs.board.Board.make.Goals as goal
 
@@ -35,3 +35,9 @@ invariant_of-seat g c =
       short = subst (λ n. n ≤ most_entries) (sym long) c.requires.short;
       seated = rests_seated g.M.Matter.session c.of-3.result.value.origin _ _ _ _ _ _ now ok;
     }
+
+pub returns-clause-words : goal.returns-clause-words
+returns-clause-words g c others kept =
+    let key = c.in_ok-words-2.words.shared.key in
+    let same = ap (λ k. k.opening.value.items) c.in_ok-words-2.ensures.5 ∙ ap (λ v. v.items) c.of-2.ensures in
+    starts g.M.Matter.session (g.M.Matter.right key.setting.value) (g.M.Matter.touches key.setting.value) (origin_of key) others kept ∙ ap first_words (ap length same)

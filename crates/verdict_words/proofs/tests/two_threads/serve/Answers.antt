@@ -2,8 +2,7 @@ use Rattle.std.proofs.Common.{refl, ◌≡◌, ℕ, sym, ap, ◌∙◌, length, 
 use Rattle.verdict_words.specs.Histories.{own}
 use Rattle.verdict_words.specs.Rule.{last_met}
 use Rattle.verdict_words.specs.Values.{met_seen}
-use Rattle.verdict_words.proofs.Growing.{prefix_length, take_whole}
-use Rattle.verdict_words.proofs.LastMet.{last_met_kept, met_seen_kept}
+use Rattle.verdict_words.proofs.ForCallers.{prefix_length, take_whole, last_met_kept, met_seen_kept}
 use Rattle.verdict_words.proofs.tests.two_threads.serve.Goals as goal
 
 none_before : {E : Type 0} (session : E → ℕ) (met more : List E) (s : ℕ) → met ≡ [] → own session met s ++ more ≡ more
