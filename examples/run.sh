@@ -51,6 +51,10 @@ share=$examples/check/share/input
 expect 'a word that is no command' 2 ''
 "$program" check more <"$share" >"$work/output"
 expect 'a word too many' 2 ''
+"$program" check '' <"$share" >"$work/output"
+expect 'an empty word too many' 2 ''
+"$program" check $'\xff' <"$share" >"$work/output"
+expect 'a word too many that is not UTF-8' 2 ''
 "$program" check </ >"$work/output"
 expect 'an input that cannot be read' 4 ''
 : >"$work/output"

@@ -5,7 +5,7 @@ use Rattle.nal_term.specs.Names.{IsName}
 use Rattle.nal_term.specs.Trees.{FormulaTree}
 use Rattle.nal_term.specs.declared.formulas.Formula.{Formula}
 use Rattle.nexus_main.specs.CheckForm.{Stage, header_due, subject_due, labels_due, yes_due, proof_due, IsStatement, IsGoal, Follows, header, subject, label, first_yes, next_yes, goal, goal_after_yes}
-use Rattle.nexus_main.specs.Forms.{formula_trees}
+use Rattle.nexus_main.specs.Inner.Forms.{formula_trees}
 
 -- the header alone follows at the beginning
 pub header_wrong : {line : List ℕ} {next : Stage} → line ≢ codes "nexus check 1" → Follows header_due line next → ⊥
@@ -81,3 +81,42 @@ pub yes_wrong : {line x : List ℕ} {ls ys : List FormulaTree} {next : Stage}
     → Follows (yes_due x ls ys) line next → ⊥
 yes_wrong b c (next_yes e room s) = b _ _ e room s
 yes_wrong b c (goal_after_yes e g) = c _ _ e g
+
+-- one stage follows the header, and one a name
+pub header_only : {line : List ℕ} {next : Stage} → Follows header_due line next → next ≡ subject_due
+header_only (header e) = refl
+
+pub subject_only : {line x y : List ℕ} {ls : List Formula} {next : Stage} → line ≡ codes "subject " ++ x → y ≡ x → ls ≡ [] → Follows subject_due line next → next ≡ labels_due y (formula_trees ls)
+subject_only e q l (subject f n) = rw (q, l, same_after_subject f e) refl
+
+-- one stage follows a label
+pub label_only : {line text x : List ℕ} {ls : List FormulaTree} {next : Stage} (longer : List Formula) → line ≡ codes "label " ++ text
+    → ((f : FormulaTree) → IsStatement text f → formula_trees longer ≡ ls ++ f ∷ []) → Follows (labels_due x ls) line next → next ≡ labels_due x (formula_trees longer)
+label_only {x = x} longer e only (label d room s) = ap (labels_due x) (sym (only _ (rw (same_after_label e d) s)))
+label_only longer e only (first_yes d s) = absurd (label_not_yes e d)
+label_only longer e only (goal d g) = absurd (label_not_goal e d)
+
+-- one stage follows the first yes formula
+pub first_yes_only : {line text x : List ℕ} {ls : List FormulaTree} {none : List Formula} {next : Stage} (longer : List Formula) → line ≡ codes "yes " ++ text → none ≡ []
+    → ((f : FormulaTree) → IsStatement text f → formula_trees longer ≡ formula_trees none ++ f ∷ []) → Follows (labels_due x ls) line next → next ≡ yes_due x ls (formula_trees longer)
+first_yes_only longer e n only (label d room s) = absurd (label_not_yes d e)
+first_yes_only {x = x} {ls = ls} longer e n only (first_yes d s) = ap (yes_due x ls) (sym (rw n at only _ (rw (same_after_yes e d) s)))
+first_yes_only longer e n only (goal d g) = absurd (yes_not_goal e d)
+
+-- one stage follows a further yes formula
+pub next_yes_only : {line text x : List ℕ} {ls ys : List FormulaTree} {next : Stage} (longer : List Formula) → line ≡ codes "yes " ++ text
+    → ((f : FormulaTree) → IsStatement text f → formula_trees longer ≡ ys ++ f ∷ []) → Follows (yes_due x ls ys) line next → next ≡ yes_due x ls (formula_trees longer)
+next_yes_only {x = x} {ls = ls} longer e only (next_yes d room s) = ap (yes_due x ls) (sym (only _ (rw (same_after_yes e d) s)))
+next_yes_only longer e only (goal_after_yes d g) = absurd (yes_not_goal e d)
+
+-- one stage follows the goal
+pub goal_only : {line text x : List ℕ} {ls : List FormulaTree} {g : FormulaTree} {none : List Formula} {next : Stage} → line ≡ codes "goal " ++ text → none ≡ []
+    → ((f : FormulaTree) → IsGoal text f → f ≡ g) → Follows (labels_due x ls) line next → next ≡ proof_due x ls (formula_trees none) g
+goal_only e n only (label d room s) = absurd (label_not_goal d e)
+goal_only e n only (first_yes d s) = absurd (yes_not_goal d e)
+goal_only {x = x} {ls = ls} e n only (goal d s) = rw n (ap (proof_due x ls []) (only _ (rw (same_after_goal e d) s)))
+
+pub goal_after_yes_only : {line text x : List ℕ} {ls ys : List FormulaTree} {g : FormulaTree} {next : Stage} → line ≡ codes "goal " ++ text
+    → ((f : FormulaTree) → IsGoal text f → f ≡ g) → Follows (yes_due x ls ys) line next → next ≡ proof_due x ls ys g
+goal_after_yes_only e only (next_yes d room s) = absurd (yes_not_goal d e)
+goal_after_yes_only {x = x} {ls = ls} {ys = ys} e only (goal_after_yes d s) = ap (proof_due x ls ys) (only _ (rw (same_after_goal e d) s))

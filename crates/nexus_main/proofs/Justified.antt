@@ -15,7 +15,8 @@ use Rattle.nal_rules.specs.declared.verdicts.Verdict.{Verdict}
 use Rattle.nal_rules.specs.declared.verdicts.Verdict.TheVariants.{Allowed, Denied}
 use Rattle.nexus_main.proofs.Verdicts.{in_list, filter_first, filter_later}
 use Rattle.nexus_main.specs.CheckForm.{CheckForm}
-use Rattle.nexus_main.specs.Outcomes.{IsUnanswered, IsSupportVerdict, IsJustifiedIfAllowed}
+use Rattle.nexus_main.specs.Outcomes.{IsJustifiedIfAllowed}
+use Rattle.nexus_main.specs.Inner.Support.{IsUnanswered, IsSupportVerdict}
 
 label_rule : (r : Rule) (refs : List ℕ) (l : LineTree) → l.rule ≡ r → is_label l ≡ true → r ≡ Label
 label_rule Label refs l e q = refl

@@ -2,5 +2,8 @@ pub mod Following
 pub mod Segments
 pub mod Inputs
 pub mod Verdicts
+pub mod Words
+pub mod OneOutcome
+pub mod Only
 pub mod Programs
 pub mod Justified

@@ -1,38 +1,118 @@
 -- How the program's ends come from those of its parts.
-use Rattle.std.proofs.Common.{◌≡◌, ◌==◌, ◌↔◌, ◌++◌, ℕ, List, [], ◌∷◌, map, length, Bool, true, IsTrue, Option, Some, None, codes, sym, ap, subst, ◌∙◌, arith}
+use Rattle.std.proofs.Common.{◌≡◌, ◌==◌, ◌<◌, ◌↔◌, ◌⊎◌, inl, inr, ◌++◌, ℕ, List, [], ◌∷◌, map, length, Bool, true, false, IsTrue, Option, Some, None, codes, refl, sym, ap, subst, ◌∙◌, arith}
 use Rattle.std.proofs.lemmas.List.{append-nil, length-append}
 use Rattle.std.proofs.lemmas.Bool.Decides.{Decides-eqb}
 use Rattle.std.specs.Io.KnownBytes.{IsAtEnd}
-use Rattle.nx_io.specs.Streams.{prepended}
+use Rattle.nx_io.specs.Streams.{gained, Grows, prepended}
+use Rattle.nx_io.proofs.ForCallers.{gained-by, gained-nothing, grows-by, grows-nothing}
+use Rattle.nal_rules.specs.declared.verdicts.Verdict.TheVariants.{Allowed, Denied}
 use Rattle.nexus_main.specs.declared.outcomes.Outcome.{Outcome}
-use Rattle.nexus_main.specs.declared.outcomes.Outcome.TheVariants.{TooLarge}
-use Rattle.nexus_main.specs.Outcomes.{IsOutcome}
+use Rattle.nexus_main.specs.declared.outcomes.Outcome.TheVariants.{Told, Refused, TooLarge}
+use Rattle.nexus_main.specs.Outcomes.{IsOutcome, most_bytes, output_of, status_of}
 use Rattle.nexus_main.proofs.Verdicts.{some_same}
-use Rattle.nexus_main.specs.Program.{Ends, told, sink_failed, no_memory, Tells, whole, part, nothing, IsOutcomeOf, IsReadFor, IsTooLong, check_words}
+use Rattle.nexus_main.specs.Program.{check_words, Ends, told, source_failed, sink_failed, no_memory, IsComplete, IsOutcomeOf, IsRefusedInput, RefusesExactly, RunsCheck, SinkRun, SourceRun}
+use Rattle.nexus_main.specs.Inner.Ends.{Tells, whole, part, nothing}
+
+-- what a source that was read to its end gave is all that it had
+known_whole : (left left_now : Option (List ℕ)) (gain text : List ℕ) → left ≡ prepended gain left_now → IsAtEnd left_now → left ≡ Some text → text ≡ gain
+known_whole left None gain text e a h = absurd (cc (sym h ∙ e))
+known_whole left (Some rest) gain text e a h =
+    let same : text ≡ gain ++ rest = some_same _ _ (sym h ∙ e) in
+    same ∙ ap (λ r. gain ++ r) a ∙ append-nil gain
+
+-- a source that gave too much had too much
+known_large : (left left_now : Option (List ℕ)) (gain text : List ℕ) → left ≡ prepended gain left_now → most_bytes < length gain → left ≡ Some text → IsOutcome text TooLarge
+known_large left None gain text e large h = absurd (cc (sym h ∙ e))
+known_large left (Some rest) gain text e large h =
+    let same : text ≡ gain ++ rest = some_same _ _ (sym h ∙ e) in
+    let sum = length-append gain rest in
+    rw same (omega (arith, large, sum))
+
+-- the outcome of a text that was read whole is that of what the source gave
+pub whole_outcome : (source : SourceRun) (left_now : Option (List ℕ)) (outcome : Outcome) (bytes : List ℕ)
+    → source.known ≡ prepended source.given left_now → source.given ≡ bytes → IsTrue source.over → IsAtEnd left_now → IsOutcome bytes outcome
+    → IsOutcomeOf source outcome
+whole_outcome source left_now outcome bytes taken same over end o =
+    let all = known_whole source.known left_now source.given in
+    let of_given : IsOutcome source.given outcome = subst (λ b. IsOutcome b outcome) (sym same) o in
+    record {
+      outcome_of_given = of_given;
+      whole = λ small. record { over = over; all = λ text h. all text taken end h };
+      outcome_of_known = λ text h. subst (λ b. IsOutcome b outcome) (sym (all text taken end h)) of_given;
+    }
+
+-- a source that gave too much
+pub large_outcome : (source : SourceRun) (left_now : Option (List ℕ)) → source.known ≡ prepended source.given left_now → most_bytes < length source.given
+    → IsOutcomeOf source TooLarge
+large_outcome source left_now taken large = record {
+  outcome_of_given = large;
+  whole = λ other. absurd (other refl);
+  outcome_of_known = λ text h. known_large source.known left_now source.given text taken large h;
+}
 
 -- an outcome that was told ends the program
-pub told_ends : {text left : Option (List ℕ)} {r s : ℕ} {before now : Option (List ℕ)} {u v status : ℕ} {outcome : Outcome}
-    → IsOutcomeOf text outcome → IsReadFor outcome left → Tells outcome before now u v status → Ends text left r s before now u v status
-told_ends {outcome = outcome} o l (whole e w) = told outcome e o l w
-told_ends {outcome = outcome} o l (part e f w) = sink_failed outcome e o f w
-told_ends o l (nothing e n) = no_memory e n
+pub told_ends : {source : SourceRun} {status : ℕ} (outcome : Outcome) (before now : List ℕ) (u v : ℕ) → IsOutcomeOf source outcome → source.faults_now ≡ source.faults
+    → Tells outcome before now u v status → Ends source (record { sent = gained before now; faults = u; faults_now = v }) status
+told_ends outcome before now u v o still (whole e w f) = told outcome e o (gained-by before now (output_of outcome) w) still f
+told_ends outcome before now u v o still (part e w f) = sink_failed outcome e o (w.0, w.1, gained-by before now _ w.2) still f
+told_ends outcome before now u v o still (nothing e w f) = no_memory e (rw w (gained-nothing before)) still f
 
--- a text that was read whole is the source's
-pub whole_outcome : (outcome : Outcome) (bytes : List ℕ) (text left : Option (List ℕ)) → text ≡ prepended bytes left → IsAtEnd left → IsOutcome bytes outcome
-    → IsOutcomeOf text outcome
-whole_outcome outcome bytes text None e a o t h = absurd (cc (sym h ∙ e))
-whole_outcome outcome bytes text (Some rest) e a o t h =
-    let same : t ≡ bytes ++ rest = some_same _ _ (sym h ∙ e) in
-    let none : bytes ++ rest ≡ bytes = ap (λ r. bytes ++ r) a ∙ append-nil bytes in
-    subst (λ b. IsOutcome b outcome) (sym (same ∙ none)) o
+-- what was told grew
+pub told_grows : {outcome : Outcome} {u v status : ℕ} (before now : List ℕ) → Tells outcome before now u v status → Grows before now
+told_grows before now (whole e w f) = grows-by before now _ w
+told_grows before now (part e w f) = grows-by before now _ w.2
+told_grows before now (nothing e w f) = rw w (grows-nothing before)
 
--- a text with a front that is too long is too large
-pub large_outcome : (text left : Option (List ℕ)) → IsTooLong text left → IsOutcomeOf text TooLarge
-large_outcome text None f t h = absurd (cc (sym h ∙ f.2))
-large_outcome text (Some rest) f t h =
-    let same : t ≡ f.0 ++ rest = some_same _ _ (sym h ∙ f.2) in
-    let sum = length-append f.0 rest in
-    rw same (omega (arith, f.1, sum))
+-- a status is one number
+apart : (status m n : ℕ) → status ≡ m → status ≡ n → (m == n) ≡ false → ⊥
+apart status m n e f h = let t = (Decides-eqb m n).1 (sym e ∙ f) in cc
+
+-- an outcome's status tells of no fault
+pub told_status : (outcome : Outcome) → (status_of outcome ≡ 4) ⊎ (status_of outcome ≡ 6) → ⊥
+told_status TooLarge (inl e) = apart (status_of TooLarge) 3 4 refl e refl
+told_status TooLarge (inr e) = apart (status_of TooLarge) 3 6 refl e refl
+told_status (Refused k) (inl e) = apart (status_of (Refused k)) 3 4 refl e refl
+told_status (Refused k) (inr e) = apart (status_of (Refused k)) 3 6 refl e refl
+told_status (Told Allowed) (inl e) = apart (status_of (Told Allowed)) 0 4 refl e refl
+told_status (Told Allowed) (inr e) = apart (status_of (Told Allowed)) 0 6 refl e refl
+told_status (Told (Denied cause)) (inl e) = apart (status_of (Told (Denied cause))) 1 4 refl e refl
+told_status (Told (Denied cause)) (inr e) = apart (status_of (Told (Denied cause))) 1 6 refl e refl
+
+-- what ends a run tells of an outcome completely
+ends_complete : (source : SourceRun) (sink : SinkRun) (status : ℕ) → Ends source sink status → IsComplete source sink status
+ends_complete source sink status (told outcome e o s f g) = λ p q. inr (outcome, o.outcome_of_given, e, s)
+ends_complete source sink status (source_failed e s f g) = λ p q. absurd (p (rw f (omega arith)))
+ends_complete source sink status (sink_failed outcome e o s f g) = λ p q. absurd (q (rw g (omega arith)))
+ends_complete source sink status (no_memory e s f g) = λ p q. inl e
+
+-- the status of an outcome is 3 exactly where the input is refused
+refused_by : (text : List ℕ) (outcome : Outcome) → IsOutcome text outcome → (status_of outcome ≡ 3) ↔ IsRefusedInput text
+refused_by text TooLarge o = (λ e. inl o, λ r. refl)
+refused_by text (Refused k) o = (λ e. inr (λ form h. o.2 form h), λ r. refl)
+refused_by text (Told Allowed) o = (λ e. absurd (apart (status_of (Told Allowed)) 0 3 refl e refl), λ r. absurd (accepted r))
+  where
+    accepted : IsRefusedInput text → ⊥
+    accepted (inl large) = omega (arith, large, o.0)
+    accepted (inr none) = none o.1.0 o.1.1
+refused_by text (Told (Denied cause)) o = (λ e. absurd (apart (status_of (Told (Denied cause))) 1 3 refl e refl), λ r. absurd (accepted r))
+  where
+    accepted : IsRefusedInput text → ⊥
+    accepted (inl large) = omega (arith, large, o.0)
+    accepted (inr none) = none o.1.0 o.1.1
+
+ends_refuse : (source : SourceRun) (sink : SinkRun) (status : ℕ) → Ends source sink status → RefusesExactly source status
+ends_refuse source sink status (told outcome e o s f g) = λ a b c. rw e (refused_by source.given outcome o.outcome_of_given)
+ends_refuse source sink status (source_failed e s f g) = λ a b c. absurd (a e)
+ends_refuse source sink status (sink_failed outcome e o s f g) = λ a b c. absurd (b e)
+ends_refuse source sink status (no_memory e s f g) = λ a b c. absurd (c e)
+
+-- what ends a run of `check` is a run of `check`
+pub runs_check : {source : SourceRun} {sink : SinkRun} {status : ℕ} → Ends source sink status → RunsCheck source sink status
+runs_check {source = source} {sink = sink} {status = status} e = record {
+  ends = e;
+  complete = ends_complete source sink status e;
+  refuses = ends_refuse source sink status e;
+}
 
 -- one word is the list of its texts
 pub one_word : {A : Type 0} (f : A → List ℕ) (ws rest : List A) (w : A) (b : Bool) → ws ≡ w ∷ rest → (length rest == 0) ≡ true

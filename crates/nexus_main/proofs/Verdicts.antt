@@ -5,7 +5,7 @@ use Rattle.std.proofs.lemmas.List.Elements.{Contains-append_left, Contains-appen
 use Rattle.std.specs.Prelude.{codes}
 use Rattle.std.proofs.lemmas.List.{length-map}
 use Rattle.nal_term.specs.declared.formulas.Formula.{Formula}
-use Rattle.nexus_main.specs.Forms.{formula_trees}
+use Rattle.nexus_main.specs.Inner.Forms.{formula_trees}
 use Rattle.nal_term.specs.Trees.{TermTree, FormulaTree, formula_tree, says}
 use Rattle.nal_term.specs.Trees as tree
 use Rattle.nal_subst.specs.Substitution.{formula_with}
@@ -25,7 +25,8 @@ use Rattle.proof_check.specs.declared.checks.Checked.{Checked}
 use Rattle.proof_check.specs.declared.checks.CheckError.{CheckError}
 use Rattle.proof_check.specs.declared.checks.CheckError.TheVariants.{Empty, Line as CheckedLine}
 use Rattle.nexus_main.specs.CheckForm.{CheckForm}
-use Rattle.nexus_main.specs.Outcomes.{bound_for, case_of, AreAnswers, none, answer, IsVerdictOn, IsUnanswered, IsSupportVerdict}
+use Rattle.nexus_main.specs.Outcomes.{bound_for, case_of, AreAnswers, none, answer, IsVerdictOn}
+use Rattle.nexus_main.specs.Inner.Support.{IsUnanswered, IsSupportVerdict}
 
 -- whether a formula is one of a list's is decided
 decide : (fs : List FormulaTree) (f : FormulaTree) → (b : Bool) × (IsTrue b ↔ Contains fs f)

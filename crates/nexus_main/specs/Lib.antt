@@ -1,5 +1,7 @@
+pub mod Arguments
 pub mod Lines
 pub mod CheckForm
-pub mod Forms
+pub mod Laws
 pub mod Outcomes
 pub mod Program
+pub mod Inner

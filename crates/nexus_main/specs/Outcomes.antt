@@ -5,11 +5,10 @@ use Rattle.std.specs.Fmt.{decimal}
 use Rattle.nal_term.specs.Trees.{TermTree, FormulaTree, says}
 use Rattle.nal_term.specs.Trees as tree
 use Rattle.nal_subst.specs.Substitution.{formula_with}
-use Rattle.proof_lines.specs.declared.rules.Rule.TheVariants.{Ask}
 use Rattle.proof_lines.specs.Lines.{LineTree}
-use Rattle.nal_rules.specs.Faults.{is_ask, line_at}
+use Rattle.nal_rules.specs.Faults.{is_ask}
 use Rattle.nal_rules.specs.Derivation.{Derives}
-use Rattle.nal_rules.specs.Verdicts.{CaseTree, IsVerdict, IsLowest, IsMissingLabel}
+use Rattle.nal_rules.specs.Verdicts.{CaseTree, IsVerdict}
 use Rattle.nal_rules.specs.declared.verdicts.Fault.{Fault}
 use Rattle.nal_rules.specs.declared.verdicts.Fault.TheVariants.{NoSuchRef, NotHyp, WrongShape, Capture, NotFresh, OutOfScope, NotTrue, TooManyAsks, NotAsk, NotClosed, StillOpen, NotGoal}
 use Rattle.nal_rules.specs.declared.verdicts.Cause.{Cause}
@@ -20,9 +19,9 @@ use Rattle.nexus_main.specs.declared.outcomes.Outcome.{Outcome}
 use Rattle.nexus_main.specs.declared.outcomes.Outcome.TheVariants.{Told, Refused, TooLarge}
 use Rattle.nexus_main.specs.CheckForm.{CheckForm, IsCheckForm, IsWrongAt}
 
--- the greatest size of an input, in bytes
-abbrev pub greatest_size : ℕ
-greatest_size = 67108864
+-- how many bytes an input has at most
+abbrev pub most_bytes : ℕ
+most_bytes = 67108864
 
 -- the principal of a formula `P says S`, bound to some port
 abbrev pub bound_for : FormulaTree → List (TermTree × ℕ)
@@ -65,9 +64,9 @@ IsJustifiedIfAllowed form (Denied cause) = Unit {0}
 
 -- the outcome of an input
 abbrev pub IsOutcome : List ℕ → Outcome → Type 0
-IsOutcome text TooLarge = greatest_size < length text
-IsOutcome text (Refused k) = (length text ≤ greatest_size) × IsWrongAt text k
-IsOutcome text (Told verdict) = (length text ≤ greatest_size) × ((form : CheckForm) × IsCheckForm text form × IsVerdictOn form verdict × IsJustifiedIfAllowed form verdict)
+IsOutcome text TooLarge = most_bytes < length text
+IsOutcome text (Refused k) = (length text ≤ most_bytes) × IsWrongAt text k × ((form : CheckForm) → ¬ IsCheckForm text form)
+IsOutcome text (Told verdict) = (length text ≤ most_bytes) × ((form : CheckForm) × IsCheckForm text form × IsVerdictOn form verdict × IsJustifiedIfAllowed form verdict)
 
 -- the name of a fault
 abbrev pub fault_name : Fault → List ℕ
@@ -114,15 +113,3 @@ status_of (Told Allowed) = 0
 status_of (Told (Denied cause)) = 1
 status_of (Refused k) = 3
 status_of TooLarge = 3
-
--- line k is an ask line whose formula is none of these
-abbrev pub IsUnanswered : List LineTree → List FormulaTree → ℕ → Type 0
-IsUnanswered proof answered k = (l : LineTree) × (line_at proof k ≡ Some l) × (l.rule ≡ Ask) × ¬ Contains answered l.formula
-
--- the verdict on a proof without a fault: the lowest label that is missing, else the lowest ask line that is not
--- answered Yes
-abbrev pub IsSupportVerdict : CheckForm → Verdict → Type 0
-IsSupportVerdict form (Denied (LabelMissing k)) = IsLowest (IsMissingLabel form.proof form.labels) k
-IsSupportVerdict form (Denied (AuthorityNo k)) = ((j : ℕ) → ¬ IsMissingLabel form.proof form.labels j) × IsLowest (IsUnanswered form.proof form.yes) k
-IsSupportVerdict form (Denied other) = ⊥
-IsSupportVerdict form Allowed = ((j : ℕ) → ¬ IsMissingLabel form.proof form.labels j) × ((j : ℕ) → ¬ IsUnanswered form.proof form.yes j)

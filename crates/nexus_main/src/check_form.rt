@@ -26,17 +26,21 @@ pub enum InputError {
 }
 
 impl Input {
-    ghost use Rattle.std.specs.Prelude.{◌≡◌, ◌<◌, ◌≤◌, ◌+◌, ◌^◌, length, IfOk, IfErr};
+    ghost use Rattle.std.specs.Prelude.{◌≡◌, ◌≢◌, ◌<◌, ◌≤◌, ◌+◌, ◌^◌, List, length, IfOk, IfErr};
     ghost use Rattle.nal_term.specs.Trees.{formula_tree};
-    ghost use Rattle.nexus_main.specs.CheckForm.{IsCheckForm};
-    ghost use Rattle.nexus_main.specs.Forms.{form_of, formula_trees, IsRightError, IsWrongProof, HoldsProof};
+    ghost use Rattle.proof_lines.specs.Lines.{LineTree, line_trees};
+    ghost use Rattle.proof_text.specs.ProofText.{IsProofText};
+    ghost use Rattle.nexus_main.specs.CheckForm.{CheckForm, IsCheckForm};
+    ghost use Rattle.nexus_main.specs.Inner.Forms.{form_of, formula_trees, IsWrongLine, IsWrongProof, HoldsProof};
 
     /// Reads an input of `check`. `Wrong` exactly where the text has not its form.
     /// `docs/FORMATS.md`, "The check form", states the form.
     pub fn read(alloc: Global, text: &[u8]) -> Result<Input, InputError>
         requires { length text.now < 2 ^ 31 }
         ensures ok { IfOk result (λ input. IsCheckForm text.now (form_of input)) }
-        ensures wrong { IfErr result (IsRightError text.now) }
+        ensures only { IfOk result (λ input. (form : CheckForm) → IsCheckForm text.now form → form ≡ form_of input) }
+        ensures wrong { IfErr result (IsWrongLine text.now) }
+        ensures refused { IfErr result (λ e. e ≢ InputError.Memory → (form : CheckForm) → ¬ IsCheckForm text.now form) }
     {
         let mut progress = Progress::HeaderDue;
         let mut rest = text;
@@ -76,7 +80,9 @@ impl Input {
         requires room { lines < 2 ^ 31 }
         requires short { length rest.now < 2 ^ 31 }
         ensures ok { IfOk result (HoldsProof subject (formula_trees labels.items) (formula_trees yes.items) (formula_tree goal) rest.now) }
+        ensures only { IfOk result (λ input. (ls : List LineTree) → IsProofText rest.now ls → ls ≡ line_trees input.proof) }
         ensures wrong { IfErr result (IsWrongProof rest.now lines) }
+        ensures refused { IfErr result (λ e. e ≢ InputError.Memory → (ls : List LineTree) → ¬ IsProofText rest.now ls) }
     {
         match read_proof(alloc, rest) {
             Ok(proof) => Ok(Input {

@@ -4,8 +4,9 @@ ghost use Rattle.nal_term.specs.Trees as tree;
 ghost use Rattle.nal_subst.specs.Substitution.{formula_with};
 ghost use Rattle.proof_lines.specs.Lines.{line_trees};
 ghost use Rattle.nal_rules.specs.Verdicts.{IsLowest, IsMissingLabel};
-ghost use Rattle.nexus_main.specs.Forms.{form_of, formula_trees};
-ghost use Rattle.nexus_main.specs.Outcomes.{IsJustifiedIfAllowed, IsSupportVerdict, IsUnanswered, IsVerdictOn};
+ghost use Rattle.nexus_main.specs.Inner.Forms.{form_of, formula_trees};
+ghost use Rattle.nexus_main.specs.Outcomes.{IsJustifiedIfAllowed, IsVerdictOn};
+ghost use Rattle.nexus_main.specs.Inner.Support.{IsSupportVerdict, IsUnanswered};
 
 use crate::check_form::Input;
 use crate::statements::subject_variable;

@@ -1,59 +1,31 @@
 //! `nexus`: an authorization service by logical attestation.
 #![tactic(auto)]
 
+mod arguments;
 mod check_form;
 mod judge;
+mod laws;
 mod lines;
 mod outcomes;
 mod places;
 mod program;
 mod stages;
+mod start;
 mod statements;
 #[cfg(test)]
 mod tests;
 
+pub use arguments::{Arguments, SystemArguments};
+pub use laws::an_input_has_one_outcome;
 use nx_io::{StdSink, StdSource};
 pub use program::{Ended, run};
-use std::alloc::{AllocError, Global};
-use std::env;
-use std::io::ErrorKind;
+pub use start::start;
 use std::process::ExitCode;
 
-/// Runs the program on the words of its call, on standard input and on standard output. Arguments that are not
-/// UTF-8 are no words of a command.
+/// Starts the program on the arguments of its call, on standard input and on standard output, and ends with its status.
 fn main(rt: HostRuntime) -> ExitCode {
-    let alloc = rt.alloc();
-    let arguments = match env::args(&rt) {
-        Ok(arguments) => arguments,
-        Err(error) => {
-            let status = if error.kind() == ErrorKind::OutOfMemory {
-                6
-            } else {
-                2
-            };
-            return ExitCode::from(status);
-        }
-    };
-    let mut texts: Vec<String> = Vec::new(alloc);
-    for text in arguments {
-        if texts.push(text).is_err() {
-            return ExitCode::from(6);
-        }
-    }
-    let Ok(words) = words_after_name(alloc, texts.as_slice()) else {
-        return ExitCode::from(6);
-    };
+    let mut arguments = SystemArguments::new(&rt);
     let mut input = StdSource::new(rt.stdin());
     let mut output = StdSink::new(rt.stdout());
-    let ended = run(&rt, alloc, words.as_slice(), &mut input, &mut output);
-    ExitCode::from(ended.status)
-}
-
-/// The words after the program's name.
-fn words_after_name<'a>(alloc: Global, texts: &'a [String]) -> Result<Vec<&'a str>, AllocError> {
-    let mut words = Vec::new(alloc);
-    for text in texts.iter().skip(1) {
-        words.push(text.as_str())?;
-    }
-    Ok(words)
+    start(&rt, rt.alloc(), &mut arguments, &mut input, &mut output)
 }

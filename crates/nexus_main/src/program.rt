@@ -1,8 +1,9 @@
-ghost use Rattle.std.specs.Prelude.{◌≡◌, ◌≢◌, ◌<◌, ◌≤◌, ◌↔◌, ◌∷◌, [], IfOk, IsTrue, ℕ, List, codes, map, length};
+ghost use Rattle.std.specs.Prelude.{◌≡◌, ◌≢◌, ◌<◌, ◌≤◌, ◌↔◌, ◌∷◌, ◌⊎◌, [], Err, IfOk, IsTrue, ℕ, List, codes, map, length};
 ghost use Rattle.std.specs.Io.KnownBytes.{IsAtEnd};
-ghost use Rattle.nx_io.specs.Streams.{Rose, prepended};
-ghost use Rattle.nexus_main.specs.Outcomes.{IsOutcome, greatest_size};
-ghost use Rattle.nexus_main.specs.Program.{Ends, IsTooLong, Tells, check_words};
+ghost use Rattle.nx_io.specs.Streams.{Gave, Grows, gained};
+ghost use Rattle.nexus_main.specs.Outcomes.{IsOutcome, most_bytes};
+ghost use Rattle.nexus_main.specs.Program.{Ends, RunsCheck, check_words};
+ghost use Rattle.nexus_main.specs.Inner.Ends.{Tells, faults_after_reading};
 
 use crate::check_form::{Input, InputError};
 use crate::judge::judge;
@@ -10,8 +11,8 @@ use crate::outcomes::Outcome;
 use nx_io::{Got, Reach, Sink, Source, send_all};
 use std::alloc::{AllocError, Global};
 
-/// The greatest size of an input, in bytes.
-const GREATEST_SIZE: usize = 67_108_864;
+/// How many bytes an input has at most.
+const MOST_BYTES: usize = 67_108_864;
 
 /// How many bytes one read asks for.
 const BUFFER_SIZE: usize = 4096;
@@ -35,7 +36,10 @@ enum ReadError {
 ///
 /// The status is 0 at `allowed`, 1 at `denied`, 2 where the words are not those of a command, which then reads and
 /// writes nothing, 3 where the input is refused, 4 where the source failed, 5 where the sink failed, and 6 where
-/// memory ran out. At 4 and 6 nothing was written. `docs/FORMATS.md`, "Statuses", states this.
+/// memory ran out. At 4 and 6 nothing was written, and at 5 a proper part of the outcome's line.
+/// `docs/FORMATS.md`, "Statuses", states this.
+///
+/// The input is what the source gives in this call. It is read to its first end, unless it is too large.
 pub fn run<R, S: Source, K: Sink>(
     _rt: &R,
     alloc: Global,
@@ -45,9 +49,19 @@ pub fn run<R, S: Source, K: Sink>(
 ) -> Ended
     ensures other_words { map (λ w. w.now) words.now ≢ check_words
         → (result.status ≡ 2) × (input.new ≡ input.old) × (output.new ≡ output.old) }
-    ensures check { map (λ w. w.now) words.now ≡ check_words
-        → Ends (S.left input.old) (S.left input.new) (S.faults input.old) (S.faults input.new)
-        (K.sent output.old) (K.sent output.new) (K.faults output.old) (K.faults output.new) result.status }
+    ensures gave { Gave (S.left input.old) (S.left input.new) (S.given input.old) (S.given input.new) }
+    ensures sent { Grows (K.sent output.old) (K.sent output.new) }
+    ensures untouched { (result.status ≡ 4) ⊎ (result.status ≡ 6) → output.new ≡ output.old }
+    ensures check { map (λ w. w.now) words.now ≡ check_words → RunsCheck
+        (record {
+          known = S.left input.old;
+          given = gained (S.given input.old) (S.given input.new);
+          over = S.over input.new;
+          faults = S.faults input.old;
+          faults_now = S.faults input.new;
+        })
+        (record { sent = gained (K.sent output.old) (K.sent output.new); faults = K.faults output.old; faults_now = K.faults output.new })
+        result.status }
 {
     if is_check(words) {
         check(alloc, input, output)
@@ -81,8 +95,19 @@ fn is_check_word(word: &str) -> bool
 
 /// Reads one input and writes its outcome.
 fn check<S: Source, K: Sink>(alloc: Global, input: &mut S, output: &mut K) -> Ended
-    ensures { Ends (S.left input.old) (S.left input.new) (S.faults input.old) (S.faults input.new)
-        (K.sent output.old) (K.sent output.new) (K.faults output.old) (K.faults output.new) result.status }
+    ensures gave { Gave (S.left input.old) (S.left input.new) (S.given input.old) (S.given input.new) }
+    ensures sent { Grows (K.sent output.old) (K.sent output.new) }
+    ensures untouched { (result.status ≡ 4) ⊎ (result.status ≡ 6) → output.new ≡ output.old }
+    ensures ends { Ends
+        (record {
+          known = S.left input.old;
+          given = gained (S.given input.old) (S.given input.new);
+          over = S.over input.new;
+          faults = S.faults input.old;
+          faults_now = S.faults input.new;
+        })
+        (record { sent = gained (K.sent output.old) (K.sent output.new); faults = K.faults output.old; faults_now = K.faults output.new })
+        result.status }
 {
     match read_whole(alloc, input) {
         Ok(text) => match outcome(alloc, text.as_slice()) {
@@ -97,10 +122,11 @@ fn check<S: Source, K: Sink>(alloc: Global, input: &mut S, output: &mut K) -> En
 
 /// Reads a source to its end, or until it has given more bytes than an input may have.
 fn read_whole<S: Source>(alloc: Global, source: &mut S) -> Result<Vec<u8>, ReadError>
-    ensures ok { IfOk result (λ whole. (length whole.items ≤ greatest_size)
-        × (S.left source.old ≡ prepended whole.items (S.left source.new)) × IsAtEnd (S.left source.new)) }
-    ensures large { result ≡ Err ReadError.TooLarge → IsTooLong (S.left source.old) (S.left source.new) }
-    ensures failed { result ≡ Err ReadError.Failed → Rose (S.faults source.old) (S.faults source.new) }
+    ensures gave { Gave (S.left source.old) (S.left source.new) (S.given source.old) (S.given source.new) }
+    ensures whole { IfOk result (λ whole. (length whole.items ≤ most_bytes)
+        × (gained (S.given source.old) (S.given source.new) ≡ whole.items) × IsTrue (S.over source.new) × IsAtEnd (S.left source.new)) }
+    ensures large { result ≡ Err ReadError.TooLarge → most_bytes < length (gained (S.given source.old) (S.given source.new)) }
+    ensures count { S.faults source.new ≡ faults_after_reading result (S.faults source.old) }
 {
     let mut whole = Vec::new(alloc);
     let mut buffer = [0u8; BUFFER_SIZE];
@@ -110,7 +136,7 @@ fn read_whole<S: Source>(alloc: Global, source: &mut S) -> Result<Vec<u8>, ReadE
                 if whole.extend_from_slice(&buffer[..count]).is_err() {
                     return Err(ReadError::Memory);
                 }
-                if whole.len() > GREATEST_SIZE {
+                if whole.len() > MOST_BYTES {
                     return Err(ReadError::TooLarge);
                 }
             }
@@ -122,7 +148,7 @@ fn read_whole<S: Source>(alloc: Global, source: &mut S) -> Result<Vec<u8>, ReadE
 
 /// What the text of an input comes to.
 fn outcome(alloc: Global, text: &[u8]) -> Result<Outcome, AllocError>
-    requires { length text.now ≤ greatest_size }
+    requires { length text.now ≤ most_bytes }
     ensures { IfOk result (λ outcome. IsOutcome text.now outcome × (outcome ≢ Outcome.TooLarge)) }
 {
     match Input::read(alloc, text) {
@@ -136,8 +162,10 @@ fn outcome(alloc: Global, text: &[u8]) -> Result<Outcome, AllocError>
 }
 
 /// Writes the outcome.
+#[tactic(auto, using(crate::proofs::Programs::told_status))]
 fn tell<K: Sink>(alloc: Global, output: &mut K, outcome: Outcome) -> Ended
-    ensures { Tells outcome (K.sent output.old) (K.sent output.new) (K.faults output.old) (K.faults output.new) result.status }
+    ensures untouched { (result.status ≡ 4) ⊎ (result.status ≡ 6) → output.new ≡ output.old }
+    ensures told { Tells outcome (K.sent output.old) (K.sent output.new) (K.faults output.old) (K.faults output.new) result.status }
 {
     let Ok(text) = outcome.output(alloc) else {
         return Ended { status: 6 };

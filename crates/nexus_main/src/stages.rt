@@ -32,13 +32,14 @@ pub enum LineError {
 const MOST_FORMULAS: usize = 4096;
 
 impl Progress {
-    ghost use Rattle.std.specs.Prelude.{◌≢◌, IfOk, IfErr};
+    ghost use Rattle.std.specs.Prelude.{◌≡◌, ◌≢◌, IfOk, IfErr};
     ghost use Rattle.nexus_main.specs.CheckForm.{Stage, Follows};
-    ghost use Rattle.nexus_main.specs.Forms.{stage_of};
+    ghost use Rattle.nexus_main.specs.Inner.Forms.{stage_of};
 
     /// The progress after one line more. `Wrong` exactly where the line may not stand there.
     pub fn after(self, alloc: Global, line: &[u8]) -> Result<Progress, LineError>
         ensures ok { IfOk result (λ next. Follows (stage_of self) line.now (stage_of next)) }
+        ensures only { IfOk result (λ next. (other : Stage) → Follows (stage_of self) line.now other → other ≡ stage_of next) }
         ensures wrong { IfErr result (λ e. e ≢ LineError.Memory → (next : Stage) → ¬ Follows (stage_of self) line.now next) }
     {
         match self {
@@ -61,12 +62,13 @@ impl Progress {
 }
 
 impl Progress {
-    ghost use Rattle.std.specs.Prelude.{◌≢◌, IfOk, IfErr};
+    ghost use Rattle.std.specs.Prelude.{◌≡◌, ◌≢◌, IfOk, IfErr};
     ghost use Rattle.nexus_main.specs.CheckForm.{Stage, Follows, labels_due, yes_due, subject_due};
-    ghost use Rattle.nexus_main.specs.Forms.{stage_of, formula_trees};
+    ghost use Rattle.nexus_main.specs.Inner.Forms.{stage_of, formula_trees};
 
     fn after_subject(alloc: Global, line: &[u8]) -> Result<Progress, LineError>
         ensures ok { IfOk result (λ next. Follows subject_due line.now (stage_of next)) }
+        ensures only { IfOk result (λ next. (other : Stage) → Follows subject_due line.now other → other ≡ stage_of next) }
         ensures wrong { IfErr result (λ e. e ≢ LineError.Memory → (next : Stage) → ¬ Follows subject_due line.now next) }
     {
         let Some(name) = after_word(line, "subject ") else {
@@ -86,6 +88,8 @@ impl Progress {
         line: &[u8],
     ) -> Result<Progress, LineError>
         ensures ok { IfOk result (λ next. Follows (labels_due subject (formula_trees labels.items)) line.now (stage_of next)) }
+        ensures only { IfOk result (λ next. (other : Stage)
+            → Follows (labels_due subject (formula_trees labels.items)) line.now other → other ≡ stage_of next) }
         ensures wrong { IfErr result (λ e. e ≢ LineError.Memory →
             (next : Stage) → ¬ Follows (labels_due subject (formula_trees labels.items)) line.now next) }
     {
@@ -122,6 +126,8 @@ impl Progress {
     ) -> Result<Progress, LineError>
         ensures ok { IfOk result (λ next.
             Follows (yes_due subject (formula_trees labels.items) (formula_trees yes.items)) line.now (stage_of next)) }
+        ensures only { IfOk result (λ next. (other : Stage)
+            → Follows (yes_due subject (formula_trees labels.items) (formula_trees yes.items)) line.now other → other ≡ stage_of next) }
         ensures wrong { IfErr result (λ e. e ≢ LineError.Memory →
             (next : Stage) → ¬ Follows (yes_due subject (formula_trees labels.items) (formula_trees yes.items)) line.now next) }
     {

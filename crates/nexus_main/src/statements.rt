@@ -2,7 +2,7 @@ ghost use Rattle.std.specs.Prelude.{◌≡◌, ◌≢◌, ◌<◌, ◌∷◌, []
 ghost use Rattle.nal_term.specs.Trees.{TermTree, FormulaTree, formula_tree, says};
 ghost use Rattle.nal_parse.specs.Grammar.{IsFormulaText};
 ghost use Rattle.nexus_main.specs.CheckForm.{IsStatement, IsGoal};
-ghost use Rattle.nexus_main.specs.Forms.{formula_trees};
+ghost use Rattle.nexus_main.specs.Inner.Forms.{formula_trees};
 
 use crate::stages::LineError;
 use nal_parse::{ParseError, parse_formula};
@@ -18,6 +18,8 @@ pub fn with_statement(
 ) -> Result<Vec<Formula>, LineError>
     ensures ok { IfOk result (λ longer. (f : FormulaTree) × IsStatement text.now f
         × (formula_trees longer.items ≡ formula_trees formulas.items ++ f ∷ [])) }
+    ensures only { IfOk result (λ longer. (f : FormulaTree) → IsStatement text.now f
+        → formula_trees longer.items ≡ formula_trees formulas.items ++ f ∷ []) }
     ensures wrong { IfErr result (λ e. e ≢ LineError.Memory → (f : FormulaTree) → ¬ IsStatement text.now f) }
 {
     match statement(alloc, text) {
@@ -32,6 +34,7 @@ pub fn with_statement(
 /// The formula of this text, a closed `P says S`. `Wrong` exactly where the text is none.
 fn statement(alloc: Global, text: &[u8]) -> Result<Formula, LineError>
     ensures ok { IfOk result (λ f. IsStatement text.now (formula_tree f)) }
+    ensures only { IfOk result (λ f. (g : FormulaTree) → IsStatement text.now g → g ≡ formula_tree f) }
     ensures wrong { IfErr result (λ e. e ≢ LineError.Memory → (f : FormulaTree) → ¬ IsStatement text.now f) }
 {
     let formula = match formula(alloc, text) {
@@ -50,6 +53,7 @@ fn statement(alloc: Global, text: &[u8]) -> Result<Formula, LineError>
 /// The formula of this text, whose only free variable is `?subject`. `Wrong` exactly where the text is none.
 pub fn goal(alloc: Global, text: &[u8]) -> Result<Formula, LineError>
     ensures ok { IfOk result (λ g. IsGoal text.now (formula_tree g)) }
+    ensures only { IfOk result (λ g. (f : FormulaTree) → IsGoal text.now f → f ≡ formula_tree g) }
     ensures wrong { IfErr result (λ e. e ≢ LineError.Memory → (g : FormulaTree) → ¬ IsGoal text.now g) }
 {
     let formula = match formula(alloc, text) {

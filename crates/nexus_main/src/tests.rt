@@ -1,7 +1,14 @@
 // Whole inputs with the line that is written of each, and what faults of the source and of the sink come to.
+use crate::arguments::SystemArguments;
 use crate::program::run;
-use nx_io::{MemSink, MemSource, Sink, Source};
+use crate::start::start;
+use nx_io::{Discard, MemSink, MemSource, Sink, Source, StdSink, StdSource};
 use std::alloc::AllocError;
+use std::env::FillError;
+use std::io::{self, ErrorKind, Read, Write};
+use std::process::ExitCode;
+use std::rt::Env;
+use std::test::Fail;
 
 // An input, what is written of it, and the status.
 #[derive(Clone, Copy)]
@@ -146,5 +153,171 @@ fn other_words_are_not_run(rt: HostRuntime) -> Result<(), AllocError> {
     );
     assert!(rt; source.left() == ALLOWED.as_bytes());
     assert!(rt; sink.sent().is_empty());
+    Ok(())
+}
+
+// A reader that answers by a script: first these errors, and then these parts, of which an empty one is an end. Then
+// no more comes.
+#[derive(Drop)]
+struct Scripted {
+    errors: &'static [ErrorKind],
+    parts: &'static [&'static str],
+    calls: usize,
+}
+
+impl Read for Scripted {
+    fn read(&mut self, buffer: &mut [u8]) -> io::Result<usize> {
+        let call = self.calls;
+        self.calls = call.saturating_add(1);
+        if call < self.errors.len() {
+            return Err(io::Error::from(self.errors[call]));
+        }
+        let Some(part) = self.parts.get(call - self.errors.len()) else {
+            return Ok(0);
+        };
+        let count = part.len().min(buffer.len());
+        buffer[..count].copy_from_slice(&part.as_bytes()[..count]);
+        Ok(count)
+    }
+}
+
+// A writer that fails at its first call, and takes all that comes after.
+#[derive(Drop)]
+struct FailsOnce {
+    error: ErrorKind,
+    has_failed: bool,
+}
+
+impl Write for FailsOnce {
+    fn write(&mut self, piece: &[u8]) -> io::Result<usize> {
+        if self.has_failed {
+            return Ok(piece.len());
+        }
+        self.has_failed = true;
+        Err(io::Error::from(self.error))
+    }
+
+    fn flush(&mut self) -> io::Result<()> {
+        Ok(())
+    }
+}
+
+// How a run ends over a reader of std: the kinds of its first errors, and then its parts.
+#[derive(Clone, Copy)]
+struct ReaderCase {
+    errors: &'static [ErrorKind],
+    parts: &'static [&'static str],
+    status: u8,
+    faults: u64,
+}
+
+// No clause says what the reader did: only what was given, and which faults were counted.
+#[test]
+fn a_reader_is_read_to_its_first_end_or_fault(rt: HostRuntime) -> Result<(), Fail> {
+    let alloc = rt.alloc();
+    let cases = [
+        // What comes after the end is not read: with it the input would be refused.
+        ReaderCase {
+            errors: &[],
+            parts: &[ALLOWED, "", "x"],
+            status: 0,
+            faults: 0,
+        },
+        ReaderCase {
+            errors: &[ErrorKind::Other],
+            parts: &[ALLOWED],
+            status: 4,
+            faults: 1,
+        },
+        ReaderCase {
+            errors: &[ErrorKind::Interrupted, ErrorKind::Interrupted],
+            parts: &[ALLOWED],
+            status: 0,
+            faults: 0,
+        },
+        ReaderCase {
+            errors: &[ErrorKind::Interrupted, ErrorKind::Other],
+            parts: &[ALLOWED],
+            status: 4,
+            faults: 1,
+        },
+    ];
+    for case in cases {
+        let mut source = StdSource::new(Scripted {
+            errors: case.errors,
+            parts: case.parts,
+            calls: 0,
+        });
+        let mut sink = Discard::new();
+        let ended = run(&rt, alloc, &["check"], &mut source, &mut sink);
+        assert_eq!(rt; ended.status, case.status);
+        assert_eq!(rt; source.faults(), case.faults);
+    }
+    Ok(())
+}
+
+#[test]
+fn a_write_that_fails_ends_the_program(rt: HostRuntime) -> Result<(), Fail> {
+    let alloc = rt.alloc();
+    for (error, status) in [(ErrorKind::BrokenPipe, 5), (ErrorKind::Interrupted, 0)] {
+        let mut source = MemSource::new(alloc, ALLOWED.as_bytes(), 7, &[])?;
+        let mut sink = StdSink::new(FailsOnce {
+            error,
+            has_failed: false,
+        });
+        let ended = run(&rt, alloc, &["check"], &mut source, &mut sink);
+        assert_eq!(rt; ended.status, status);
+    }
+    Ok(())
+}
+
+// A call with these arguments, the program's name first.
+#[derive(Drop)]
+struct Call {
+    arguments: &'static [&'static [u8]],
+}
+
+impl Env for Call {
+    fn arg(&self, i: usize, buf: &mut [u8]) -> Result<usize, FillError> {
+        let Some(argument) = self.arguments.get(i) else {
+            return Err(FillError::NotPresent);
+        };
+        if argument.len() > buf.len() {
+            return Err(FillError::TooLong);
+        }
+        buf[..argument.len()].copy_from_slice(argument);
+        Ok(argument.len())
+    }
+
+    fn var(&self, _name: &str, _buf: &mut [u8]) -> Result<usize, FillError> {
+        Err(FillError::NotPresent)
+    }
+
+    fn var_at(&self, _i: usize, _buf: &mut [u8]) -> Result<usize, FillError> {
+        Err(FillError::NotPresent)
+    }
+}
+
+#[test]
+fn all_words_after_the_name_count(rt: HostRuntime) -> Result<(), Fail> {
+    let alloc = rt.alloc();
+    let calls: [(&'static [&'static [u8]], u8); 7] = [
+        (&[b"nexus", b"check"], 0),
+        // The program's name is any bytes.
+        (&[b"\xff", b"check"], 0),
+        (&[b"", b"check"], 0),
+        (&[b"nexus"], 2),
+        (&[], 2),
+        (&[b"nexus", b"check", b""], 2),
+        (&[b"nexus", b"check", b"\xff"], 2),
+    ];
+    for (arguments, status) in calls {
+        let call = Call { arguments };
+        let mut source = MemSource::new(alloc, ALLOWED.as_bytes(), 4096, &[])?;
+        let mut sink = Discard::new();
+        let mut words = SystemArguments::new(&call);
+        let code = start(&rt, alloc, &mut words, &mut source, &mut sink);
+        assert!(rt; code == ExitCode::from(status));
+    }
     Ok(())
 }

@@ -1,51 +1,40 @@
 -- Laws of what sources and sinks tell.
-use Rattle.std.proofs.Common.{◌≡◌, ℕ, ◌+◌, ◌≤◌, List, [], ◌++◌, length, take, drop, refl, sym, ◌∙◌, ap, append_assoc, arith, length-append, subst, rules}
+use Rattle.std.proofs.Common.{◌≡◌, ℕ, ◌+◌, ◌≤◌, List, ◌++◌, length, take, drop, sym, ◌∙◌, ap, append_assoc, arith, length-append, subst}
 use Rattle.std.specs.Prelude.{None, Some}
 use Rattle.std.specs.declared.option.Option.{Option}
 use Rattle.std.proofs.Math.Seq.{drop-append_seam, take-add, take-append_seam}
 use Rattle.std.proofs.lemmas.List.{drop-drop, length-take-le, take-append-drop}
-use Rattle.nx_io.specs.Streams.{appended, prepended}
-
--- nothing appended
-pub appended-nil : (told : Option (List ℕ)) → appended told [] ≡ told
-appended-nil None = refl
-appended-nil (Some told) = search rules
-
--- one piece appended after another
-pub appended-appended : (told : Option (List ℕ)) (a b : List ℕ) → appended (appended told a) b ≡ appended told (a ++ b)
-appended-appended None a b = refl
-appended-appended (Some told) a b = rw append_assoc
-
--- nothing in front
-pub prepended-nil : (told : Option (List ℕ)) → prepended [] told ≡ told
-prepended-nil None = refl
-prepended-nil (Some told) = refl
-
--- one piece in front of another
-pub prepended-prepended : (told : Option (List ℕ)) (a b : List ℕ) → prepended a (prepended b told) ≡ prepended (a ++ b) told
-prepended-prepended None a b = refl
-prepended-prepended (Some told) a b = rw append_assoc
+use Rattle.nx_io.specs.Streams.{prepended}
 
 -- a front of a piece was appended, and then a front of its rest
-pub appended-take-add : (old now new : Option (List ℕ)) (piece rest : List ℕ) (done n : ℕ) → rest ≡ drop done piece → now ≡ appended old (take done piece) → new ≡ appended now (take n rest) → new ≡ appended old (take (done + n) piece)
+pub appended-take-add : (old now new piece rest : List ℕ) (done n : ℕ) → rest ≡ drop done piece → now ≡ old ++ take done piece → new ≡ now ++ take n rest → new ≡ old ++ take (done + n) piece
 appended-take-add old now new piece rest done n r e f =
-    f ∙ ap (λ told. appended told (take n rest)) e
-    ∙ ap (λ xs. appended (appended old (take done piece)) (take n xs)) r
-    ∙ appended-appended old (take done piece) (take n (drop done piece))
-    ∙ ap (appended old) (sym (take-add done n piece))
+    f ∙ ap (λ told. told ++ take n rest) e
+    ∙ ap (λ xs. (old ++ take done piece) ++ take n xs) r
+    ∙ append_assoc old (take done piece) (take n (drop done piece))
+    ∙ ap (λ xs. old ++ xs) (sym (take-add done n piece))
 
--- within a send of a piece: so much of it is done, and the count has not fallen
-pub record IsSending (old now : Option (List ℕ)) (before count : ℕ) (piece : List ℕ) (done : ℕ) : Type 0 where
+-- within a send of a piece: so much of it is done, and no write has failed
+pub record IsSending (old now : List ℕ) (before count : ℕ) (piece : List ℕ) (done : ℕ) : Type 0 where
   pub within : done ≤ length piece
-  pub sent : now ≡ appended old (take done piece)
-  pub later : before ≤ count
+  pub sent : now ≡ old ++ take done piece
+  pub still : count ≡ before
+
+-- what stands at the front of a buffer
+front-of-buffer : (rest into given : List ℕ) (n : ℕ) → n ≤ length rest → given ≡ take n rest → take n (given ++ drop n into) ≡ given
+front-of-buffer rest into given n fits e =
+    let len : length given ≡ n = ap length e ∙ length-take-le n rest fits in
+    subst (λ (k : ℕ). take k (given ++ drop n into) ≡ given) len (take-append_seam given (drop n into))
 
 -- the first n bytes to come stand at the front of a buffer: they and the rest are what was to come
 pub taken-front : (bytes rest into given : List ℕ) (taken n : ℕ) → rest ≡ drop taken bytes → n ≤ length rest → given ≡ take n rest → take n (given ++ drop n into) ++ drop (taken + n) bytes ≡ drop taken bytes
 taken-front bytes rest into given taken n r fits e =
-    let len : length given ≡ n = ap length e ∙ length-take-le n rest fits in
-    let front : take n (given ++ drop n into) ≡ given = subst (λ (k : ℕ). take k (given ++ drop n into) ≡ given) len (take-append_seam given (drop n into)) in
-    rw (front, e, r, ← drop-drop n taken bytes) (take-append-drop n (drop taken bytes))
+    rw (front-of-buffer rest into given n fits e, e, r, ← drop-drop n taken bytes) (take-append-drop n (drop taken bytes))
+
+-- the first n bytes to come stand at the front of a buffer: they come after those that were taken before
+pub taken-more : (bytes rest into given : List ℕ) (taken n : ℕ) → rest ≡ drop taken bytes → n ≤ length rest → given ≡ take n rest → take (taken + n) bytes ≡ take taken bytes ++ take n (given ++ drop n into)
+taken-more bytes rest into given taken n r fits e =
+    rw (front-of-buffer rest into given n fits e, e, r) (take-add taken n bytes)
 
 -- a list that begins with a front, told by lengths
 front-rest : (told front rest : List ℕ) (n : ℕ) → length front ≡ n → told ≡ front ++ rest → (n ≤ length told) × (front ≡ take n told) × (rest ≡ drop n told)

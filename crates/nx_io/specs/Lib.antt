@@ -1,3 +1,4 @@
+pub mod Histories
 pub mod Memory
 pub mod Readers
 pub mod Streams

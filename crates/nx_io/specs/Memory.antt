@@ -1,5 +1,5 @@
 -- Sources and sinks in memory, as contracts see them, and what their calls do.
-use Rattle.std.specs.Prelude.{◌≡◌, ◌↔◌, ◌⊎◌, ℕ, ◌-◌, min, List, length}
+use Rattle.std.specs.Prelude.{◌≡◌, ◌↔◌, ◌⊎◌, ℕ, ◌-◌, min, List, length, Bool}
 use Rattle.std.specs.List.{Contains}
 use Rattle.nx_io.specs.Streams.{faults_after_read, faults_after_write, one_more}
 use Rattle.nx_io.specs.declared.streams.Got.{Got}
@@ -7,15 +7,19 @@ use Rattle.nx_io.specs.declared.streams.Got.TheVariants.{Bytes as GotBytes, End 
 use Rattle.nx_io.specs.declared.streams.Put.{Put}
 use Rattle.nx_io.specs.declared.streams.Put.TheVariants.{Bytes as PutBytes, Failed as PutFailed}
 
--- a source: the bytes to come, the greatest size of a piece, the numbers of the calls that fail, the calls so far, and the faults
+-- a source: the bytes to come, those that were given, whether it is over, the greatest size of a piece, the numbers of
+-- the calls that fail, the calls so far, and the faults
 pub record Supply : Type 0 where
   pub left : List ℕ
+  pub given : List ℕ
+  pub over : Bool
   pub piece : ℕ
   pub fails : List ℕ
   pub calls : ℕ
   pub faults : ℕ
 
--- a sink: the bytes that it holds and their greatest number, the greatest size of a piece, the numbers of the calls that fail, the calls so far, and the faults
+-- a sink: the bytes that it holds and their greatest number, the greatest size of a piece, the numbers of the calls
+-- that fail, the calls so far, and the faults
 pub record Store : Type 0 where
   pub sent : List ℕ
   pub room : ℕ

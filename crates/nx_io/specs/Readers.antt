@@ -1,5 +1,5 @@
 -- Sources over readers and sinks over writers of std, as contracts see them, and what their calls do.
-use Rattle.std.specs.Prelude.{ℕ, List, [], take}
+use Rattle.std.specs.Prelude.{ℕ, List, [], take, Bool}
 use Rattle.std.specs.Io.KnownBytes.{Appends, Consumes, IsAtEnd, Keeps}
 use Rattle.std.specs.declared.option.Option.{Option}
 use Rattle.nx_io.specs.declared.streams.Got.{Got}
@@ -7,14 +7,18 @@ use Rattle.nx_io.specs.declared.streams.Got.TheVariants.{Bytes as GotBytes, End 
 use Rattle.nx_io.specs.declared.streams.Put.{Put}
 use Rattle.nx_io.specs.declared.streams.Put.TheVariants.{Bytes as PutBytes, Failed as PutFailed}
 
--- a source: the bytes that its reader has left, where std knows them, and the faults
+-- a source: the bytes that its reader has left, where std knows them, those that it gave, whether it is over, and the
+-- faults
 pub record Reading : Type 0 where
   pub remaining : Option (List ℕ)
+  pub given : List ℕ
+  pub over : Bool
   pub faults : ℕ
 
--- a sink: the bytes that its writer holds, where std knows them, and the faults
+-- a sink: the bytes that its writer holds, where std knows them, those that were sent, and the faults
 pub record Writing : Type 0 where
   pub contents : Option (List ℕ)
+  pub sent : List ℕ
   pub faults : ℕ
 
 -- what a read does to the known bytes of the reader: it hands them on

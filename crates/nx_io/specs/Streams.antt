@@ -1,5 +1,5 @@
--- What reads and writes answer, and what they do to the bytes of a source and of a sink, where these are told.
-use Rattle.std.specs.Prelude.{◌≡◌, ℕ, ◌+◌, ◌-◌, ◌^◌, ◌≤◌, min, List, ◌++◌, length, take, None, Some}
+-- What reads and writes answer, and what they do to the histories of a source and of a sink.
+use Rattle.std.specs.Prelude.{◌≡◌, ℕ, ◌+◌, ◌-◌, ◌^◌, ◌≤◌, ◌<◌, min, List, ◌++◌, length, take, drop, None, Some, Bool, true, false}
 use Rattle.std.specs.Io.KnownBytes.{IsAtEnd}
 use Rattle.std.specs.declared.option.Option.{Option}
 use Rattle.nx_io.specs.declared.streams.Got.{Got}
@@ -17,32 +17,29 @@ one_more count = min (count + 1) (2 ^ 64 - 1)
 abbrev pub Rose : ℕ → ℕ → Type 0
 Rose before now = one_more before ≤ now
 
--- the count of faults after a read that raises it at `Failed` alone
+-- the count of faults after a read: one more at `Failed`, the same at any other answer
 abbrev pub faults_after_read : Got → ℕ → ℕ
 faults_after_read (GotBytes n) faults = faults
 faults_after_read GotEnd faults = faults
 faults_after_read GotFailed faults = one_more faults
 
--- the count of faults after a write that raises it at `Failed` alone
+-- the count of faults after a write: one more at `Failed`, the same at any other answer
 abbrev pub faults_after_write : Put → ℕ → ℕ
 faults_after_write (PutBytes n) faults = faults
 faults_after_write PutFailed faults = one_more faults
 
--- a read answers `Failed` only where the count rose
-abbrev pub ReadCause : Got → ℕ → ℕ → Type 0
-ReadCause (GotBytes n) before now = Unit {0}
-ReadCause GotEnd before now = Unit {0}
-ReadCause GotFailed before now = Rose before now
+-- the count of faults after a call that is done as a whole: one more at `Failed`, the same at `Ready`
+abbrev pub faults_after_reach : Reach → ℕ → ℕ
+faults_after_reach ReachReady faults = faults
+faults_after_reach ReachFailed faults = one_more faults
 
--- a write answers `Failed` only where the count rose
-abbrev pub WriteCause : Put → ℕ → ℕ → Type 0
-WriteCause (PutBytes n) before now = Unit {0}
-WriteCause PutFailed before now = Rose before now
+-- what a history gained between two moments
+abbrev pub gained : {A : Type 0} → List A → List A → List A
+gained before now = drop (length before) now
 
--- a call answers `Failed` only where the count rose
-abbrev pub ReachCause : Reach → ℕ → ℕ → Type 0
-ReachCause ReachReady before now = Unit {0}
-ReachCause ReachFailed before now = Rose before now
+-- a history grew, or stayed as it was: all that it held it still holds
+abbrev pub Grows : {A : Type 0} → List A → List A → Type 0
+Grows before now = now ≡ before ++ gained before now
 
 -- a read of bytes gives at least one, and no more than the buffer holds
 abbrev pub ReadsWithin : Got → List ℕ → Type 0
@@ -55,37 +52,49 @@ abbrev pub WritesWithin : Put → List ℕ → Type 0
 WritesWithin (PutBytes n) piece = (1 ≤ n) × (n ≤ length piece)
 WritesWithin PutFailed piece = Unit {0}
 
--- these bytes, and then the told ones
+-- these bytes, and then the known ones
 abbrev pub prepended : List ℕ → Option (List ℕ) → Option (List ℕ)
 prepended bytes None = None
-prepended bytes (Some told) = Some (bytes ++ told)
+prepended bytes (Some known) = Some (bytes ++ known)
 
--- the told bytes, and then these
-abbrev pub appended : Option (List ℕ) → List ℕ → Option (List ℕ)
-appended None bytes = None
-appended (Some told) bytes = Some (told ++ bytes)
-
--- The bytes still to come, before and after a read: the first n of the buffer come off their front,
--- the end is told only where none is left, and nothing else changes them.
+-- The bytes still to come, before and after a read, where they are known: the first n of the buffer come off their
+-- front, the end is answered only where none is left, and nothing else changes them.
 abbrev pub Reads : Got → Option (List ℕ) → Option (List ℕ) → List ℕ → Type 0
 Reads (GotBytes n) old new into = old ≡ prepended (take n into) new
 Reads GotEnd old new into = (new ≡ old) × IsAtEnd old
 Reads GotFailed old new into = new ≡ old
 
--- the piece is appended to the bytes that were sent
-abbrev pub Sends : Option (List ℕ) → Option (List ℕ) → List ℕ → Type 0
-Sends old new piece = new ≡ appended old piece
+-- the bytes given so far, after a read: the first n of the buffer come last
+abbrev pub given_after : Got → List ℕ → List ℕ → List ℕ
+given_after (GotBytes n) given into = given ++ take n into
+given_after GotEnd given into = given
+given_after GotFailed given into = given
 
--- a front of the piece is appended
-abbrev pub SendsPart : Option (List ℕ) → Option (List ℕ) → List ℕ → Type 0
-SendsPart old new piece = (n : ℕ) × (n ≤ length piece) × Sends old new (take n piece)
+-- whether a source is over, after a read: the end makes it so, bytes end that, and a failure changes nothing
+abbrev pub over_after : Got → Bool → Bool
+over_after (GotBytes n) over = false
+over_after GotEnd over = true
+over_after GotFailed over = over
+
+-- what a source did over some time: the bytes that its history gained came off the front of those to come
+pub record Gave (left left_now : Option (List ℕ)) (given given_now : List ℕ) : Type 0 where
+  pub grows : Grows given given_now
+  pub taken : left ≡ prepended (gained given given_now) left_now
+
+-- the piece is appended to the bytes that were sent
+abbrev pub Sends : List ℕ → List ℕ → List ℕ → Type 0
+Sends old new piece = new ≡ old ++ piece
+
+-- a proper part of the piece is appended: a front of it, and not all
+abbrev pub SendsPart : List ℕ → List ℕ → List ℕ → Type 0
+SendsPart old new piece = (n : ℕ) × (n < length piece) × Sends old new (take n piece)
 
 -- the bytes that were sent, before and after a write: the first n of the piece are appended, or nothing
-abbrev pub Writes : Put → Option (List ℕ) → Option (List ℕ) → List ℕ → Type 0
+abbrev pub Writes : Put → List ℕ → List ℕ → List ℕ → Type 0
 Writes (PutBytes n) old new piece = Sends old new (take n piece)
 Writes PutFailed old new piece = new ≡ old
 
--- the bytes that were sent, before and after a whole piece was to be: all of it is appended, or a front of it
-abbrev pub SendsAll : Reach → Option (List ℕ) → Option (List ℕ) → List ℕ → Type 0
+-- the bytes that were sent, before and after a whole piece was to be: all of it is appended, or a proper part of it
+abbrev pub SendsAll : Reach → List ℕ → List ℕ → List ℕ → Type 0
 SendsAll ReachReady old new piece = Sends old new piece
 SendsAll ReachFailed old new piece = SendsPart old new piece

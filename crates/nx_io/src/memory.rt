@@ -1,7 +1,7 @@
 // A source and a sink in memory, which fail at the calls that they are told.
-ghost use Rattle.std.specs.Prelude.{◌<◌, ◌≡◌, ◌↔◌, ◌≤◌, [], length, IfOk, IsTrue, Some};
+ghost use Rattle.std.specs.Prelude.{◌<◌, ◌≡◌, ◌↔◌, ◌≤◌, [], false, length, IfOk, IsTrue, Some};
 ghost use Rattle.std.specs.List.{Contains};
-ghost use Rattle.nx_io.specs.Streams.{ReadCause, Reads, ReadsWithin, WriteCause, Writes, WritesWithin, one_more};
+ghost use Rattle.nx_io.specs.Streams.{Reads, ReadsWithin, Writes, WritesWithin, faults_after_read, faults_after_write, given_after, one_more, over_after};
 ghost use Rattle.nx_io.specs.Memory.{Stores, Supplies};
 
 use crate::streams::{Got, Put, Sink, Source};
@@ -55,18 +55,21 @@ impl Script {
 pub struct MemSource {
     bytes: Vec<u8>,
     taken: usize,
+    over: bool,
     piece: usize,
     script: Script,
 }
 
 impl Model for MemSource {
-    ghost use Rattle.std.specs.Prelude.{◌≤◌, drop, length};
+    ghost use Rattle.std.specs.Prelude.{◌≤◌, drop, length, take};
     ghost use Rattle.nx_io.specs.Memory.{Supply};
 
     ghost Value = { Supply };
 
     ghost view = { λ s. record {
       left = drop s.taken s.bytes.items;
+      given = take s.taken s.bytes.items;
+      over = s.over;
       piece = s.piece;
       fails = s.script.fails.items;
       calls = s.script.calls;
@@ -86,11 +89,12 @@ impl MemSource {
         fails: &[u64],
     ) -> Result<MemSource, AllocError>
         requires { 1 ≤ piece }
-        ensures { IfOk result (λ source. source ≡ record { left = left.now; piece = piece; fails = fails.now; calls = 0; faults = 0 }) }
+        ensures { IfOk result (λ source. source ≡ record { left = left.now; given = []; over = false; piece = piece; fails = fails.now; calls = 0; faults = 0 }) }
     {
         Ok(MemSource {
             bytes: Vec::from_slice(alloc, left)?,
             taken: 0,
+            over: false,
             piece,
             script: Script::new(alloc, fails)?,
         })
@@ -114,6 +118,10 @@ impl MemSource {
 impl Source for MemSource {
     ghost left = { λ s. Some s.left };
 
+    ghost given = { λ s. s.given };
+
+    ghost over = { λ s. s.over };
+
     ghost faults = { λ s. s.faults };
 
     /// As of any source. A call fails where its number is listed, and nowhere else.
@@ -121,8 +129,10 @@ impl Source for MemSource {
         requires { 0 < length into.old }
         ensures within { ReadsWithin result into.new }
         ensures bytes { Reads result (Some self.old.left) (Some self.new.left) into.new }
+        ensures given { self.new.given ≡ given_after result self.old.given into.new }
+        ensures over { self.new.over ≡ over_after result self.old.over }
         ensures later { self.old.faults ≤ self.new.faults }
-        ensures cause { ReadCause result self.old.faults self.new.faults }
+        ensures count { self.new.faults ≡ faults_after_read result self.old.faults }
         ensures exact { Supplies result self.old self.new into.new }
     {
         if self.script.call_fails() {
@@ -131,11 +141,13 @@ impl Source for MemSource {
         }
         let left = &self.bytes[self.taken..];
         if left.is_empty() {
+            self.over = true;
             return Got::End;
         }
         let count = left.len().min(self.piece).min(into.len());
         into[..count].copy_from_slice(&left[..count]);
         self.taken += count;
+        self.over = false;
         Got::Bytes(count)
     }
 }
@@ -205,7 +217,7 @@ impl MemSink {
 }
 
 impl Sink for MemSink {
-    ghost sent = { λ s. Some s.sent };
+    ghost sent = { λ s. s.sent };
 
     ghost faults = { λ s. s.faults };
 
@@ -213,9 +225,9 @@ impl Sink for MemSink {
     fn write(&mut self, piece: &[u8]) -> Put
         requires { 0 < length piece.now }
         ensures within { WritesWithin result piece.now }
-        ensures bytes { Writes result (Some self.old.sent) (Some self.new.sent) piece.now }
+        ensures bytes { Writes result self.old.sent self.new.sent piece.now }
         ensures later { self.old.faults ≤ self.new.faults }
-        ensures cause { WriteCause result self.old.faults self.new.faults }
+        ensures count { self.new.faults ≡ faults_after_write result self.old.faults }
         ensures exact { Stores result self.old self.new piece.now }
     {
         let room_left = self.room - self.sent.len();

@@ -1,6 +1,7 @@
-// Sources and sinks, by the bytes that they have left or were sent, and by a count of their faults.
-ghost use Rattle.std.specs.Prelude.{◌<◌, ◌≤◌, List, Option, ℕ, length};
-ghost use Rattle.nx_io.specs.Streams.{ReachCause, ReadCause, Reads, ReadsWithin, SendsAll, WriteCause, Writes, WritesWithin};
+// Sources and sinks, by the histories of what they gave and took, and by a count of their faults.
+// `docs/ARCHITECTURE.md`, "What contracts see of the outside", states the form that all such traits have.
+ghost use Rattle.std.specs.Prelude.{◌≡◌, ◌<◌, ◌≤◌, Bool, List, Option, ℕ, length};
+ghost use Rattle.nx_io.specs.Streams.{Reads, ReadsWithin, SendsAll, Writes, WritesWithin, faults_after_reach, faults_after_read, faults_after_write, given_after, over_after};
 
 /// What a read answers.
 #[derive(Clone, Copy, Debug, PartialEq, Eq)]
@@ -44,8 +45,14 @@ pub enum Shared<T> {
 
 /// Where bytes come from.
 pub trait Source {
-    /// The bytes still to come, where the source tells them.
+    /// The bytes still to come, where the source knows them: one in memory does.
     ghost left: { Self → Option (List ℕ) };
+
+    /// The bytes that its reads have given, in order. Every source tells them.
+    ghost given: { Self → List ℕ };
+
+    /// Whether its end was answered, and nothing was given since.
+    ghost over: { Self → Bool };
 
     /// How often the source has failed. The count stands still at its type's end.
     ghost faults: { Self → ℕ };
@@ -53,19 +60,22 @@ pub trait Source {
     /// Reads some bytes into the front of the buffer, which has room for one at least.
     ///
     /// `Bytes(n)` took the first n bytes to come, n being at least 1, and put them there. `End` comes only where
-    /// none is to come. `Failed` comes only where the source failed in this call, and took none.
+    /// none is to come. `Failed` comes only where the source failed in this call, and took none. The count of faults
+    /// rises by one at `Failed` and at no other answer.
     fn read(&mut self, into: &mut [u8]) -> Got
         requires { 0 < length into.old }
         ensures within { ReadsWithin result into.new }
         ensures bytes { Reads result (left self.old) (left self.new) into.new }
+        ensures given { given self.new ≡ given_after result (given self.old) into.new }
+        ensures over { over self.new ≡ over_after result (over self.old) }
         ensures later { faults self.old ≤ faults self.new }
-        ensures cause { ReadCause result (faults self.old) (faults self.new) };
+        ensures count { faults self.new ≡ faults_after_read result (faults self.old) };
 }
 
 /// Where bytes go to.
 pub trait Sink {
-    /// The bytes that were sent, where the sink tells them.
-    ghost sent: { Self → Option (List ℕ) };
+    /// The bytes that its writes have taken, in order. Every sink tells them.
+    ghost sent: { Self → List ℕ };
 
     /// How often the sink has failed. The count stands still at its type's end.
     ghost faults: { Self → ℕ };
@@ -73,23 +83,23 @@ pub trait Sink {
     /// Sends some bytes of the front of a piece, which has one at least.
     ///
     /// `Bytes(n)` sent the first n bytes of the piece, n being at least 1. `Failed` comes only where the sink failed
-    /// in this call, and sent none.
+    /// in this call, and sent none. The count of faults rises by one at `Failed` and at no other answer.
     fn write(&mut self, piece: &[u8]) -> Put
         requires { 0 < length piece.now }
         ensures within { WritesWithin result piece.now }
         ensures bytes { Writes result (sent self.old) (sent self.new) piece.now }
         ensures later { faults self.old ≤ faults self.new }
-        ensures cause { WriteCause result (faults self.old) (faults self.new) };
+        ensures count { faults self.new ≡ faults_after_write result (faults self.old) };
 }
 
 /// Sends a whole piece, in as many writes as it takes. It takes no memory.
 ///
-/// At `Ready` all of it was sent. `Failed` comes only where the sink failed in this call, and a front of the piece
-/// was sent.
+/// At `Ready` all of it was sent, and no write failed. `Failed` comes where one write failed, which was the last, and
+/// a proper part of the piece was sent.
 pub fn send_all<K: Sink>(sink: &mut K, piece: &[u8]) -> Reach
     ensures bytes { SendsAll result (K.sent sink.old) (K.sent sink.new) piece.now }
     ensures later { K.faults sink.old ≤ K.faults sink.new }
-    ensures cause { ReachCause result (K.faults sink.old) (K.faults sink.new) }
+    ensures count { K.faults sink.new ≡ faults_after_reach result (K.faults sink.old) }
 {
     let mut done = 0;
     while done < piece.len() {

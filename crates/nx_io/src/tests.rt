@@ -1,8 +1,8 @@
 // The devices as their callers meet them: generic code over each, and the answers of single calls.
 use crate::{
-    Bytes, Got, MemSink, MemSource, Put, Reach, Sink, Source, StdSink, StdSource, send_all,
+    Bytes, Discard, Got, MemSink, MemSource, Put, Reach, Sink, Source, StdSink, StdSource, send_all,
 };
-use std::io::{self, ErrorKind, Read};
+use std::io::{self, ErrorKind, Read, Write};
 use std::test::Fail;
 
 // Sends on what a source gives, in at most so many reads, and reads again after a fault.
@@ -105,13 +105,60 @@ fn memory_devices_send_on_and_fail_where_they_are_told(rt: HostRuntime) -> Resul
     Ok(())
 }
 
-// A reader that fails.
+// A reader that answers by a script: first these errors, and then these parts, of which an empty one is an end. Then
+// no more comes.
 #[derive(Drop)]
-struct Broken;
+struct Scripted {
+    errors: &'static [ErrorKind],
+    parts: &'static [&'static [u8]],
+    calls: usize,
+}
 
-impl Read for Broken {
-    fn read(&mut self, _: &mut [u8]) -> io::Result<usize> {
-        Err(io::Error::from(ErrorKind::Other))
+impl Scripted {
+    fn new(errors: &'static [ErrorKind], parts: &'static [&'static [u8]]) -> Scripted {
+        Scripted {
+            errors,
+            parts,
+            calls: 0,
+        }
+    }
+}
+
+impl Read for Scripted {
+    fn read(&mut self, buffer: &mut [u8]) -> io::Result<usize> {
+        let call = self.calls;
+        self.calls = call.saturating_add(1);
+        if call < self.errors.len() {
+            return Err(io::Error::from(self.errors[call]));
+        }
+        let Some(part) = self.parts.get(call - self.errors.len()) else {
+            return Ok(0);
+        };
+        let count = part.len().min(buffer.len());
+        buffer[..count].copy_from_slice(&part[..count]);
+        Ok(count)
+    }
+}
+
+// A writer that answers by a script: first these errors, and then it takes two bytes at most.
+#[derive(Drop)]
+struct Reluctant {
+    errors: &'static [ErrorKind],
+    calls: usize,
+}
+
+impl Write for Reluctant {
+    fn write(&mut self, piece: &[u8]) -> io::Result<usize> {
+        let call = self.calls;
+        self.calls = call.saturating_add(1);
+        if call < self.errors.len() {
+            return Err(io::Error::from(self.errors[call]));
+        }
+        Ok(piece.len().min(2))
+    }
+
+    fn flush(&mut self) -> io::Result<()> {
+        Ok(())
     }
 }
 
@@ -119,22 +166,83 @@ impl Read for Broken {
 fn readers_and_writers_of_std_serve(rt: HostRuntime) -> Result<(), Fail> {
     let alloc = rt.alloc();
     let mut written = Vec::new(alloc);
+    let mut buffer = [0; 3];
     let mut source = StdSource::new(b"some bytes".as_slice());
     let mut sink = StdSink::new(&mut written);
     assert_eq!(rt; forward(&mut source, &mut sink, 4), Reach::Ready);
     assert_eq!(rt; (source.faults(), sink.faults()), (0, 0));
+    drop(sink);
     assert_eq!(rt; written.as_slice(), b"some bytes".as_slice());
-
-    let mut buffer = [0; 3];
-    let mut broken = StdSource::new(Broken);
-    assert_eq!(rt; broken.read(&mut buffer), Got::Failed);
-    assert_eq!(rt; broken.faults(), 1);
 
     // A slice takes what it has room for, and then nothing.
     let mut full = StdSink::new(buffer.as_mut_slice());
     assert_eq!(rt; full.write(b"abcde"), Put::Bytes(3));
     assert_eq!(rt; full.write(b"de"), Put::Failed);
     assert_eq!(rt; full.faults(), 1);
+    Ok(())
+}
+
+// No clause can say that the reader of std has failed: only that a fault was counted.
+#[test]
+fn a_read_that_fails_once_is_told_and_counted_once(rt: HostRuntime) {
+    let mut source = StdSource::new(Scripted::new(&[ErrorKind::Other], &[b"ab"]));
+    let mut buffer = [0; 4];
+    assert_eq!(rt; source.read(&mut buffer), Got::Failed);
+    assert_eq!(rt; source.faults(), 1);
+    assert_eq!(rt; source.read(&mut buffer), Got::Bytes(2));
+    assert_eq!(rt; source.read(&mut buffer), Got::End);
+    assert_eq!(rt; source.faults(), 1);
+}
+
+#[test]
+fn a_write_that_fails_once_is_told_and_counted_once(rt: HostRuntime) {
+    let mut sink = StdSink::new(Reluctant {
+        errors: &[ErrorKind::BrokenPipe],
+        calls: 0,
+    });
+    assert_eq!(rt; send_all(&mut sink, b"abcd"), Reach::Failed);
+    assert_eq!(rt; sink.faults(), 1);
+    assert_eq!(rt; sink.write(b"abcd"), Put::Bytes(2));
+    assert_eq!(rt; send_all(&mut sink, b"cd"), Reach::Ready);
+    assert_eq!(rt; sink.faults(), 1);
+}
+
+#[test]
+fn a_call_that_a_signal_interrupts_is_no_fault(rt: HostRuntime) {
+    let mut source = StdSource::new(Scripted::new(
+        &[ErrorKind::Interrupted, ErrorKind::Interrupted],
+        &[b"ab"],
+    ));
+    let mut buffer = [0; 4];
+    assert_eq!(rt; source.read(&mut buffer), Got::Bytes(2));
+    assert_eq!(rt; source.faults(), 0);
+    let mut sink = StdSink::new(Reluctant {
+        errors: &[ErrorKind::Interrupted, ErrorKind::Interrupted],
+        calls: 0,
+    });
+    assert_eq!(rt; sink.write(b"abcd"), Put::Bytes(2));
+    assert_eq!(rt; sink.faults(), 0);
+}
+
+// A terminal gives bytes again after its end was told.
+#[test]
+fn a_reader_may_have_more_after_its_end(rt: HostRuntime) {
+    let mut source = StdSource::new(Scripted::new(&[], &[b"ab", b"", b"cd"]));
+    let mut buffer = [0; 4];
+    assert_eq!(rt; source.read(&mut buffer), Got::Bytes(2));
+    assert_eq!(rt; source.read(&mut buffer), Got::End);
+    assert_eq!(rt; source.read(&mut buffer), Got::Bytes(2));
+    assert_eq!(rt; source.faults(), 0);
+}
+
+#[test]
+fn what_is_discarded_is_taken_whole(rt: HostRuntime) -> Result<(), Fail> {
+    let alloc = rt.alloc();
+    let mut source = MemSource::new(alloc, b"abcdefgh", 3, &[2])?;
+    let mut sink = Discard::new();
+    assert_eq!(rt; forward(&mut source, &mut sink, 16), Reach::Ready);
+    assert!(rt; source.left().is_empty());
+    assert_eq!(rt; sink.write(b"abc"), Put::Bytes(3));
     Ok(())
 }
 

@@ -1,4 +1,4 @@
-use Rattle.nexus_main.specs.Forms.{formula_trees}
+use Rattle.nexus_main.specs.Inner.Forms.{formula_trees}
 use Rattle.nexus_main.proofs.Verdicts.{label_line, not_label}
 use Rattle.nexus_main.proofs.judge.is_missing_label.Goals as goal
 

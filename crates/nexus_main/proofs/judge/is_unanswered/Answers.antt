@@ -1,4 +1,4 @@
-use Rattle.nexus_main.specs.Forms.{formula_trees}
+use Rattle.nexus_main.specs.Inner.Forms.{formula_trees}
 use Rattle.nexus_main.proofs.Verdicts.{ask_line, not_ask}
 use Rattle.nexus_main.proofs.judge.is_unanswered.Goals as goal
 

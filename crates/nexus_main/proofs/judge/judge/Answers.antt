@@ -1,5 +1,5 @@
 use Rattle.nal_term.specs.Trees.{formula_tree}
-use Rattle.nexus_main.specs.Forms.{form_of}
+use Rattle.nexus_main.specs.Inner.Forms.{form_of}
 use Rattle.nexus_main.proofs.Verdicts.{unset, empty_proof, faulty, supported, no_lines, told_some}
 use Rattle.nexus_main.proofs.Justified.{justified}
 use Rattle.nexus_main.proofs.judge.judge.Goals as goal

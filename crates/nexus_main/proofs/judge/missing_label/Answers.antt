@@ -1,7 +1,7 @@
 use Rattle.std.proofs.Common.{arith}
 use Rattle.proof_lines.specs.Lines.{line_trees}
 use Rattle.nal_rules.specs.Verdicts.{IsMissingLabel}
-use Rattle.nexus_main.specs.Forms.{formula_trees}
+use Rattle.nexus_main.specs.Inner.Forms.{formula_trees}
 use Rattle.nexus_main.proofs.Verdicts.{one_more, within}
 use Rattle.nexus_main.proofs.judge.missing_label.Goals as goal
 

@@ -1,7 +1,7 @@
 use Rattle.std.proofs.Common.{ℕ, ◌<◌}
 use Rattle.proof_lines.specs.Lines.{line_trees}
-use Rattle.nexus_main.specs.Outcomes.{IsUnanswered}
-use Rattle.nexus_main.specs.Forms.{formula_trees}
+use Rattle.nexus_main.specs.Inner.Support.{IsUnanswered}
+use Rattle.nexus_main.specs.Inner.Forms.{formula_trees}
 use Rattle.nexus_main.proofs.judge.unanswered.Given as goal
 
 abbrev pub invariant-loop-number : goal.invariant-loop-number

@@ -1,4 +1,4 @@
-use Rattle.std.proofs.Common.{ap, arith, length, length-drop}
+use Rattle.std.proofs.Common.{ap, arith, length, length-drop, ◌∙◌}
 use Rattle.std.proofs.lemmas.List.{take_rest}
 use Rattle.nx_io.proofs.Told.{appended-take-add}
 use Rattle.nx_io.proofs.streams.send_all.Goals as goal
@@ -10,5 +10,5 @@ loop-done-preserved g c = record {
   sent =
       appended-take-add _ _ _ c.args.piece.now _ c.loop-done.done c.in-Bytes.count
       (take_rest c.args.piece.now c.loop-done.done) c.loop-done.invariant.sent c.in-Bytes.ensures.bytes;
-  later = omega arith;
+  still = c.in-Bytes.ensures.count ∙ c.loop-done.invariant.still;
 }

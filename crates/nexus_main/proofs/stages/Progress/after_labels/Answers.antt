@@ -1,8 +1,8 @@
 use Rattle.std.proofs.Common.{◌<◌, length, arith}
 use Rattle.std.proofs.lemmas.List.{length-map}
 use Rattle.nal_term.specs.Trees.{formula_tree}
-use Rattle.nexus_main.specs.Forms.{formula_trees}
-use Rattle.nexus_main.proofs.Following.{label_follows, first_yes_follows, goal_follows, labels_wrong, same_after_label, same_after_yes, same_after_goal, label_not_yes, label_not_goal, yes_not_goal}
+use Rattle.nexus_main.specs.Inner.Forms.{formula_trees}
+use Rattle.nexus_main.proofs.Following.{first_yes_only, goal_only, label_only, label_follows, first_yes_follows, goal_follows, labels_wrong, same_after_label, same_after_yes, same_after_goal, label_not_yes, label_not_goal, yes_not_goal}
 use Rattle.nexus_main.proofs.stages.Progress.after_labels.Goals as goal
 
 pub returns-in-Ok-clause-ok : goal.returns-in-Ok-clause-ok
@@ -33,3 +33,12 @@ returns-in-Err-goal-clause-wrong c = λ h next f. labels_wrong
     (λ t g e room s. label_not_goal e c.in-Some-after_word-2.ensures)
     (λ t g e s. yes_not_goal e c.in-Some-after_word-2.ensures)
     (λ t g e s. c.in-Err-goal.ensures.wrong h g (rw (same_after_goal c.in-Some-after_word-2.ensures e) s)) f
+
+pub returns-in-Ok-clause-only : goal.returns-in-Ok-clause-only
+returns-in-Ok-clause-only c = λ other f. label_only _ c.in-Some.ensures c.in-Ok.ensures.only f
+
+pub returns-in-Ok-with_statement-clause-only : goal.returns-in-Ok-with_statement-clause-only
+returns-in-Ok-with_statement-clause-only c = λ other f. first_yes_only _ c.in-Some-after_word.ensures c.new.ensures.items c.in-Ok-with_statement.ensures.only f
+
+pub returns-in-Ok-goal-clause-only : goal.returns-in-Ok-goal-clause-only
+returns-in-Ok-goal-clause-only c = λ other f. goal_only c.in-Some-after_word-2.ensures c.new-in-Ok-goal.ensures.items c.in-Ok-goal.ensures.only f

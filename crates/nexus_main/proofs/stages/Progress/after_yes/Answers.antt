@@ -2,8 +2,8 @@ use Rattle.std.proofs.Common.{◌<◌, length, arith}
 use Rattle.std.proofs.lemmas.List.{length-map}
 use Rattle.nal_term.specs.Trees.{formula_tree}
 use Rattle.nexus_main.specs.CheckForm.{goal_after_yes}
-use Rattle.nexus_main.specs.Forms.{formula_trees}
-use Rattle.nexus_main.proofs.Following.{next_yes_follows, yes_wrong, same_after_yes, same_after_goal, yes_not_goal}
+use Rattle.nexus_main.specs.Inner.Forms.{formula_trees}
+use Rattle.nexus_main.proofs.Following.{goal_after_yes_only, next_yes_only, next_yes_follows, yes_wrong, same_after_yes, same_after_goal, yes_not_goal}
 use Rattle.nexus_main.proofs.stages.Progress.after_yes.Goals as goal
 
 pub returns-in-Ok-clause-ok : goal.returns-in-Ok-clause-ok
@@ -23,3 +23,9 @@ pub returns-in-Err-goal-clause-wrong : goal.returns-in-Err-goal-clause-wrong
 returns-in-Err-goal-clause-wrong c = λ h next f. yes_wrong
     (λ t g e room s. yes_not_goal e c.in-Some-after_word.ensures)
     (λ t g e s. c.in-Err-goal.ensures.wrong h g (rw (same_after_goal c.in-Some-after_word.ensures e) s)) f
+
+pub returns-in-Ok-clause-only : goal.returns-in-Ok-clause-only
+returns-in-Ok-clause-only c = λ other f. next_yes_only _ c.in-Some.ensures c.in-Ok.ensures.only f
+
+pub returns-in-Ok-goal-clause-only : goal.returns-in-Ok-goal-clause-only
+returns-in-Ok-goal-clause-only c = λ other f. goal_after_yes_only c.in-Some-after_word.ensures c.in-Ok-goal.ensures.only f

@@ -48,6 +48,6 @@ IsWrongProof rest lines (Wrong k) = (error : ProofError) × (j : ℕ) × IsRefus
 IsWrongProof rest lines Memory = Unit {0}
 
 -- the line that is told is the lowest that is wrong
-abbrev pub IsRightError : List ℕ → InputError → Type 0
-IsRightError text (Wrong k) = IsWrongAt text k
-IsRightError text Memory = Unit {0}
+abbrev pub IsWrongLine : List ℕ → InputError → Type 0
+IsWrongLine text (Wrong k) = IsWrongAt text k
+IsWrongLine text Memory = Unit {0}

@@ -1,0 +1,4 @@
+-- Words that only the contracts of private functions use. No statement about the program rests on them.
+pub mod Ends
+pub mod Forms
+pub mod Support
