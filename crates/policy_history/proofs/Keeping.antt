@@ -26,6 +26,10 @@ module _ (h : Head) (es : List Entry) (policy : Policy) (greatest : ℕ) (kept :
       let m = length-map es entry_tree in
       omega (arith, e, l, m)
 
+  -- as many were accepted as there are
+  pub kept_accepted : (replay h (entry_trees es)).entries ≡ length es
+  kept_accepted = sym (ap (λ (s : State). s.entries) kept.state) ∙ kept_length
+
   -- one more entry that is accepted is kept
   pub kept_more : (x : Entry) (p : Policy) (g : ℕ) → x.principal < length h.principals → refusal_of h (state_of policy) x.session x.principal (event_tree x.event) ≡ None
       → state_of p ≡ accepted h (state_of policy) x.session x.principal (event_tree x.event) → g ≡ max greatest x.session → IsKept h (es ++ x ∷ []) p g

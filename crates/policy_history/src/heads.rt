@@ -106,10 +106,11 @@ impl Principals {
         }
     }
 
-    /// How many principals there are: at most 64.
+    /// How many principals there are: at most 64, no two of one name.
     pub fn count(&self) -> u64
         ensures count { result ≡ length self.now }
         ensures bound { result ≤ 64 }
+        ensures principals { ArePrincipals self.now }
     {
         self.items.len() as u64
     }
@@ -270,10 +271,11 @@ impl Authorities {
         }
     }
 
-    /// How many authorities there are: at most 16.
+    /// How many authorities there are: at most 16, no two of one port, each with a port and an address as they may be.
     pub fn count(&self) -> u64
         ensures count { result ≡ length self.now }
         ensures bound { result ≤ 16 }
+        ensures authorities { AreAuthorities self.now }
     {
         self.items.len() as u64
     }

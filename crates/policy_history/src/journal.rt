@@ -7,6 +7,7 @@ ghost use Rattle.label_store.specs.LabelRows.{labels_of};
 ghost use Rattle.policy_history.specs.Events.{admitted, event_tree};
 ghost use Rattle.policy_history.specs.Found.{IsFound};
 ghost use Rattle.policy_history.specs.Judged.{region_in};
+ghost use Rattle.policy_history.specs.Machine.{IsLegal};
 ghost use Rattle.policy_history.specs.Values.{decision, entry_trees, greatest_of, state_after};
 
 use crate::copies::Copies;
@@ -98,10 +99,12 @@ impl Journal {
         &self.head
     }
 
-    /// How many entries there are: at most 262,144.
+    /// How many entries there are: at most 262,144. Each was accepted in its place.
     pub fn count(&self) -> u64
         ensures count { result ≡ length self.now.entries }
         ensures bound { result ≤ 262144 }
+        ensures legal { IsLegal self.now.head (entry_trees self.now.entries) }
+        ensures accepted { (state_after self.now).entries ≡ result }
     {
         let _principals = self.head.principals.count();
         self.entries.len() as u64
@@ -222,7 +225,7 @@ impl Journal {
         self.policy.region(principal, event)
     }
 
-    /// The k-th label of this principal in the order of the label numbers, from 1. None exactly where k is 0 or it has
+    /// The k-th label of this principal, from 1, in the order in which they were said. None exactly where k is 0 or it has
     /// fewer. It takes no memory.
     pub fn label(&self, holder: u32, k: u64) -> Option<&Formula>
         ensures zero { k ≡ 0 → option_copied result ≡ None }

@@ -16,8 +16,8 @@ pub fn replay_goes_by_steps()
     ensures { ReplayIsByStep }
 {}
 
-/// Objects and cases keep their numbers, cases keep their subject, operation and object, and a label has the number of
-/// an entry. The call does nothing.
+/// Objects and cases keep their numbers, cases keep their subject, operation and object, and the number of a label is at
+/// most the number of entries. The call does nothing.
 #[tactic(auto, using(crate::proofs::Staying::objects_stay, crate::proofs::Staying::case_numbers_stay, crate::proofs::Staying::cases_stay, crate::proofs::Soundness::label_numbers))]
 pub fn numbers_stay()
     ensures objects { ObjectsStay }

@@ -1,5 +1,5 @@
 -- The law of allowed cases.
-use Rattle.std.proofs.Common.{◌≡◌, ◌<◌, ◌≤◌, ◌+◌, ◌⊎◌, inl, inr, ℕ, zero, suc, Bool, true, false, cond, List, [], ◌∷◌, length, map, filter, take, Option, Some, None, unwrap_or, refl, sym, ap, ◌∙◌, subst, arith}
+use Rattle.std.proofs.Common.{◌≡◌, ◌<◌, ℕ, zero, suc, Bool, true, false, List, [], ◌∷◌, length, filter, take, Option, Some, None, unwrap_or, refl, sym, ap, ◌∙◌, subst, arith}
 use Rattle.std.specs.List.{All, Contains, slice_get}
 use Rattle.std.proofs.lemmas.List.Elements.{All-nil, All-cons}
 use Rattle.nal_term.specs.Trees.{TermTree, FormulaTree, says}
@@ -8,15 +8,14 @@ use Rattle.proof_lines.specs.declared.rules.Rule.TheVariants.{Label, Ask}
 use Rattle.proof_lines.specs.Lines.{LineTree}
 use Rattle.nal_rules.proofs.ForCallers.{none_at_all, not_out}
 use Rattle.nal_rules.proofs.Weakened.{weakened}
-use Rattle.nal_rules.specs.Asking.{Asked, IsAsked, IsDecided, ask_first, asks_for, later_answers, lines_of, next_answer, port_in}
-use Rattle.nal_rules.specs.Faults.{Applies, HasFault, HasLowestFault, IsFaultless, fault_number, formulas_where, is_ask, is_label, line_at}
-use Rattle.nal_rules.specs.Verdicts.{CaseTree, HasCause, IsAnsweredNo, IsMissingLabel, IsVerdict, cause_number}
+use Rattle.nal_rules.specs.Asking.{Asked, IsDecided, ask_first, asks_for, lines_of, port_in}
+use Rattle.nal_rules.specs.Faults.{Applies, HasLowestFault, IsFaultless, fault_number, formulas_where, is_ask, is_label, line_at}
+use Rattle.nal_rules.specs.Verdicts.{CaseTree, IsAnsweredNo, IsMissingLabel, IsVerdict}
 use Rattle.nal_rules.specs.declared.verdicts.Fault.{Fault}
-use Rattle.nal_rules.specs.declared.verdicts.Cause.{Cause}
 use Rattle.nal_rules.specs.declared.verdicts.Cause.TheVariants.{GoalUnset, NoProof, Line, LabelMissing, NotBound, AuthorityNo}
 use Rattle.nal_rules.specs.declared.verdicts.Verdict.TheVariants.{Allowed}
 use Rattle.proof_check.proofs.Faultless.{faultless_goal}
-use Rattle.proof_check.specs.Laws.{AllowedCasesDerive, IsSupported}
+use Rattle.proof_check.specs.Laws.{AllowedCasesDerive}
 
 module _ (ls : List LineTree) (goal : FormulaTree) (never : (k : ℕ) (fault : Fault) → HasLowestFault ls goal k fault → ⊥) where
   -- where no line has the lowest fault, none has any
