@@ -1,10 +1,9 @@
 -- One more line of a proof adds to a case what it adds by itself.
-use Rattle.std.proofs.Common.{◌≡◌, ◌<◌, ◌+◌, ◌&&◌, ℕ, Bool, true, false, cond, List, [], ◌∷◌, ◌++◌, length, map, filter, take, get_or, refl, sym, ap, ◌∙◌, if◌then◌else◌, append-nil}
+use Rattle.std.proofs.Common.{◌≡◌, ◌<◌, ◌+◌, ℕ, Bool, true, false, List, [], ◌∷◌, ◌++◌, length, map, filter, take, get_or, refl, sym, ap, ◌∙◌, append-nil}
 use Rattle.std.specs.List.{flat_map}
 use Rattle.std.proofs.lemmas.Grind.{flat_map-append}
 use Rattle.std.proofs.lemmas.List.{map-append, take_more}
 use Rattle.std.proofs.lemmas.List.Elements.{filter-append}
-use Rattle.nal_term.specs.Trees.{TermTree, FormulaTree}
 use Rattle.proof_lines.specs.declared.lines.Line.{Line}
 use Rattle.proof_lines.specs.Lines.{LineTree, line_tree, line_trees}
 use Rattle.nal_rules.specs.Faults.{formulas_where, is_ask, is_label}

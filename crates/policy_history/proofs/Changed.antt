@@ -1,7 +1,7 @@
 -- What the calls of the stores do to the rows, in the words of the machine.
-use Rattle.std.proofs.Common.{◌≡◌, ◌≢◌, ◌<◌, ◌≤◌, ◌↔◌, ◌&&◌, ◌⊎◌, inl, inr, ℕ, zero, suc, Bool, true, false, not, cond, nat_eq, nat_le, List, [], ◌∷◌, ◌++◌, length, get_or, set, Option, Some, None, Result, Ok, Err, is_some, is_none, unwrap_or, IsTrue, OnOk, refl, sym, ap, ◌∙◌, subst, arith, slice_set}
-use Rattle.std.specs.List.{position, remove, find, slice_get}
-use Rattle.std.specs.Option.{option_map, option_and_then}
+use Rattle.std.proofs.Common.{◌≡◌, ◌≢◌, ◌<◌, ◌≤◌, ◌↔◌, ◌&&◌, ◌⊎◌, inl, inr, ℕ, Bool, true, false, not, nat_eq, nat_le, List, [], ◌∷◌, ◌++◌, get_or, set, Option, Some, None, Result, Ok, Err, is_some, is_none, unwrap_or, IsTrue, OnOk, refl, sym, ap, ◌∙◌, subst, slice_set}
+use Rattle.std.specs.List.{position, remove, slice_get}
+use Rattle.std.specs.Option.{option_and_then}
 use Rattle.std.specs.Cmp.{unsigned_Decides}
 use Rattle.std.proofs.lemmas.Bool.{le-leb, cases_lt}
 use Rattle.std.proofs.lemmas.List.Quantifiers.{position-Some}

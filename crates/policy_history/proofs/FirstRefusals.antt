@@ -1,13 +1,10 @@
 -- The refusal that is found is the first that applies.
-use Rattle.std.proofs.Common.{◌≡◌, ◌<◌, ◌≤◌, ◌+◌, ◌↔◌, ◌⊎◌, inl, inr, ℕ, zero, suc, Bool, true, false, List, [], ◌∷◌, length, get_or, Option, Some, None, refl, sym, ap, ◌∙◌, subst, arith}
+use Rattle.std.proofs.Common.{◌≡◌, ◌<◌, ◌+◌, ◌⊎◌, inl, inr, ℕ, zero, suc, Bool, true, false, List, [], ◌∷◌, length, get_or, Some, refl, sym, ap, ◌∙◌, arith}
 use Rattle.std.specs.List.{find}
-use Rattle.policy_history.specs.declared.heads.Head.{Head}
 use Rattle.policy_history.specs.declared.events.Refusal.{Refusal}
 use Rattle.policy_history.specs.declared.events.Refusal.TheVariants.{NoSuchPrincipal, NotYourPrincipal, NoSuchLabel, NotHolder, NoSuchObject, NameTaken, NotOwner, NoGoal, NoSuchProof, NoBinding, BadPort, BadFormula, BadProof, Quota, ObjectsFull, CasesFull, NotRecorded}
-use Rattle.policy_history.specs.Events.{EventTree}
 use Rattle.policy_history.specs.Laws.{AcceptedElse, FirstRefusal, refusal_number}
 use Rattle.policy_history.specs.Machine.{applies, refusal_of, refusals}
-use Rattle.policy_history.specs.States.{State}
 use Rattle.policy_history.proofs.Acceptance.{free_where, never_unrecorded, none_applies}
 
 module _ {X : Type 0} (p : X → Bool) where

@@ -1,15 +1,13 @@
 -- When one more principal, or one more authority, may be added to a head.
-use Rattle.std.proofs.Common.{◌≡◌, ◌≢◌, ◌≤◌, ◌<◌, ◌+◌, ◌⊎◌, inl, inr, ℕ, zero, suc, Bool, true, false, List, [], ◌∷◌, ◌++◌, length, get_or, Some, None, nat_eq, refl, sym, ap, subst, ◌∙◌, arith, length-append}
-use Rattle.std.specs.Bool.{Decides}
+use Rattle.std.proofs.Common.{◌≡◌, ◌≢◌, ◌≤◌, ◌<◌, ℕ, zero, suc, Bool, true, false, List, [], ◌∷◌, ◌++◌, length, get_or, Some, None, nat_eq, refl, sym, ap, ◌∙◌, arith, length-append}
 use Rattle.std.specs.Cmp.{unsigned_Decides}
-use Rattle.std.specs.List.{All, AllPairs, list_any, position}
+use Rattle.std.specs.List.{AllPairs, list_any}
 use Rattle.std.proofs.lemmas.List.{get_or_append_left, get_or_push}
 use Rattle.std.proofs.lemmas.List.Elements.{All-push, All-get_or}
 use Rattle.std.proofs.lemmas.List.Folds.{Any-from_list_any}
 use Rattle.std.proofs.lemmas.List.Quantifiers.{all_pairs_push, position-Some}
 use Rattle.nal_term.proofs.Places.{fails_at}
 use Rattle.nal_term.specs.TreeKeys.{same_bytes, same_bytes-Decides}
-use Rattle.nal_term.specs.Secrets.{IsSecret}
 use Rattle.policy_history.specs.Events.{numbered}
 use Rattle.policy_history.specs.Heads.{ArePrincipals, AreAuthorities, IsAuthority}
 use Rattle.policy_history.specs.declared.heads.Principal.{Principal}

@@ -1,18 +1,18 @@
 -- What is known of a journal's parts.
-use Rattle.std.proofs.Common.{◌≡◌, ◌<◌, ◌≤◌, ◌+◌, ℕ, List, ◌∷◌, ◌++◌, [], length, max, Option, Some, None, Result, Ok, Err, IsOk, refl, sym, ap, ◌∙◌, subst, arith}
+use Rattle.std.proofs.Common.{◌≡◌, ◌<◌, ℕ, List, ◌∷◌, ◌++◌, [], length, max, Option, Some, None, Ok, IsOk, refl, sym, ap, ◌∙◌, subst, arith}
 use Rattle.std.proofs.lemmas.List.{length-map, map-append}
 use Rattle.policy_history.specs.declared.heads.Head.{Head}
 use Rattle.policy_history.specs.declared.events.Entry.{Entry}
 use Rattle.policy_history.specs.declared.events.Refusal.{Refusal}
 use Rattle.policy_history.specs.declared.tables.Policy.{Policy}
-use Rattle.policy_history.specs.Events.{EntryTree, EventTree, entry_tree, event_tree, name_of}
+use Rattle.policy_history.specs.Events.{EventTree, entry_tree, event_tree, name_of}
 use Rattle.policy_history.specs.Kept.{IsKept}
 use Rattle.policy_history.specs.Machine.{IsAccepted, IsLegal, accepted, refusal_of, replay, reply_number}
 use Rattle.policy_history.specs.PolicyLines.{entry_line}
 use Rattle.policy_history.specs.Sound.{IsSound}
 use Rattle.policy_history.specs.States.{State, empty_state}
 use Rattle.policy_history.specs.Tables.{state_of}
-use Rattle.policy_history.specs.Values.{decision, entry_trees, greatest_from, greatest_of}
+use Rattle.policy_history.specs.Values.{decision, entry_trees, greatest_of}
 use Rattle.policy_history.proofs.Soundness.{greatest_more, legal_length, legal_more, replay_accepted, sound_replay}
 
 module _ (h : Head) (es : List Entry) (policy : Policy) (greatest : ℕ) (kept : IsKept h es policy greatest) where

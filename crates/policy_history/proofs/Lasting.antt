@@ -1,13 +1,13 @@
 -- A verdict that lasts stays, where goal and proof stay and no label is lost.
-use Rattle.std.proofs.Common.{◌≡◌, ◌<◌, ◌≤◌, ◌+◌, ℕ, zero, suc, Bool, true, false, List, [], ◌∷◌, length, filter, take, Option, Some, None, unwrap_or, refl, sym, ap, ◌∙◌, subst, arith}
+use Rattle.std.proofs.Common.{◌≡◌, ◌<◌, ℕ, zero, suc, Bool, true, false, List, [], ◌∷◌, filter, Option, Some, unwrap_or, refl, sym, ap, ◌∙◌, arith}
 use Rattle.std.specs.List.{Contains, slice_get}
-use Rattle.nal_term.specs.Trees.{TermTree, FormulaTree}
-use Rattle.proof_lines.specs.declared.rules.Rule.TheVariants.{Label, Ask}
+use Rattle.nal_term.specs.Trees.{FormulaTree}
+use Rattle.proof_lines.specs.declared.rules.Rule.TheVariants.{Ask}
 use Rattle.proof_lines.specs.Lines.{LineTree}
 use Rattle.nal_rules.proofs.ForCallers.{none_at_all}
-use Rattle.nal_rules.specs.Faults.{is_ask, line_at, HasLowestFault}
+use Rattle.nal_rules.specs.Faults.{is_ask, line_at}
 use Rattle.nal_rules.specs.Asking.{lines_of}
-use Rattle.nal_rules.specs.Verdicts.{CaseTree, HasCause, IsAnsweredNo, IsLowest, IsMissingLabel, IsUnbound, IsVerdict, cause_number}
+use Rattle.nal_rules.specs.Verdicts.{CaseTree, HasCause, IsMissingLabel, IsVerdict, cause_number}
 use Rattle.nal_rules.specs.declared.verdicts.Cause.{Cause}
 use Rattle.nal_rules.specs.declared.verdicts.Cause.TheVariants.{GoalUnset, NoProof, Line, LabelMissing, NotBound, AuthorityNo}
 use Rattle.nal_rules.specs.declared.verdicts.Verdict.{Verdict}

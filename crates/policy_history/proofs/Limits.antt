@@ -1,18 +1,17 @@
 -- The tests of what is spelled decide what is to be spelled.
-use Rattle.std.proofs.Common.{◌≡◌, ◌≤◌, ◌<◌, ℕ, Bool, true, false, List, [], ◌∷◌, length, codes, IsTrue, ◌↔◌, Option, Some, None, refl, ◌&&◌, nat_le, nat_lt}
+use Rattle.std.proofs.Common.{◌≡◌, ◌≤◌, ℕ, Bool, List, [], ◌∷◌, length, codes, IsTrue, ◌↔◌, Option, Some, None, refl, ◌&&◌, nat_le, nat_lt}
 use Rattle.std.proofs.lemmas.Bool.{leb-true, le-leb}
 use Rattle.std.specs.Bool.{Decides}
 use Rattle.std.specs.List.{All, list_all}
 use Rattle.std.proofs.lemmas.Bool.Decides.{Decides-and, Decides-by_and, Decides-ltb, same_from_decides}
 use Rattle.nal_term.proofs.Closed.{closed_spec, closed_term_spec, closed_but_spec}
-use Rattle.nal_term.specs.Free.{IsClosed, IsClosedBut, IsClosedTerm}
 use Rattle.nal_term.specs.Closed.{covers, covers_term}
 use Rattle.nal_term.specs.Trees.{TermTree, FormulaTree}
 use Rattle.policy_history.specs.Laws.{PlainTests}
 use Rattle.nal_parse.specs.Canonical.{FormulaFits, TermFits, formula_text, formula_levels, term_text}
 use Rattle.proof_lines.specs.Lines.{LineTree}
 use Rattle.proof_text.specs.CanonicalProof.{LineFits, OptionalTermFits, ProofFits, proof_text}
-use Rattle.policy_history.specs.Machine.{bracket_fits, formula_fits, is_goal_formula, is_proof, is_stated, is_statement, line_fits, proof_fits, term_fits}
+use Rattle.policy_history.specs.Machine.{bracket_fits, formula_fits, line_fits, proof_fits, term_fits}
 
 le_decides : (a b : ℕ) → Decides (nat_le a b) (a ≤ b)
 le_decides a b = (leb-true a b, λ h. le-leb a b h)

@@ -1,25 +1,23 @@
 -- The law of verdicts that last: an entry that touches neither region of a case leaves what its verdict rests on.
-use Rattle.std.proofs.Common.{◌≡◌, ◌≢◌, ◌<◌, ◌≤◌, ◌+◌, ◌%◌, ◌⊎◌, ◌||◌, ◌&&◌, inl, inr, ℕ, zero, suc, Bool, true, false, nat_eq, List, [], ◌∷◌, ◌++◌, length, filter, is_none, Option, Some, None, unwrap_or, refl, sym, ap, ◌∙◌, subst, arith, append_assoc, append-nil, length-append}
+use Rattle.std.proofs.Common.{◌≡◌, ◌<◌, ◌+◌, ◌⊎◌, ◌||◌, ◌&&◌, inl, inr, ℕ, zero, suc, Bool, true, false, nat_eq, List, [], ◌∷◌, ◌++◌, length, filter, is_none, Option, Some, None, unwrap_or, refl, sym, ap, ◌∙◌, subst, arith, append_assoc, append-nil, length-append}
 use Rattle.std.specs.List.{Contains, slice_get, find, list_any}
 use Rattle.std.specs.Option.{option_map, option_and_then}
 use Rattle.std.specs.Cmp.{unsigned_Decides}
 use Rattle.std.proofs.lemmas.List.Folds.{list_any-append}
-use Rattle.nal_term.specs.Trees.{TermTree, FormulaTree, says}
+use Rattle.nal_term.specs.Trees.{FormulaTree, says}
 use Rattle.nal_term.specs.TreeKeys.{same_formulas}
 use Rattle.proof_lines.specs.Lines.{LineTree}
 use Rattle.nal_rules.specs.Faults.{formulas_where, is_label}
 use Rattle.nal_rules.specs.declared.verdicts.Verdict.{Verdict}
 use Rattle.object_table.specs.Objects.{number_of}
 use Rattle.goal_store.specs.GoalRows.{GoalRow, goal_of, is_goal}
-use Rattle.proof_store.specs.Cases.{CaseRow, is_case, proof_of, number_of as case_number}
+use Rattle.proof_store.specs.Cases.{CaseRow, is_case}
 use Rattle.label_store.specs.LabelRows.{LabelRow, has_number, holder_of, is_held}
 use Rattle.policy_history.specs.declared.heads.Head.{Head}
-use Rattle.policy_history.specs.declared.events.Refusal.{Refusal}
-use Rattle.policy_history.specs.declared.events.Refusal.TheVariants.{NoSuchLabel, NotHolder, NoSuchObject}
+use Rattle.policy_history.specs.declared.events.Refusal.TheVariants.{NotHolder, NoSuchObject}
 use Rattle.policy_history.specs.Events.{EventTree, EntryTree, say, transfer, delete, new_object, set_goal, clear_goal, set_proof, clear_proof, bind, unbind, numbered}
-use Rattle.policy_history.specs.Judged.{IsRight, IsRightIn, IsUntouched, Touches, case_at, case_of_row, goal_for, labels_for, object_region, proof_for, region_in, store_region}
-use Rattle.policy_history.specs.Machine.{accepted, after, applies, changed, is_another, refusal_of, replay, replay_from}
-use Rattle.policy_history.specs.Rows.{put, alter, take_out}
+use Rattle.policy_history.specs.Judged.{IsRight, IsRightIn, IsUntouched, case_of_row, object_region, proof_for, region_in, store_region}
+use Rattle.policy_history.specs.Machine.{accepted, after, is_another, refusal_of, replay}
 use Rattle.policy_history.specs.States.{State, empty_state, object_or_0}
 use Rattle.policy_history.proofs.Acceptance.{none_applies}
 use Rattle.policy_history.proofs.Changed.{some_where}

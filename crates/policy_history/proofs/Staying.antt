@@ -1,14 +1,11 @@
 -- Objects and cases keep their numbers, and labels have those of their entries.
-use Rattle.std.proofs.Common.{◌≡◌, ◌<◌, ◌≤◌, ◌+◌, ◌⊎◌, ◌&&◌, inl, inr, ℕ, zero, suc, Bool, true, false, nat_eq, List, [], ◌∷◌, ◌++◌, length, map, get_or, is_none, Option, Some, None, unwrap_or, refl, sym, ap, ◌∙◌, subst, arith, append_assoc, append-nil, length-append}
-use Rattle.std.specs.List.{All, Contains, slice_get, position}
-use Rattle.std.specs.Cmp.{unsigned_Decides}
+use Rattle.std.proofs.Common.{◌≡◌, ◌<◌, ◌⊎◌, ◌&&◌, inl, inr, ℕ, zero, suc, Bool, true, false, nat_eq, List, [], ◌∷◌, ◌++◌, length, Some, None, refl, sym, ap, ◌∙◌, subst}
+use Rattle.std.specs.List.{slice_get, position}
 use Rattle.std.proofs.lemmas.List.{map-append}
-use Rattle.nal_term.specs.TreeKeys.{same_bytes, same_bytes-Decides}
+use Rattle.nal_term.specs.TreeKeys.{same_bytes}
 use Rattle.object_table.specs.Objects.{ObjectRow, names_of, number_of}
 use Rattle.proof_store.specs.Cases.{CaseRow, is_case, number_of as case_number}
-use Rattle.label_store.specs.LabelRows.{LabelRow}
 use Rattle.policy_history.specs.declared.heads.Head.{Head}
-use Rattle.policy_history.specs.declared.events.Refusal.{Refusal}
 use Rattle.policy_history.specs.Events.{EventTree, EntryTree, say, transfer, delete, new_object, set_goal, clear_goal, set_proof, clear_proof, bind, unbind}
 use Rattle.policy_history.specs.Laws.{CaseNumbersStay, CasesStay, ObjectsStay, SameTriple}
 use Rattle.policy_history.specs.Machine.{accepted, after, refusal_of, replay, replay_from}
@@ -16,7 +13,7 @@ use Rattle.policy_history.specs.Rows.{put, alter}
 use Rattle.policy_history.specs.States.{State, empty_state, object_or_0}
 use Rattle.policy_history.proofs.Changed.{same_triple}
 use Rattle.policy_history.proofs.RowLaws.{place_alter, place_append, place_put}
-use Rattle.policy_history.proofs.Soundness.{after_cases, replay_more}
+use Rattle.policy_history.proofs.Soundness.{after_cases}
 
 -- what one accepted entry keeps, a list of entries keeps
 module _ (h : Head) (P : State → Type 0) (keeps : (s : State) (session p : ℕ) (e : EventTree) → refusal_of h s session p e ≡ None → P s → P (accepted h s session p e)) where

@@ -1,5 +1,5 @@
 -- What the guard finds under an operation and the name of an object.
-use Rattle.std.specs.Prelude.{◌≡◌, ℕ, List, Option, Some, None}
+use Rattle.std.specs.Prelude.{◌≡◌, ℕ, List, Some, None}
 use Rattle.nal_rules.specs.Asking.{case_tree}
 use Rattle.object_table.specs.Objects.{number_of}
 use Rattle.proof_store.specs.Cases.{number_of as case_number}

@@ -1,5 +1,5 @@
 -- The head of a policy text: who the principals are, and which authorities can be asked.
-use Rattle.std.specs.Prelude.{◌≡◌, ◌≢◌, ◌≤◌, ◌<◌, ℕ, List, length, IsTrue}
+use Rattle.std.specs.Prelude.{◌≢◌, ◌≤◌, ◌<◌, List, length}
 use Rattle.std.specs.List.{All, AllPairs}
 use Rattle.nal_term.specs.Secrets.{IsSecret}
 use Rattle.policy_history.specs.declared.heads.Principal.{Principal}

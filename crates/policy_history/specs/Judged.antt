@@ -1,5 +1,5 @@
 -- What the guard judges at a point of the history, which verdicts last, and which entries touch what they rest on.
-use Rattle.std.specs.Prelude.{◌≡◌, ◌≤◌, ◌<◌, ◌+◌, ◌%◌, ℕ, List, [], ◌∷◌, ◌++◌, map, filter, length, Bool, Option, Some, None, option_map, option_and_then, unwrap_or, codes, slice_get, if◌then◌else◌}
+use Rattle.std.specs.Prelude.{◌≡◌, ◌≤◌, ◌+◌, ◌%◌, ℕ, List, [], ◌∷◌, ◌++◌, filter, length, Option, Some, None, option_map, option_and_then, unwrap_or, codes, slice_get}
 use Rattle.std.specs.List.{flat_map}
 use Rattle.nal_term.specs.Trees.{TermTree, FormulaTree, name, says}
 use Rattle.nal_subst.specs.Substitution.{formula_with}
@@ -17,7 +17,7 @@ use Rattle.label_store.specs.LabelRows.{LabelRow, is_held}
 use Rattle.policy_history.specs.declared.heads.Head.{Head}
 use Rattle.policy_history.specs.Events.{EventTree, EntryTree, transfer, delete, set_goal, clear_goal, set_proof, clear_proof, name_of}
 use Rattle.policy_history.specs.States.{State}
-use Rattle.policy_history.specs.Machine.{after, replay}
+use Rattle.policy_history.specs.Machine.{replay}
 
 -- the goal of an operation on an object for a subject: its name stands in place of `?subject`
 abbrev pub goal_for : Head → State → ℕ → List ℕ → ℕ → Option FormulaTree

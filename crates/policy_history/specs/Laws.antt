@@ -1,5 +1,5 @@
 -- The laws of the policy machine.
-use Rattle.std.specs.Prelude.{◌≡◌, ◌<◌, ◌≤◌, ◌↔◌, ℕ, List, [], ◌∷◌, ◌++◌, length, Bool, true, false, Option, Some, None, Result, Ok, codes, slice_get, IsTrue, All}
+use Rattle.std.specs.Prelude.{◌≡◌, ◌<◌, ◌≤◌, ◌↔◌, ℕ, List, [], ◌∷◌, ◌++◌, length, true, false, Some, None, Ok, codes, slice_get, IsTrue, All}
 use Rattle.nal_term.specs.Trees.{TermTree, FormulaTree}
 use Rattle.nal_term.specs.Free.{IsClosed, IsClosedBut, IsClosedTerm}
 use Rattle.nal_parse.specs.Canonical.{FormulaFits, TermFits}
@@ -15,7 +15,7 @@ use Rattle.policy_history.specs.declared.events.Refusal.TheVariants.{NoSuchPrinc
 use Rattle.policy_history.specs.Events.{EventTree, EntryTree}
 use Rattle.policy_history.specs.States.{State}
 use Rattle.policy_history.specs.Machine.{applies, refusal_of, step, replay, is_stated, is_statement, is_goal_formula, is_proof}
-use Rattle.policy_history.specs.Judged.{IsRight, IsRightIn, IsUntouched, object_region, store_region}
+use Rattle.policy_history.specs.Judged.{IsRight, IsUntouched, object_region, store_region}
 
 -- the number of a refusal
 abbrev pub refusal_number : Refusal → ℕ

@@ -1,8 +1,8 @@
 -- The policy machine: which events are refused and why, what an accepted one changes, and the state that a list of
 -- entries leads to.
-use Rattle.std.specs.Prelude.{◌≡◌, ◌<◌, ◌+◌, ℕ, List, [], ◌∷◌, ◌++◌, length, Bool, true, false, not, ◌&&◌, ◌||◌, nat_eq, nat_lt, nat_le, Option, Some, None, is_some, is_none, option_map, option_and_then, unwrap_or, codes, Result, Ok, Err, if◌then◌else◌, slice_set}
+use Rattle.std.specs.Prelude.{◌≡◌, ◌<◌, ◌+◌, ℕ, List, [], ◌∷◌, ◌++◌, length, Bool, true, false, not, ◌&&◌, ◌||◌, nat_eq, nat_lt, nat_le, Option, Some, None, is_some, is_none, unwrap_or, codes, Result, Ok, Err, if◌then◌else◌, slice_set}
 use Rattle.std.specs.List.{find, list_all, list_any}
-use Rattle.nal_term.specs.Trees.{TermTree, FormulaTree, number, name, text, variable, subprincipal, says}
+use Rattle.nal_term.specs.Trees.{TermTree, FormulaTree, name, subprincipal, says}
 use Rattle.nal_term.specs.TreeKeys.{same_bytes}
 use Rattle.nal_term.specs.Closed.{covers, covers_term}
 use Rattle.nal_parse.specs.Canonical.{formula_text, formula_levels, term_text}
@@ -16,7 +16,7 @@ use Rattle.policy_history.specs.declared.heads.Head.{Head}
 use Rattle.policy_history.specs.declared.heads.Authority.{Authority}
 use Rattle.policy_history.specs.declared.tallies.Tally.{Tally}
 use Rattle.policy_history.specs.declared.events.Refusal.{Refusal}
-use Rattle.policy_history.specs.declared.events.Refusal.TheVariants.{NoSuchPrincipal, NotYourPrincipal, NoSuchLabel, NotHolder, NoSuchObject, NameTaken, NotOwner, NoGoal, NoSuchProof, NoBinding, BadPort, BadFormula, BadProof, Quota, ObjectsFull, CasesFull, NotRecorded}
+use Rattle.policy_history.specs.declared.events.Refusal.TheVariants.{NoSuchPrincipal, NotYourPrincipal, NoSuchLabel, NotHolder, NoSuchObject, NameTaken, NotOwner, NoGoal, NoSuchProof, NoBinding, BadPort, BadFormula, BadProof, Quota, ObjectsFull, CasesFull}
 use Rattle.policy_history.specs.Events.{EventTree, EntryTree, say, transfer, delete, new_object, set_goal, clear_goal, set_proof, clear_proof, bind, unbind, name_of, numbered}
 use Rattle.policy_history.specs.PolicyLines.{entry_line}
 use Rattle.policy_history.specs.Rows.{put, alter, take_out}

@@ -1,9 +1,7 @@
 -- The line of an entry in a policy text.
-use Rattle.std.specs.Prelude.{ℕ, List, [], ◌∷◌, ◌++◌, codes, Option, Some, None}
+use Rattle.std.specs.Prelude.{ℕ, List, [], ◌∷◌, ◌++◌, codes, Some}
 use Rattle.std.specs.Fmt.{decimal}
-use Rattle.nal_term.specs.Trees.{TermTree, FormulaTree}
 use Rattle.nal_parse.specs.Canonical.{formula_text, term_text}
-use Rattle.proof_lines.specs.Lines.{LineTree}
 use Rattle.proof_text.specs.CanonicalProof.{proof_text}
 use Rattle.policy_history.specs.Events.{EventTree, say, transfer, delete, new_object, set_goal, clear_goal, set_proof, clear_proof, bind, unbind}
 

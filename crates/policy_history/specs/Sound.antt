@@ -1,5 +1,5 @@
 -- What holds of each state that a list of entries leads to.
-use Rattle.std.specs.Prelude.{◌≡◌, ◌≤◌, ℕ, length}
+use Rattle.std.specs.Prelude.{◌≡◌, ◌≤◌, length}
 use Rattle.std.specs.List.{All, sum_by}
 use Rattle.label_store.specs.LabelRows.{LabelRow}
 use Rattle.policy_history.specs.declared.heads.Head.{Head}

@@ -1,5 +1,5 @@
 -- The state of the policy: five tables of rows, and how much each principal has added to the journal.
-use Rattle.std.specs.Prelude.{ℕ, List, [], map, length, Option, option_map, option_and_then, unwrap_or, slice_get}
+use Rattle.std.specs.Prelude.{ℕ, List, [], map, Option, option_and_then, unwrap_or, slice_get}
 use Rattle.nal_term.specs.Trees.{FormulaTree}
 use Rattle.proof_lines.specs.Lines.{LineTree}
 use Rattle.object_table.specs.Objects.{ObjectRow, number_of, owner_of}

@@ -1,5 +1,5 @@
 -- A journal as contracts see it.
-use Rattle.std.specs.Prelude.{◌≡◌, ◌≤◌, ℕ, List, [], ◌∷◌, map, length, Option, Some, None, Result, Ok, Err, max}
+use Rattle.std.specs.Prelude.{ℕ, List, [], ◌∷◌, map, length, Option, Some, None, Result, Ok, Err, max}
 use Rattle.policy_history.specs.declared.heads.Head.{Head}
 use Rattle.policy_history.specs.declared.events.Entry.{Entry}
 use Rattle.policy_history.specs.declared.events.Due.{Due}

@@ -1,6 +1,5 @@
-use Rattle.std.proofs.Common.{◌≡◌, ◌++◌, List, take, refl, ap, ◌∙◌, sym}
+use Rattle.std.proofs.Common.{◌++◌, take, ap, ◌∙◌, sym}
 use Rattle.std.proofs.lemmas.List.{take_all}
-use Rattle.goal_store.specs.GoalRows.{ports}
 use Rattle.label_store.specs.LabelRows.{rows as label_rows}
 use Rattle.proof_lines.specs.Lines.{line_tree, line_trees}
 use Rattle.policy_history.specs.Judged.{labels_for}

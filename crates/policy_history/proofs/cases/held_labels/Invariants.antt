@@ -1,10 +1,8 @@
 use Rattle.std.proofs.Common.{◌≡◌, take, map}
 use Rattle.nal_term.specs.Trees.{formula_tree}
 use Rattle.proof_lines.specs.Lines.{line_trees}
-use Rattle.nal_rules.specs.Asking.{binding_tree}
-use Rattle.goal_store.specs.GoalRows.{ports}
 use Rattle.label_store.specs.LabelRows.{rows as label_rows}
-use Rattle.policy_history.specs.Judged.{bindings_for, labels_for}
+use Rattle.policy_history.specs.Judged.{labels_for}
 use Rattle.policy_history.proofs.cases.held_labels.Given as goal
 
 abbrev pub invariant-loop-line : goal.invariant-loop-line

@@ -1,4 +1,4 @@
-use Rattle.std.proofs.Common.{◌≡◌, Bool, true, false, List, [], ◌∷◌, ◌++◌, ◌<◌, length, nat_eq, not, refl, sym, ◌∙◌, ◌↔◌, IsTrue}
+use Rattle.std.proofs.Common.{◌≡◌, Bool, true, false, List, [], ◌∷◌, ◌++◌, ◌<◌, length, nat_eq, not, refl, sym, ◌↔◌, IsTrue}
 use Rattle.std.specs.List.{list_any}
 use Rattle.policy_history.specs.Heads.{AreAuthorities, IsAuthority}
 use Rattle.policy_history.specs.declared.heads.Authority.{Authority}

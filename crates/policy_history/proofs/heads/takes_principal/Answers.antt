@@ -1,4 +1,4 @@
-use Rattle.std.proofs.Common.{refl, sym, true, false}
+use Rattle.std.proofs.Common.{refl, sym}
 use Rattle.policy_history.proofs.HeadLists.{principals_more, principals_taken}
 use Rattle.policy_history.proofs.heads.takes_principal.Goals as goal
 

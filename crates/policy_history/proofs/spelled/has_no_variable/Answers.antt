@@ -1,7 +1,7 @@
 use Rattle.std.proofs.Common.{[]}
 use Rattle.nal_term.proofs.Closed.{closed_term_spec}
 use Rattle.nal_term.specs.Closed.{covers_term}
-use Rattle.nal_term.specs.Trees.{formula_tree, term_tree}
+use Rattle.nal_term.specs.Trees.{term_tree}
 use Rattle.policy_history.proofs.Limits.{same_test}
 use Rattle.policy_history.proofs.spelled.has_no_variable.Goals as goal
 

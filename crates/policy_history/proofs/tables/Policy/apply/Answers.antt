@@ -1,4 +1,4 @@
-use Rattle.std.proofs.Common.{◌≡◌, ◌<◌, ◌≤◌, ◌+◌, ◌-◌, ◌^◌, ℕ, length, min, refl, ap, ◌∙◌, sym, arith}
+use Rattle.std.proofs.Common.{◌≡◌, ◌≤◌, ◌+◌, ◌-◌, ◌^◌, ℕ, length, min, ap, ◌∙◌, arith}
 use Rattle.policy_history.specs.declared.events.Refusal.TheVariants.{Quota}
 use Rattle.policy_history.specs.Events.{event_tree, name_of}
 use Rattle.policy_history.specs.PolicyLines.{entry_line}

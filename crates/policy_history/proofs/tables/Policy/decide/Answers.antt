@@ -1,19 +1,10 @@
-use Rattle.std.proofs.Common.{◌≡◌, ◌<◌, ◌≤◌, ◌+◌, ◌^◌, ℕ, List, Option, Some, None, length, refl, sym, ap, ◌∙◌, subst, arith}
-use Rattle.std.proofs.lemmas.List.{length-map}
-use Rattle.policy_history.specs.declared.heads.Head.{Head}
-use Rattle.policy_history.specs.declared.events.Entry.{Entry}
-use Rattle.policy_history.specs.declared.events.Refusal.{Refusal}
+use Rattle.std.proofs.Common.{◌≡◌, ◌≤◌, None, length, sym, arith}
 use Rattle.policy_history.specs.declared.events.Refusal.TheVariants.{Quota}
-use Rattle.policy_history.specs.declared.tables.Policy.{Policy}
-use Rattle.policy_history.specs.Events.{EntryTree, entry_tree, event_tree}
-use Rattle.policy_history.specs.Kept.{IsKept}
-use Rattle.policy_history.specs.Machine.{accepted, refusal_of, replay}
-use Rattle.policy_history.specs.Sound.{IsSound}
-use Rattle.policy_history.specs.States.{State, empty_state}
+use Rattle.policy_history.specs.Events.{event_tree}
+use Rattle.policy_history.specs.Machine.{refusal_of}
 use Rattle.policy_history.specs.Tables.{state_of}
-use Rattle.policy_history.specs.Values.{entry_trees}
 use Rattle.policy_history.proofs.Acceptance.{line_unspent, none_applies}
-use Rattle.policy_history.proofs.Soundness.{entries_below, entries_most, sound_replay}
+use Rattle.policy_history.proofs.Soundness.{entries_below, entries_most}
 use Rattle.policy_history.proofs.tables.Policy.decide.Goals as goal
 
 pub reply_number-requires : goal.reply_number-requires
