@@ -1,4 +1,5 @@
 pub mod Answers
 pub mod Counts
 pub mod Names
+pub mod Places
 pub mod Unchanged

@@ -4,9 +4,11 @@
 
 mod captures;
 mod instances;
+mod laws;
 mod substitutions;
 #[cfg(test)]
 mod tests;
 
 pub use instances::{Match, instance, instance_counted};
+pub use laws::variables_are_kept_apart;
 pub use substitutions::{SubstError, names_are_never_captured, substitute};

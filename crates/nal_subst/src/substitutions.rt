@@ -2,9 +2,10 @@ ghost use Rattle.std.specs.Prelude.{◌≡◌, ◌≢◌, ◌↔◌, ℕ, List, 
 ghost use Rattle.nal_subst.specs.Below.{part_with};
 ghost use Rattle.nal_subst.specs.Substitution.{formula_with, term_with};
 ghost use Rattle.nal_term.specs.Trees.{FormulaTree, formula_tree, name, term_tree, term_trees};
+ghost use Rattle.nal_term.specs.Trees as tree;
 
 use crate::captures::is_captured;
-use nal_term::{Args, Formula, Name, Term};
+use nal_term::{Args, Compare, Formula, Name, Scope, Term};
 use std::alloc::{AllocError, Global};
 
 /// Why `substitute` made no formula.
@@ -49,44 +50,51 @@ fn replaced(alloc: Global, f: &Formula, x: &Name, t: &Term) -> Result<Formula, A
     match f {
         Formula::True => Ok(Formula::True),
         Formula::False => Ok(Formula::False),
-        Formula::Atom(p, ts) => Ok(Formula::Atom(p.copy(alloc)?, args_replaced(alloc, ts, x, t)?)),
-        Formula::Test(c, u, v) => {
-            let u = term_replaced(alloc, u, x, t)?;
-            Ok(Formula::Test(*c, u, term_replaced(alloc, v, x, t)?))
-        }
+        Formula::Atom(p, ts) => atom_replaced(alloc, p, ts, x, t),
+        Formula::Test(c, u, v) => test_replaced(alloc, *c, u, v, x, t),
         Formula::And(a, b) => {
-            let a = Box::new(alloc, replaced(alloc, a, x, t)?)?;
-            Ok(Formula::And(a, Box::new(alloc, replaced(alloc, b, x, t)?)?))
+            let a = boxed_replaced(alloc, a, x, t)?;
+            Ok(Formula::And(a, boxed_replaced(alloc, b, x, t)?))
         }
         Formula::Or(a, b) => {
-            let a = Box::new(alloc, replaced(alloc, a, x, t)?)?;
-            Ok(Formula::Or(a, Box::new(alloc, replaced(alloc, b, x, t)?)?))
+            let a = boxed_replaced(alloc, a, x, t)?;
+            Ok(Formula::Or(a, boxed_replaced(alloc, b, x, t)?))
         }
         Formula::Implies(a, b) => {
-            let a = Box::new(alloc, replaced(alloc, a, x, t)?)?;
-            Ok(Formula::Implies(a, Box::new(alloc, replaced(alloc, b, x, t)?)?))
+            let a = boxed_replaced(alloc, a, x, t)?;
+            Ok(Formula::Implies(a, boxed_replaced(alloc, b, x, t)?))
         }
         Formula::Forall(y, a) => {
             let a = part_replaced(alloc, y, a, x, t)?;
-            Ok(Formula::Forall(y.copy(alloc)?, Box::new(alloc, a)?))
+            Ok(Formula::Forall(y.copy(alloc)?, a))
         }
         Formula::Exists(y, a) => {
             let a = part_replaced(alloc, y, a, x, t)?;
-            Ok(Formula::Exists(y.copy(alloc)?, Box::new(alloc, a)?))
+            Ok(Formula::Exists(y.copy(alloc)?, a))
         }
         Formula::Says(u, a) => {
-            let u = term_replaced(alloc, u, x, t)?;
-            Ok(Formula::Says(u, Box::new(alloc, replaced(alloc, a, x, t)?)?))
+            let a = boxed_replaced(alloc, a, x, t)?;
+            Ok(Formula::Says(term_replaced(alloc, u, x, t)?, a))
         }
-        Formula::SpeaksFor(u, v) => {
-            let u = term_replaced(alloc, u, x, t)?;
-            Ok(Formula::SpeaksFor(u, term_replaced(alloc, v, x, t)?))
-        }
-        Formula::SpeaksForOn(u, v, s) => {
-            let u = term_replaced(alloc, u, x, t)?;
-            Ok(Formula::SpeaksForOn(u, term_replaced(alloc, v, x, t)?, s.copy(alloc)?))
-        }
+        Formula::SpeaksFor(u, v) => delegation_replaced(alloc, u, v, x, t),
+        Formula::SpeaksForOn(u, v, s) => delegation_on_replaced(alloc, u, v, s, x, t),
     }
+}
+
+// A call of its own, so that a level of a substitution takes little stack.
+#[cycle(replaced)]
+#[inline(never)]
+fn boxed_replaced(
+    alloc: Global,
+    f: &Formula,
+    x: &Name,
+    t: &Term,
+) -> Result<Box<Formula>, AllocError>
+    requires { formula_with x.now (term_tree t.now) (formula_tree f.now) ≢ None }
+    ensures { IfOk result (λ g. formula_with x.now (term_tree t.now) (formula_tree f.now) ≡ Some (formula_tree g.value)) }
+{
+    let replaced = replaced(alloc, f, x, t)?;
+    Ok(Box::new(alloc, replaced)?)
 }
 
 // The part below a quantifier over `y` after the substitution in the whole, where nothing is captured.
@@ -98,15 +106,75 @@ fn part_replaced(
     a: &Formula,
     x: &Name,
     t: &Term,
-) -> Result<Formula, AllocError>
+) -> Result<Box<Formula>, AllocError>
     requires { part_with x.now (term_tree t.now) y.now (formula_tree a.now) ≢ None }
-    ensures { IfOk result (λ b. part_with x.now (term_tree t.now) y.now (formula_tree a.now) ≡ Some (formula_tree b)) }
+    ensures { IfOk result (λ b. part_with x.now (term_tree t.now) y.now (formula_tree a.now) ≡ Some (formula_tree b.value)) }
 {
     if x.as_slice() == y.as_slice() {
-        a.copy(alloc)
+        let copy = a.copy(alloc)?;
+        Ok(Box::new(alloc, copy)?)
     } else {
-        replaced(alloc, a, x, t)
+        boxed_replaced(alloc, a, x, t)
     }
+}
+
+// What has no formula below it, each a call of its own, so that it takes no stack of the levels above.
+
+#[inline(never)]
+fn atom_replaced(
+    alloc: Global,
+    p: &Name,
+    ts: &Args,
+    x: &Name,
+    t: &Term,
+) -> Result<Formula, AllocError>
+    ensures { IfOk result (λ g. formula_with x.now (term_tree t.now) (tree.atom p.now (term_trees ts.now)) ≡ Some (formula_tree g)) }
+{
+    Ok(Formula::Atom(p.copy(alloc)?, args_replaced(alloc, ts, x, t)?))
+}
+
+#[inline(never)]
+fn test_replaced(
+    alloc: Global,
+    c: Compare,
+    u: &Term,
+    v: &Term,
+    x: &Name,
+    t: &Term,
+) -> Result<Formula, AllocError>
+    ensures { IfOk result (λ g. formula_with x.now (term_tree t.now) (tree.test c (term_tree u.now) (term_tree v.now)) ≡ Some (formula_tree g)) }
+{
+    let u = term_replaced(alloc, u, x, t)?;
+    Ok(Formula::Test(c, u, term_replaced(alloc, v, x, t)?))
+}
+
+#[inline(never)]
+fn delegation_replaced(
+    alloc: Global,
+    u: &Term,
+    v: &Term,
+    x: &Name,
+    t: &Term,
+) -> Result<Formula, AllocError>
+    ensures { IfOk result (λ g. formula_with x.now (term_tree t.now) (tree.speaks_for (term_tree u.now) (term_tree v.now)) ≡ Some (formula_tree g)) }
+{
+    let u = term_replaced(alloc, u, x, t)?;
+    Ok(Formula::SpeaksFor(u, term_replaced(alloc, v, x, t)?))
+}
+
+#[inline(never)]
+fn delegation_on_replaced(
+    alloc: Global,
+    u: &Term,
+    v: &Term,
+    s: &Scope,
+    x: &Name,
+    t: &Term,
+) -> Result<Formula, AllocError>
+    ensures { IfOk result (λ g. formula_with x.now (term_tree t.now) (tree.speaks_for_on (term_tree u.now) (term_tree v.now) s.now) ≡ Some (formula_tree g)) }
+{
+    let u = term_replaced(alloc, u, x, t)?;
+    Ok(Formula::SpeaksForOn(u, term_replaced(alloc, v, x, t)?, s.copy(alloc)?))
 }
 
 // The term with `t` in place of each `x`.

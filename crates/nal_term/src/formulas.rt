@@ -1,6 +1,7 @@
 ghost use Rattle.std.specs.Prelude.{◌≡◌, ◌↔◌, ◌+◌, ◌<◌, ◌≤◌, IfOk, IsTrue};
 ghost use Rattle.nal_term.specs.Size.{node_count};
-ghost use Rattle.nal_term.specs.Trees.{formula_tree, term_trees};
+ghost use Rattle.nal_term.specs.Trees.{formula_tree, term_tree, term_trees};
+ghost use Rattle.nal_term.specs.Trees as tree;
 
 use crate::names::Name;
 use crate::scopes::{Scope, equal_scopes};
@@ -63,45 +64,86 @@ impl Drop for Formula {
 
 impl Formula {
     /// A copy of the formula. An `Err` says that there was no memory for it.
+    #[cycle(copy)]
     pub fn copy(&self, alloc: Global) -> Result<Formula, AllocError>
         ensures { IfOk result (λ copy. formula_tree copy ≡ formula_tree self.now) }
     {
         match self {
             Formula::True => Ok(Formula::True),
             Formula::False => Ok(Formula::False),
-            Formula::Atom(p, ts) => Ok(Formula::Atom(p.copy(alloc)?, ts.copy(alloc)?)),
-            Formula::Test(c, t, u) => Ok(Formula::Test(*c, t.copy(alloc)?, u.copy(alloc)?)),
+            Formula::Atom(p, ts) => copied_atom(alloc, p, ts),
+            Formula::Test(c, t, u) => copied_test(alloc, *c, t, u),
             Formula::And(f, g) => {
-                let f = Box::new(alloc, f.copy(alloc)?)?;
-                Ok(Formula::And(f, Box::new(alloc, g.copy(alloc)?)?))
+                let f = f.copy_boxed(alloc)?;
+                Ok(Formula::And(f, g.copy_boxed(alloc)?))
             }
             Formula::Or(f, g) => {
-                let f = Box::new(alloc, f.copy(alloc)?)?;
-                Ok(Formula::Or(f, Box::new(alloc, g.copy(alloc)?)?))
+                let f = f.copy_boxed(alloc)?;
+                Ok(Formula::Or(f, g.copy_boxed(alloc)?))
             }
             Formula::Implies(f, g) => {
-                let f = Box::new(alloc, f.copy(alloc)?)?;
-                Ok(Formula::Implies(f, Box::new(alloc, g.copy(alloc)?)?))
+                let f = f.copy_boxed(alloc)?;
+                Ok(Formula::Implies(f, g.copy_boxed(alloc)?))
             }
             Formula::Forall(x, f) => {
-                let x = x.copy(alloc)?;
-                Ok(Formula::Forall(x, Box::new(alloc, f.copy(alloc)?)?))
+                let f = f.copy_boxed(alloc)?;
+                Ok(Formula::Forall(x.copy(alloc)?, f))
             }
             Formula::Exists(x, f) => {
-                let x = x.copy(alloc)?;
-                Ok(Formula::Exists(x, Box::new(alloc, f.copy(alloc)?)?))
+                let f = f.copy_boxed(alloc)?;
+                Ok(Formula::Exists(x.copy(alloc)?, f))
             }
             Formula::Says(t, f) => {
-                let t = t.copy(alloc)?;
-                Ok(Formula::Says(t, Box::new(alloc, f.copy(alloc)?)?))
+                let f = f.copy_boxed(alloc)?;
+                Ok(Formula::Says(t.copy(alloc)?, f))
             }
-            Formula::SpeaksFor(t, u) => Ok(Formula::SpeaksFor(t.copy(alloc)?, u.copy(alloc)?)),
-            Formula::SpeaksForOn(t, u, s) => {
-                let t = t.copy(alloc)?;
-                Ok(Formula::SpeaksForOn(t, u.copy(alloc)?, s.copy(alloc)?))
-            }
+            Formula::SpeaksFor(t, u) => copied_delegation(alloc, t, u),
+            Formula::SpeaksForOn(t, u, s) => copied_delegation_on(alloc, t, u, s),
         }
     }
+
+    // A call of its own, so that a level of a copy takes little stack.
+    #[cycle(copy)]
+    #[inline(never)]
+    fn copy_boxed(&self, alloc: Global) -> Result<Box<Formula>, AllocError>
+        ensures { IfOk result (λ copy. formula_tree copy.value ≡ formula_tree self.now) }
+    {
+        let copy = self.copy(alloc)?;
+        Ok(Box::new(alloc, copy)?)
+    }
+}
+
+// The copies of what has no formula below it, each a call of its own, so that they take no stack of the levels above.
+
+#[inline(never)]
+fn copied_atom(alloc: Global, p: &Name, ts: &Args) -> Result<Formula, AllocError>
+    ensures { IfOk result (λ copy. formula_tree copy ≡ tree.atom p.now (term_trees ts.now)) }
+{
+    Ok(Formula::Atom(p.copy(alloc)?, ts.copy(alloc)?))
+}
+
+#[inline(never)]
+fn copied_test(alloc: Global, c: Compare, t: &Term, u: &Term) -> Result<Formula, AllocError>
+    ensures { IfOk result (λ copy. formula_tree copy ≡ tree.test c (term_tree t.now) (term_tree u.now)) }
+{
+    let t = t.copy(alloc)?;
+    Ok(Formula::Test(c, t, u.copy(alloc)?))
+}
+
+#[inline(never)]
+fn copied_delegation(alloc: Global, t: &Term, u: &Term) -> Result<Formula, AllocError>
+    ensures { IfOk result (λ copy. formula_tree copy ≡ tree.speaks_for (term_tree t.now) (term_tree u.now)) }
+{
+    let t = t.copy(alloc)?;
+    Ok(Formula::SpeaksFor(t, u.copy(alloc)?))
+}
+
+#[inline(never)]
+fn copied_delegation_on(alloc: Global, t: &Term, u: &Term, s: &Scope) -> Result<Formula, AllocError>
+    ensures { IfOk result (λ copy. formula_tree copy ≡ tree.speaks_for_on (term_tree t.now) (term_tree u.now) s.now) }
+{
+    let t = t.copy(alloc)?;
+    Ok(Formula::SpeaksForOn(t, u.copy(alloc)?, s.copy(alloc)?))
 }
 
 /// Whether two formulas are the same tree; bound variables are not renamed. It takes no memory.
