@@ -26,7 +26,7 @@ use Rattle.nal_parse.proofs.Written.{after_space, sign_cut}
 -- Conjunctions
 
 -- what follows the first conjunct begins with `and`, or with what follows the conjunction
-ands_first : {n : ℕ} {f g : FormulaTree} {a other : List ℕ} → ReadsAnds n f a g other → IsTrue (ends_conjunction (first_lexeme other)) → IsTrue (ends_unary (first_lexeme a))
+pub ands_first : {n : ℕ} {f g : FormulaTree} {a other : List ℕ} → ReadsAnds n f a g other → IsTrue (ends_conjunction (first_lexeme other)) → IsTrue (ends_unary (first_lexeme a))
 ands_first no_and e = unary_ends _ e
 ands_first (and c u r) e = rw (first_lexeme, c) refl
 
@@ -121,7 +121,7 @@ after_and_step f n source g mid first = record {
 -- Disjunctions
 
 -- what follows the first disjunct begins with `or`, or with what follows the disjunction
-ors_first : {n : ℕ} {f g : FormulaTree} {a other : List ℕ} → ReadsOrs n f a g other → IsTrue (ends_disjunction (first_lexeme other)) → IsTrue (ends_conjunction (first_lexeme a))
+pub ors_first : {n : ℕ} {f g : FormulaTree} {a other : List ℕ} → ReadsOrs n f a g other → IsTrue (ends_disjunction (first_lexeme other)) → IsTrue (ends_conjunction (first_lexeme a))
 ors_first no_or e = conjunction_ends _ e
 ors_first (or c u r) e = rw (first_lexeme, c) refl
 

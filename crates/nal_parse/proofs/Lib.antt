@@ -11,3 +11,6 @@ pub mod ScopeReadings
 pub mod StatementReadings
 pub mod FormulaReadings
 pub mod ErrorPlaces
+pub mod OneSpelling
+pub mod OneError
+pub mod ForCallers

@@ -68,7 +68,7 @@ term_ends lexeme.dot e = cc
 term_ends _ e = refl
 
 -- a statement begins with a term
-statement_first : {n : ℕ} {f : FormulaTree} {bytes other : List ℕ} → ReadsStatement n bytes f other → (u : TermTree) × (first_term (next_cut bytes).0 ≡ Some u)
+pub statement_first : {n : ℕ} {f : FormulaTree} {bytes other : List ℕ} → ReadsStatement n bytes f other → (u : TermTree) × (first_term (next_cut bytes).0 ≡ Some u)
 statement_first (subject t p) = let i = ReadsTerm-inverted t in (i.0, i.1)
 statement_first (atom c) = rw c (_, refl)
 
@@ -91,7 +91,7 @@ predicate_inverted (speaks_for_on c r d s) = rw c (inr (_, _, _, _, r, d, s, ref
 predicate_inverted (comparison {l = l} c q r) = rw c (comparison_from _ _ l q (_, r, refl))
 
 -- a predicate begins with `says`, `speaksfor` or a sign of comparison
-abbrev begins_predicate : Lexeme → Bool
+abbrev pub begins_predicate : Lexeme → Bool
 begins_predicate (lexeme.keyword word.Says) = true
 begins_predicate (lexeme.keyword word.SpeaksFor) = true
 begins_predicate lexeme.equal = true
@@ -113,11 +113,11 @@ predicate_begins (speaks_for c r) = rw (first_lexeme, c) refl
 predicate_begins (speaks_for_on c r d s) = rw (first_lexeme, c) refl
 predicate_begins (comparison {l = l} c q r) = rw (first_lexeme, c) (begins_by_comparison l q)
 
-ends_by_predicate : (l : Lexeme) → begins_predicate l ≡ true → IsTrue (ends_term l)
+pub ends_by_predicate : (l : Lexeme) → begins_predicate l ≡ true → IsTrue (ends_term l)
 ends_by_predicate lexeme.dot e = cc
 ends_by_predicate _ e = refl
 
-unended_by_predicate : (l : Lexeme) → begins_predicate l ≡ true → IsTrue (ends_unary l) → ⊥
+pub unended_by_predicate : (l : Lexeme) → begins_predicate l ≡ true → IsTrue (ends_unary l) → ⊥
 unended_by_predicate (lexeme.keyword word.Says) b e = cc
 unended_by_predicate (lexeme.keyword word.SpeaksFor) b e = cc
 unended_by_predicate lexeme.equal b e = cc
@@ -126,11 +126,11 @@ unended_by_predicate lexeme.at_most b e = cc
 unended_by_predicate _ b e = cc
 
 -- the parts of a name are none
-parts_of_name : {u t : TermTree} {p a rest : List ℕ} → ReadsParts u a t rest → t ≡ tree.name p → (u ≡ tree.name p) × (a ≡ rest)
+pub parts_of_name : {u t : TermTree} {p a rest : List ℕ} → ReadsParts u a t rest → t ≡ tree.name p → (u ≡ tree.name p) × (a ≡ rest)
 parts_of_name grammar.done e = (e, refl)
 parts_of_name (grammar.part c d r) e = let i = parts_of_name r e in let q = i.0 in cc
 
-first_of_name : (l : Lexeme) {p : List ℕ} → first_term l ≡ Some (tree.name p) → l ≡ lexeme.name p
+pub first_of_name : (l : Lexeme) {p : List ℕ} → first_term l ≡ Some (tree.name p) → l ≡ lexeme.name p
 first_of_name (lexeme.name x) e = cc
 first_of_name _ e = cc
 

@@ -3,3 +3,4 @@ pub mod Canonical
 pub mod Grammar
 pub mod Errors
 pub mod Reading
+pub mod Laws

@@ -2,6 +2,7 @@
 #![tactic(auto)]
 
 mod formulas;
+mod laws;
 mod lengths;
 mod makers;
 mod parse;
@@ -15,6 +16,7 @@ mod terms;
 mod tests;
 mod tokens;
 
+pub use laws::{canonical_texts_spell, refused_texts_have_one_error, texts_spell_one_tree};
 pub use lengths::{digit_count, fits, fits_said, term_fits, term_length, text_length};
 pub use parse::{ParseError, parse_formula, parse_term};
 pub use printer::{print_formula, print_term};

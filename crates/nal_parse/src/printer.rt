@@ -3,8 +3,8 @@ ghost use Rattle.std.specs.Fmt.{decimal};
 ghost use Rattle.nal_term.specs.Names.{IsName};
 ghost use Rattle.nal_term.specs.Trees.{formula_tree, term_tree, term_trees};
 ghost use Rattle.nal_term.specs.Trees as tree;
-ghost use Rattle.nal_parse.specs.Grammar.{SpellsFormula, SpellsTerm};
-ghost use Rattle.nal_parse.specs.Canonical.{FormulaFits, IsSpellable, IsSpellableTerm, comparison_sign, formula_levels, formula_text, joined, part_text, scope_text, strength, term_text};
+ghost use Rattle.nal_parse.specs.Grammar.{IsFormulaText, IsTermText, SpellsFormula, SpellsTerm};
+ghost use Rattle.nal_parse.specs.Canonical.{FormulaFits, IsSpellable, IsSpellableTerm, TermFits, comparison_sign, formula_levels, formula_text, joined, part_text, scope_text, strength, term_text};
 
 use nal_term::{Args, Compare, Formula, Name, Scope, Term};
 use nx_io::Bytes;
@@ -253,6 +253,7 @@ pub fn print_formula(alloc: Global, f: &Formula) -> Result<Bytes, AllocError>
     ensures text { IfOk result (λ b. b ≡ formula_text (formula_tree f.now)) }
     ensures spelled { IfOk result (λ b. (n : ℕ) → formula_levels (formula_tree f.now) ≤ n → SpellsFormula n b (formula_tree f.now)) }
     ensures spellable { OnOk result (IsSpellable (formula_tree f.now)) }
+    ensures read_again { IfOk result (λ b. FormulaFits (formula_tree f.now) → IsFormulaText b (formula_tree f.now)) }
 {
     let mut printer = Printer::new(alloc);
     printer.formula(f)?;
@@ -265,6 +266,7 @@ pub fn print_term(alloc: Global, t: &Term) -> Result<Bytes, AllocError>
     ensures text { IfOk result (λ b. b ≡ term_text (term_tree t.now)) }
     ensures spelled { IfOk result (λ b. SpellsTerm b (term_tree t.now)) }
     ensures spellable { OnOk result (IsSpellableTerm (term_tree t.now)) }
+    ensures read_again { IfOk result (λ b. TermFits (term_tree t.now) → IsTermText b (term_tree t.now)) }
 {
     let mut printer = Printer::new(alloc);
     printer.term(t)?;

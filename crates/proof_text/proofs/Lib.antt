@@ -9,3 +9,5 @@ pub mod Walk
 pub mod Fits
 pub mod PrintedBytes
 pub mod PrintedProofs
+pub mod OneProof
+pub mod ForCallers

@@ -4,3 +4,4 @@ pub mod Places
 pub mod ProofText
 pub mod Reading
 pub mod RuleNames
+pub mod Laws

@@ -2,6 +2,7 @@
 #![tactic(auto)]
 
 mod heads;
+mod laws;
 mod lengths;
 mod lines;
 mod names;
@@ -10,6 +11,7 @@ mod printer;
 mod read;
 mod segments;
 
+pub use laws::{refused_texts_have_one_error, texts_spell_one_proof};
 pub use lengths::{proof_fits, proof_length};
 pub use printer::print_proof;
 pub use read::{ProofError, read_proof};
