@@ -1,8 +1,11 @@
--- Lemmas for the proofs of other crates: whether a formula is one of a list's, and the lowest line of which a fact holds.
-use Rattle.std.proofs.Common.{◌≡◌, ◌<◌, ◌+◌, ◌⊎◌, inl, inr, ℕ, zero, suc, List, [], ◌∷◌, length, refl, arith}
+-- Lemmas for the proofs of other crates: whether a formula is one of a list's, the lowest line of which a fact holds,
+-- and that a case has one verdict.
+use Rattle.std.proofs.Common.{◌≡◌, ◌<◌, ◌⊎◌, inl, inr, ℕ, zero, suc, List, [], ◌∷◌, arith}
 use Rattle.std.specs.List.{Contains}
 use Rattle.nal_term.specs.Trees.{FormulaTree}
+use Rattle.nal_rules.proofs.OneVerdict as verdicts
 use Rattle.nal_rules.proofs.Same.{same_formula}
+use Rattle.nal_rules.specs.Laws.{OneVerdict}
 use Rattle.nal_rules.specs.Verdicts.{IsLowest}
 
 -- whether a formula is one of a list's is decided
@@ -35,3 +38,7 @@ module _ (Fact : ℕ → Type 0) where
   -- where none is the lowest, there is none at all
   pub none_at_all : ((k : ℕ) → IsLowest Fact k → ⊥) → (k : ℕ) → Fact k → ⊥
   none_at_all never k fact = none_below never (suc k) k (omega arith) fact
+
+-- a case has one verdict
+pub one_verdict : OneVerdict
+one_verdict = verdicts.one_verdict

@@ -3,4 +3,5 @@ pub mod Discharge
 pub mod Weakened
 pub mod Consistent
 pub mod OneNamed
+pub mod OneVerdict
 pub mod ForCallers

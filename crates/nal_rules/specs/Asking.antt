@@ -1,5 +1,5 @@
 -- A case as a plain value, and what is asked of authorities when it is judged.
-use Rattle.std.specs.Prelude.{◌≡◌, ◌<◌, ℕ, List, [], ◌∷◌, map, filter, Bool, true, false, Option, Some, None, option_map, cond, unwrap_or}
+use Rattle.std.specs.Prelude.{◌≡◌, ◌<◌, ℕ, List, [], ◌∷◌, map, filter, Bool, false, Option, option_map, cond, unwrap_or}
 use Rattle.std.specs.List.{find}
 use Rattle.nal_term.specs.Trees.{TermTree, FormulaTree, says, term_tree, formula_tree}
 use Rattle.nal_term.specs.TreeKeys.{same_terms}

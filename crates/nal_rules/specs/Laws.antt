@@ -1,10 +1,13 @@
 -- The laws of derivations.
-use Rattle.std.specs.Prelude.{◌≡◌, ℕ, List, true, Contains, All}
+use Rattle.std.specs.Prelude.{◌≡◌, ℕ, List, Bool, true, Contains, All}
 use Rattle.nal_term.specs.Trees.{TermTree, FormulaTree, falsum, atom}
 use Rattle.proof_lines.specs.Lines.{LineTree}
 use Rattle.nal_rules.specs.Derivation.{Derives}
-use Rattle.nal_rules.specs.Faults.{IsFaultless, IsSays}
+use Rattle.nal_rules.specs.Faults.{HasFault, HasLowestFault, IsFaultless, IsSays}
 use Rattle.nal_rules.specs.Valuation.{truth_of}
+use Rattle.nal_rules.specs.Verdicts.{CaseTree, IsVerdict}
+use Rattle.nal_rules.specs.declared.verdicts.Fault.{Fault}
+use Rattle.nal_rules.specs.declared.verdicts.Verdict.{Verdict}
 use Rattle.nal_rules.specs.OneName.{HasOneNameScopes, IsOneNameFaultless, OneNameDerives}
 
 -- what is in the first list is in the second
@@ -42,3 +45,16 @@ abbrev pub OlderProofsStand : Type 0
 OlderProofsStand =
     (proof : List LineTree) (goal : FormulaTree) → All (λ l. HasOneNameScopes l.formula) proof → ((k : ℕ) → IsOneNameFaultless proof goal k)
     → (k : ℕ) → IsFaultless proof goal k
+
+-- a line has one fault
+abbrev pub OneFault : Type 0
+OneFault = (proof : List LineTree) (goal : FormulaTree) (k : ℕ) (a b : Fault) → HasFault proof goal k a → HasFault proof goal k b → a ≡ b
+
+-- a proof has one lowest fault
+abbrev pub OneLowestFault : Type 0
+OneLowestFault =
+    (proof : List LineTree) (goal : FormulaTree) (j k : ℕ) (a b : Fault) → HasLowestFault proof goal j a → HasLowestFault proof goal k b → (j ≡ k) × (a ≡ b)
+
+-- a case has one verdict
+abbrev pub OneVerdict : Type 0
+OneVerdict = (c : CaseTree) (answers : List Bool) (v w : Verdict) → IsVerdict c answers v → IsVerdict c answers w → v ≡ w

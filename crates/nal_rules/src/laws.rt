@@ -1,4 +1,4 @@
-ghost use Rattle.nal_rules.specs.Laws.{Consistency, NoAtomFollows, OlderDerivationsStand, OlderProofsStand, Soundness, Weakening};
+ghost use Rattle.nal_rules.specs.Laws.{Consistency, NoAtomFollows, OlderDerivationsStand, OlderProofsStand, OneFault, OneLowestFault, OneVerdict, Soundness, Weakening};
 
 /// The law of weakening: what follows from labels and answers follows from more labels and more
 /// answers. The call does nothing.
@@ -20,4 +20,11 @@ pub fn statements_are_consistent()
 pub fn older_rules_are_kept()
     ensures derivable { OlderDerivationsStand }
     ensures faultless { OlderProofsStand }
+{}
+
+/// A line has one fault, a proof one lowest fault, and a case one verdict. The call does nothing.
+pub fn a_case_has_one_verdict()
+    ensures fault { OneFault }
+    ensures lowest_fault { OneLowestFault }
+    ensures verdict { OneVerdict }
 {}

@@ -1,4 +1,4 @@
-ghost use Rattle.std.specs.Prelude.{◌≡◌, ◌↔◌, ◌+◌, ◌*◌, ◌<◌, ◌≤◌, ℕ, [], length, map, IfErr, IfOk, IsNone, OnOk, MatchOption};
+ghost use Rattle.std.specs.Prelude.{◌≡◌, ◌≢◌, ◌↔◌, ◌+◌, ◌*◌, ◌<◌, ◌≤◌, ℕ, [], length, map, IfErr, IfOk, IsNone, IsOk, OnOk, MatchOption};
 ghost use Rattle.nal_term.specs.Size.{node_count};
 ghost use Rattle.nal_term.specs.Trees.{formula_tree};
 ghost use Rattle.proof_lines.specs.Lines.{line_trees};
@@ -37,7 +37,7 @@ pub enum CheckError {
     /// The lowest line that has a fault, counted from 1, and the first fault of that line.
     /// `docs/LOGIC.md`, "Faults", says when each applies.
     Line { line: u64, fault: Fault },
-    /// There was no memory for the lists of lines and for what they rest on.
+    /// There was no memory. `check` takes none, and never answers this.
     Memory,
 }
 
@@ -49,13 +49,15 @@ struct FaultyLine {
 }
 
 /// Checks the proof against the goal. `Empty` exactly where the proof has no line, else `Line` exactly
-/// where a line has a fault, else the numbers of the label lines and of the ask lines; `Memory` only
-/// where there was none for these and for what each line rests on. `docs/LOGIC.md`, "Faults", says when each fault applies.
+/// where a line has a fault, else the numbers of the label lines and of the ask lines. It takes no memory, and never
+/// answers `Memory`. `docs/LOGIC.md`, "Faults", says when each fault applies.
 pub fn check(alloc: Global, proof: &Proof, goal: &Formula) -> Result<Checked, CheckError>
     ensures empty { (result ≡ Err CheckError.Empty) ↔ (proof.now ≡ []) }
+    ensures memory { result ≢ Err CheckError.Memory }
     ensures line { IfErr result (λ e. IsRightError (line_trees proof.now) (formula_tree goal.now) e) }
     ensures faultless { OnOk result
         ((k : ℕ) → IsFaultless (line_trees proof.now) (formula_tree goal.now) k) }
+    ensures complete { proof.now ≢ [] → ((k : ℕ) → IsFaultless (line_trees proof.now) (formula_tree goal.now) k) → IsOk result }
     ensures labels { IfOk result (λ c. c.labels ≡ numbers_from is_label 1 (line_trees proof.now)) }
     ensures asks { IfOk result (λ c. c.asks ≡ numbers_from is_ask 1 (line_trees proof.now)) }
     ensures derives { OnOk result
@@ -75,9 +77,11 @@ fn check_uncounted<L: Ledger>(
     requires parts { blank.parts ≡ L.parts }
     requires some { 0 < blank.parts }
     ensures empty { (result ≡ Err CheckError.Empty) ↔ (proof.now ≡ []) }
+    ensures memory { result ≢ Err CheckError.Memory }
     ensures line { IfErr result (λ e. IsRightError (line_trees proof.now) (formula_tree goal.now) e) }
     ensures faultless { OnOk result
         ((k : ℕ) → IsFaultless (line_trees proof.now) (formula_tree goal.now) k) }
+    ensures complete { proof.now ≢ [] → ((k : ℕ) → IsFaultless (line_trees proof.now) (formula_tree goal.now) k) → IsOk result }
     ensures labels { IfOk result (λ c. c.labels ≡ numbers_from is_label 1 (line_trees proof.now)) }
     ensures asks { IfOk result (λ c. c.asks ≡ numbers_from is_ask 1 (line_trees proof.now)) }
     ensures derives { OnOk result
@@ -100,9 +104,11 @@ pub fn check_counted<L: Ledger>(
     steps: &mut Steps<L>,
 ) -> Result<Checked, CheckError>
     ensures empty { (result ≡ Err CheckError.Empty) ↔ (proof.now ≡ []) }
+    ensures memory { result ≢ Err CheckError.Memory }
     ensures line { IfErr result (λ e. IsRightError (line_trees proof.now) (formula_tree goal.now) e) }
     ensures faultless { OnOk result
         ((k : ℕ) → IsFaultless (line_trees proof.now) (formula_tree goal.now) k) }
+    ensures complete { proof.now ≢ [] → ((k : ℕ) → IsFaultless (line_trees proof.now) (formula_tree goal.now) k) → IsOk result }
     ensures labels { IfOk result (λ c. c.labels ≡ numbers_from is_label 1 (line_trees proof.now)) }
     ensures asks { IfOk result (λ c. c.asks ≡ numbers_from is_ask 1 (line_trees proof.now)) }
     ensures derives { OnOk result
@@ -113,22 +119,17 @@ pub fn check_counted<L: Ledger>(
     if proof.count() == 0 {
         return Err(CheckError::Empty);
     }
-    let Ok(sets) = hypothesis_sets(alloc, proof) else {
-        return Err(CheckError::Memory);
-    };
+    let sets = hypothesis_sets(proof);
     if let Some(faulty) = lowest_fault(proof, goal, sets.as_slice(), steps) {
         return Err(CheckError::Line {
             line: faulty.number,
             fault: faulty.fault,
         });
     }
-    let Ok(labels) = numbers_of(alloc, proof, Kind::Label) else {
-        return Err(CheckError::Memory);
-    };
-    let Ok(asks) = numbers_of(alloc, proof, Kind::Ask) else {
-        return Err(CheckError::Memory);
-    };
-    Ok(Checked { labels, asks })
+    Ok(Checked {
+        labels: numbers_of(alloc, proof, Kind::Label),
+        asks: numbers_of(alloc, proof, Kind::Ask),
+    })
 }
 
 /// The lowest line that has a fault. None exactly where no line has one.

@@ -1,4 +1,4 @@
-ghost use Rattle.std.specs.Prelude.{◌≡◌, ◌↔◌, ◌<◌, ◌≤◌, ℕ, IfOk, IsTrue, length};
+ghost use Rattle.std.specs.Prelude.{◌≡◌, ◌↔◌, ◌<◌, ◌≤◌, ℕ, IsTrue, length};
 ghost use Rattle.std.specs.List.{list_any};
 ghost use Rattle.proof_check.specs.LineSets.{AreHypothesisSets, column_of, holds};
 ghost use Rattle.proof_check.specs.Rests.{leads, reaches, rests_by};
@@ -7,22 +7,25 @@ ghost use Rattle.nal_rules.specs.Faults.{RestsOn, supports_of};
 ghost use Rattle.proof_lines.specs.declared.rules.Rule.TheVariants.{ExistsE, ImpI, OrE};
 
 use crate::line_sets::LineSet;
+use arrayvec::ArrayVec;
 use proof_lines::{Line, Proof, Rule};
-use std::alloc::{AllocError, Global};
+
+/// How many sets there are: one for each line that a proof may have, and one for none.
+const MOST_SETS: usize = 257;
 
 /// For each line, by its number, the set of the hypotheses on which it rests. Line 0, which is none, rests
-/// on none.
-pub fn hypothesis_sets(alloc: Global, proof: &Proof) -> Result<Vec<LineSet>, AllocError>
-    ensures { IfOk result (λ sets. AreHypothesisSets (line_trees proof.now) sets.items) }
+/// on none. It takes no memory.
+pub fn hypothesis_sets(proof: &Proof) -> ArrayVec<LineSet, MOST_SETS>
+    ensures { AreHypothesisSets (line_trees proof.now) result.items }
 {
     let lines = proof.as_slice();
-    let mut sets = Vec::new(alloc);
-    sets.push(LineSet::empty())?;
+    let mut sets = ArrayVec::new();
+    sets.push(LineSet::empty());
     for (index, line) in lines.iter().enumerate() {
         let set = hypotheses_below(sets.as_slice(), index as u64 + 1, line);
-        sets.push(set)?;
+        sets.push(set);
     }
-    Ok(sets)
+    sets
 }
 
 /// Whether the line with this number rests on the hypothesis in line `hypothesis`.

@@ -6,7 +6,7 @@ const MOST: u64 = 256;
 
 /// A set of numbers of lines, from 1 to 256, as a bit for each. `holds` of the specification says which
 /// are in it.
-#[derive(Clone, Copy)]
+#[derive(Clone, Copy, Default)]
 pub struct LineSet {
     low: u128,
     high: u128,

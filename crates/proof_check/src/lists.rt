@@ -1,7 +1,8 @@
-ghost use Rattle.std.specs.Prelude.{◌≡◌, ◌≤◌, ◌↔◌, ◌++◌, ◌∷◌, [], length, IsTrue, OnErr, OnOk, slice_get};
+ghost use Rattle.std.specs.Prelude.{◌≡◌, ◌≢◌, ◌≤◌, ◌↔◌, ◌++◌, ◌∷◌, [], length, IsTrue, OnErr, OnOk, slice_get};
 ghost use Rattle.std.specs.Option.{option_copied};
 ghost use Rattle.proof_check.specs.LineLists.{IsLineList};
 
+use arrayvec::ArrayVec;
 use nal_term::ListError;
 use std::alloc::Global;
 use std::marker::Model;
@@ -9,10 +10,10 @@ use std::marker::Model;
 /// How many numbers a list may have: as many as a proof has lines.
 const MOST_ITEMS: usize = 256;
 
-/// Numbers of lines that increase strictly, at most 256, which contracts see as a list.
+/// Numbers of lines that increase strictly, at most 256, which contracts see as a list. It holds them in place.
 #[derive(Drop)]
 pub struct LineList {
-    items: Vec<u64>,
+    items: ArrayVec<u64, MOST_ITEMS>,
 }
 
 impl Model for LineList {
@@ -28,28 +29,27 @@ impl Model for LineList {
 
 impl LineList {
     /// No numbers. It takes no memory.
-    pub fn new(alloc: Global) -> Self
+    pub fn new(_alloc: Global) -> Self
         ensures { result ≡ [] }
     {
         LineList {
-            items: Vec::new(alloc),
+            items: ArrayVec::new(),
         }
     }
 
     /// Adds a number at the end. `Bound` exactly where the list with it would not increase or would
-    /// have more than 256 numbers. An `Err` changes nothing.
+    /// have more than 256 numbers. An `Err` changes nothing. It takes no memory.
     pub fn push(&mut self, item: u64) -> Result<(), ListError>
         ensures ok { OnOk result (self.new ≡ self.old ++ item ∷ []) }
         ensures bound { (result ≡ Err ListError.Bound) ↔ ¬ IsLineList (self.old ++ item ∷ []) }
         ensures err { OnErr result (self.new ≡ self.old) }
+        ensures memory { result ≢ Err ListError.Memory }
     {
         if !takes(self.items.as_slice(), item) {
             return Err(ListError::Bound);
         }
-        match self.items.push(item) {
-            Ok(()) => Ok(()),
-            Err(_) => Err(ListError::Memory),
-        }
+        self.items.push(item);
+        Ok(())
     }
 
     /// How many numbers there are: at most 256.

@@ -4,9 +4,8 @@ ghost use Rattle.nal_rules.specs.Faults.{numbers_from};
 ghost use Rattle.proof_check.specs.Kinds.{is_of_kind};
 
 use crate::lists::LineList;
-use nal_term::ListError;
 use proof_lines::{Line, Proof, Rule};
-use std::alloc::{AllocError, Global};
+use std::alloc::Global;
 
 /// Which lines are meant.
 #[derive(Clone, Copy, Debug, PartialEq, Eq)]
@@ -24,9 +23,9 @@ fn is_of_kind(kind: Kind, line: &Line) -> bool
     }
 }
 
-/// The numbers of the proof's lines of this kind, counted from 1.
-pub fn numbers_of(alloc: Global, proof: &Proof, kind: Kind) -> Result<LineList, AllocError>
-    ensures { IfOk result (λ list. list ≡ numbers_from (is_of_kind kind) 1 (line_trees proof.now)) }
+/// The numbers of the proof's lines of this kind, counted from 1. It takes no memory.
+pub fn numbers_of(alloc: Global, proof: &Proof, kind: Kind) -> LineList
+    ensures { result ≡ numbers_from (is_of_kind kind) 1 (line_trees proof.now) }
 {
     let lines = proof.as_slice();
     let mut list = LineList::new(alloc);
@@ -34,10 +33,9 @@ pub fn numbers_of(alloc: Global, proof: &Proof, kind: Kind) -> Result<LineList, 
         if is_of_kind(kind, line) {
             match list.push(index as u64 + 1) {
                 Ok(()) => {}
-                Err(ListError::Memory) => return Err(AllocError),
-                Err(ListError::Bound) => unreachable!(),
+                Err(_) => unreachable!(),
             }
         }
     }
-    Ok(list)
+    list
 }

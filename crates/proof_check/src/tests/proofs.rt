@@ -31,14 +31,12 @@ pub fn add(
     term: Option<Term>,
     formula: Formula,
 ) -> Result<(), Fail> {
-    if let Some(refs) = Refs::of(refs) {
-        proof.push(Line {
-            rule,
-            refs,
-            term,
-            formula,
-        })?;
-    }
+    proof.push(Line {
+        rule,
+        refs: Refs::of(refs).ok_or("at most five references")?,
+        term,
+        formula,
+    })?;
     Ok(())
 }
 

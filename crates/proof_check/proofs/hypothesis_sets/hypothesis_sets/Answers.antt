@@ -10,7 +10,7 @@ use Rattle.proof_check.proofs.hypothesis_sets.hypothesis_sets.Goals as goal
 
 pub loop-index-init : goal.loop-index-init
 loop-index-init c =
-    let pushed : c.push.new.self.items ≡ c.empty.result ∷ [] = c.in_ok-push.ensures.items ∙ ap (λ xs. xs ++ c.empty.result ∷ []) c.new-sets.ensures.items in record {
+    let pushed : c.push.new.self.items ≡ c.empty.result ∷ [] = c.push.ensures.items ∙ ap (λ xs. xs ++ c.empty.result ∷ []) c.new-sets.ensures in record {
       size = ap length pushed;
       right = λ h. first_set (line_trees c.args.proof.now) h c.push.new.self.items c.empty.result pushed (c.empty.ensures h);
     }
@@ -26,7 +26,7 @@ loop-index-preserved c =
     let place : n - 1 ≡ c.loop-index.index = omega arith in
     let read : l ≡ get_or c.args.proof.now (n - 1) l = (let e = c.index-lines-index.is in let d = c.as_slice-lines.ensures.items in rw place (cc (e, d))) in
     let stands : line_at lines n ≡ Some (line_tree l) = sym (line_at_tree c.args.proof.now n l (λ e. omega (arith, e)) (omega (arith, same)) read) in
-    let pushed : c.push-in-loop-index.new.self.items ≡ old ++ set ∷ [] = c.in_ok-push-2.ensures.items in
+    let pushed : c.push-in-loop-index.new.self.items ≡ old ++ set ∷ [] = c.push-in-loop-index.ensures.items in
     let size = c.loop-index.invariant.size in
     let longer = ap length pushed ∙ length-append old (set ∷ []) in record {
       size = omega (arith, size, longer);

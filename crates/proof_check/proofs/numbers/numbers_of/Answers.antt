@@ -13,8 +13,12 @@ unreachable-requires c =
     let l = c.index-lines-index.result in
     let p : is_of_kind c.args.kind (line_tree l) ≡ true = cc (c.is_of_kind.ensures, c.if-is_of_kind.true) in
     let fits = more_line_list (is_of_kind c.args.kind) lines c.loop-index.index l c.loop-index-test.true c.as_slice-lines.ensures.bound c.index-lines-index.is p in
-    let same : c.push.result ≡ Err ListError.Bound = cc (c.in-Err-Bound.is, c.in-Err-Bound.field-0-is) in
-    c.push.ensures.bound.0 same (subst (λ xs. IsLineList (xs ++ (c.loop-index.index + 1) ∷ [])) (sym c.loop-index.invariant) fits)
+    let room = subst (λ xs. IsLineList (xs ++ (c.loop-index.index + 1) ∷ [])) (sym c.loop-index.invariant) fits in
+    refused c.in-Err.field-0 c.in-Err.is room
+  where
+    refused : (e : ListError) → c.push.result ≡ Err e → IsLineList (c.loop-index.list ++ (c.loop-index.index + 1) ∷ []) → ⊥
+    refused ListError.Memory is room = c.push.ensures.memory is
+    refused ListError.Bound is room = c.push.ensures.bound.0 is room
 
 pub loop-index-preserved : goal.loop-index-preserved
 loop-index-preserved c =
