@@ -69,6 +69,34 @@ head -c 67108864 "$work/large" >"$work/largest"
 "$program" check <"$work/largest" >"$work/output"
 expect 'a largest input' 3 'refused line 1'
 
+# Deep formulas under limits on the stack and on the address space: the right answer, or status 6 and no output where there is
+# no room, and never an end by a signal. Status 127 is the loader's, which needs room of its own.
+built=${1:-$examples/../crates/nexus_main/out/nexus_main}
+many() { printf "$1%.0s" $(seq "$2"); }
+deep() {
+    printf 'nexus check 1\nsubject alice\nlabel %s\ngoal %s\nproof 2\n1 label : %s\nend\n' "$1" "$1" "$1"
+}
+disjuncts="a says (p$(many ' or p' 196))"
+brackets="a says $(many '(' 60)p$(many ')' 60)"
+parts="a$(many '.b' 500) says p"
+for formula in "$disjuncts" "$brackets" "$parts"; do
+    deep "$formula" >"$work/deep"
+    (ulimit -s 512 && exec "$built" check) <"$work/deep" >"$work/output"
+    expect "a stack of 512 KiB for ${formula:0:12}.." 0 allowed
+    for room in $(seq 2600 200 5000); do
+        (ulimit -v "$room" && exec "$built" check) <"$work/deep" >"$work/output" 2>/dev/null
+        status=$?
+        if [ "$status" -eq 0 ] && [ "$(cat "$work/output")" = allowed ]; then
+            passed=$((passed + 1))
+        elif { [ "$status" -eq 6 ] || [ "$status" -eq 127 ]; } && [ ! -s "$work/output" ]; then
+            passed=$((passed + 1))
+        else
+            echo "an address space of $room KiB for ${formula:0:12}..: differs: status $status"
+            failed=$((failed + 1))
+        fi
+    done
+done
+
 if [ "$failed" -gt 0 ] || [ "$passed" -eq 0 ]; then
     echo "$passed runs pass, $failed differ"
     exit 1

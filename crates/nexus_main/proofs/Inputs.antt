@@ -10,7 +10,7 @@ use Rattle.nexus_main.specs.declared.stages.Progress.{Progress}
 use Rattle.nexus_main.specs.declared.stages.Progress.TheVariants.{HeaderDue, SubjectDue, LabelsDue, YesDue, ProofDue}
 use Rattle.nexus_main.specs.declared.outcomes.Outcome.TheVariants.{Refused}
 use Rattle.nexus_main.specs.Outcomes.{IsOutcome, most_bytes}
-use Rattle.nexus_main.specs.Lines.{first_line, after_line}
+use Rattle.text_lines.specs.Lines.{first_line, after_line}
 use Rattle.nexus_main.specs.CheckForm.{CheckForm, IsCheckForm, Stage, proof_due, Follows, Reaches, next_line, IsBeforeProof, IsWrongAt, before_proof, in_proof}
 use Rattle.nexus_main.specs.Inner.Forms.{stage_of, IsWrongProof, IsWrongLine}
 

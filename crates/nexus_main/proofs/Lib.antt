@@ -1,5 +1,6 @@
 pub mod Following
 pub mod Segments
+pub mod Hashes
 pub mod Inputs
 pub mod Verdicts
 pub mod Words

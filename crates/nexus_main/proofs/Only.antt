@@ -6,7 +6,7 @@ use Rattle.proof_lines.specs.Lines.{LineTree, line_trees}
 use Rattle.proof_text.specs.ProofText.{IsProofText}
 use Rattle.nexus_main.specs.declared.stages.Progress.{Progress}
 use Rattle.nexus_main.specs.declared.stages.Progress.TheVariants.{HeaderDue, SubjectDue, LabelsDue, YesDue, ProofDue}
-use Rattle.nexus_main.specs.Lines.{first_line, after_line}
+use Rattle.text_lines.specs.Lines.{first_line, after_line}
 use Rattle.nexus_main.specs.CheckForm.{CheckForm, Stage, header_due, proof_due, Follows, Reaches, start, next_line, IsCheckForm}
 use Rattle.nexus_main.specs.declared.check_form.Input.{Input}
 use Rattle.nexus_main.specs.declared.check_form.InputError.{InputError}

@@ -5,7 +5,7 @@ use Rattle.std.proofs.lemmas.List.Sums.{sum_by-cons, count_by-le-length}
 use Rattle.std.proofs.lemmas.Bool.Decides.{nat_tests}
 use Rattle.proof_text.specs.ProofText.{segments, pieces, with_first, trimmed, is_cut}
 use Rattle.proof_text.specs.Places.{line_feeds_before, end_place, end_segment_of}
-use Rattle.nexus_main.specs.Lines.{line_count}
+use Rattle.text_lines.specs.Lines.{line_count}
 
 length-with_first : (b : ℕ) (ps : List (List ℕ)) → 1 ≤ length ps → length (with_first b ps) ≡ length ps
 length-with_first b [] h = absurd (omega arith)

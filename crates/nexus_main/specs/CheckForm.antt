@@ -9,7 +9,7 @@ use Rattle.proof_text.specs.ProofText.{IsProofText, IsRefused, segments}
 use Rattle.proof_text.specs.Places.{line_feeds_before, end_segment_of}
 use Rattle.proof_text.specs.declared.read.ProofError.{ProofError}
 use Rattle.proof_text.specs.declared.read.ProofError.TheVariants.{BadHeader, BadLine, BadNumber, TooManyLines, TooLong, Formula, NoEnd, After, Memory}
-use Rattle.nexus_main.specs.Lines.{first_line, after_line, line_count}
+use Rattle.text_lines.specs.Lines.{first_line, after_line, line_count}
 
 -- what an input of `check` holds
 pub record CheckForm : Type 0 where

@@ -1,4 +1,5 @@
 -- Words that only the contracts of private functions use. No statement about the program rests on them.
 pub mod Ends
 pub mod Forms
+pub mod Hashes
 pub mod Support

@@ -1,5 +1,4 @@
 pub mod Arguments
-pub mod Lines
 pub mod CheckForm
 pub mod Laws
 pub mod Outcomes

@@ -1,6 +1,6 @@
 -- How a run of `check` ends: the status, what the source gave, and what was written.
 use Rattle.std.specs.Prelude.{◌≡◌, ◌≢◌, ◌<◌, ◌↔◌, ◌⊎◌, ℕ, List, ◌∷◌, [], length, take, Bool, IsTrue, Option, Some, codes}
-use Rattle.nx_io.specs.Streams.{Rose, one_more}
+use Rattle.nx_io.specs.Streams.{Rose, gained, one_more}
 use Rattle.nexus_main.specs.declared.outcomes.Outcome.{Outcome}
 use Rattle.nexus_main.specs.declared.outcomes.Outcome.TheVariants.{TooLarge}
 use Rattle.nexus_main.specs.CheckForm.{CheckForm, IsCheckForm}
@@ -24,6 +24,13 @@ pub record SinkRun : Type 0 where
   pub sent : List ℕ
   pub faults : ℕ
   pub faults_now : ℕ
+
+-- what a source and a sink did in a run, by what they tell before and after
+abbrev pub source_run : Option (List ℕ) → List ℕ → List ℕ → Bool → ℕ → ℕ → SourceRun
+source_run known given given_now over faults faults_now = record { known = known; given = gained given given_now; over = over; faults = faults; faults_now = faults_now }
+
+abbrev pub sink_run : List ℕ → List ℕ → ℕ → ℕ → SinkRun
+sink_run sent sent_now faults faults_now = record { sent = gained sent sent_now; faults = faults; faults_now = faults_now }
 
 -- the source is over, and has given all that it had
 pub record IsReadWhole (source : SourceRun) : Type 0 where

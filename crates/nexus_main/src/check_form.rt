@@ -1,10 +1,10 @@
-use crate::lines::first_line;
 use crate::places::line_of_error;
 use crate::stages::{LineError, Progress};
 use nal_term::{Formula, Name};
 use proof_lines::Proof;
 use proof_text::{ProofError, read_proof};
 use std::alloc::Global;
+use text_lines::first_line;
 
 /// What an input of `check` holds.
 #[derive(Drop)]

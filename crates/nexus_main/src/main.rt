@@ -4,8 +4,9 @@
 mod arguments;
 mod check_form;
 mod judge;
+#[cfg(test)]
+mod kinds_tests;
 mod laws;
-mod lines;
 mod outcomes;
 mod places;
 mod program;

@@ -2,8 +2,8 @@ ghost use Rattle.std.specs.Prelude.{◌≡◌, ◌≢◌, ◌<◌, ◌≤◌, �
 ghost use Rattle.proof_text.specs.ProofText.{segments, is_cut};
 ghost use Rattle.nexus_main.specs.CheckForm.{IsLineOfError, IsLineOfSegment};
 
-use crate::lines::line_count;
 use proof_text::{ProofError, end_segment, segment_line};
+use text_lines::line_count;
 
 /// The line of a proof's text, counted from 1, by which its error is named.
 /// `docs/FORMATS.md`, "The check form", says which line that is.

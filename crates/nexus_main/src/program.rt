@@ -2,7 +2,7 @@ ghost use Rattle.std.specs.Prelude.{◌≡◌, ◌≢◌, ◌<◌, ◌≤◌, �
 ghost use Rattle.std.specs.Io.KnownBytes.{IsAtEnd};
 ghost use Rattle.nx_io.specs.Streams.{Gave, Grows, gained};
 ghost use Rattle.nexus_main.specs.Outcomes.{IsOutcome, most_bytes};
-ghost use Rattle.nexus_main.specs.Program.{Ends, RunsCheck, check_words};
+ghost use Rattle.nexus_main.specs.Program.{Ends, RunsCheck, check_words, sink_run, source_run};
 ghost use Rattle.nexus_main.specs.Inner.Ends.{Tells, faults_after_reading};
 
 use crate::check_form::{Input, InputError};
@@ -14,8 +14,12 @@ use std::alloc::{AllocError, Global};
 /// How many bytes an input has at most.
 const MOST_BYTES: usize = 67_108_864;
 
-/// How many bytes one read asks for.
-const BUFFER_SIZE: usize = 4096;
+/// How many bytes one read asks for. The buffer lies on the stack and is filled before anything else takes memory, so that
+/// there is as much stack later as the deepest formula wants; `docs/GUARANTEES.md`, "Stack", says how much that is.
+const BUFFER_SIZE: usize = 393_216;
+
+/// How much stack there may be in use beside the buffer.
+const STACK_BESIDE: usize = 131_072;
 
 /// How the program ended.
 #[derive(Clone, Copy, Debug, PartialEq, Eq)]
@@ -53,14 +57,8 @@ pub fn run<R, S: Source, K: Sink>(
     ensures sent { Grows (K.sent output.old) (K.sent output.new) }
     ensures untouched { (result.status ≡ 4) ⊎ (result.status ≡ 6) → output.new ≡ output.old }
     ensures check { map (λ w. w.now) words.now ≡ check_words → RunsCheck
-        (record {
-          known = S.left input.old;
-          given = gained (S.given input.old) (S.given input.new);
-          over = S.over input.new;
-          faults = S.faults input.old;
-          faults_now = S.faults input.new;
-        })
-        (record { sent = gained (K.sent output.old) (K.sent output.new); faults = K.faults output.old; faults_now = K.faults output.new })
+        (source_run (S.left input.old) (S.given input.old) (S.given input.new) (S.over input.new) (S.faults input.old) (S.faults input.new))
+        (sink_run (K.sent output.old) (K.sent output.new) (K.faults output.old) (K.faults output.new))
         result.status }
 {
     if is_check(words) {
@@ -99,14 +97,8 @@ fn check<S: Source, K: Sink>(alloc: Global, input: &mut S, output: &mut K) -> En
     ensures sent { Grows (K.sent output.old) (K.sent output.new) }
     ensures untouched { (result.status ≡ 4) ⊎ (result.status ≡ 6) → output.new ≡ output.old }
     ensures ends { Ends
-        (record {
-          known = S.left input.old;
-          given = gained (S.given input.old) (S.given input.new);
-          over = S.over input.new;
-          faults = S.faults input.old;
-          faults_now = S.faults input.new;
-        })
-        (record { sent = gained (K.sent output.old) (K.sent output.new); faults = K.faults output.old; faults_now = K.faults output.new })
+        (source_run (S.left input.old) (S.given input.old) (S.given input.new) (S.over input.new) (S.faults input.old) (S.faults input.new))
+        (sink_run (K.sent output.old) (K.sent output.new) (K.faults output.old) (K.faults output.new))
         result.status }
 {
     match read_whole(alloc, input) {
@@ -120,8 +112,32 @@ fn check<S: Source, K: Sink>(alloc: Global, input: &mut S, output: &mut K) -> En
     }
 }
 
+/// Whether there is room for the stack to grow by as much as the buffer takes. As much memory is taken and given back, since
+/// a stack that can't grow ends the process, and want of memory doesn't.
+fn has_room(alloc: Global) -> bool {
+    let room: Result<Vec<u8>, AllocError> = Vec::with_capacity(alloc, BUFFER_SIZE + STACK_BESIDE);
+    room.is_ok()
+}
+
 /// Reads a source to its end, or until it has given more bytes than an input may have.
 fn read_whole<S: Source>(alloc: Global, source: &mut S) -> Result<Vec<u8>, ReadError>
+    ensures gave { Gave (S.left source.old) (S.left source.new) (S.given source.old) (S.given source.new) }
+    ensures whole { IfOk result (λ whole. (length whole.items ≤ most_bytes)
+        × (gained (S.given source.old) (S.given source.new) ≡ whole.items) × IsTrue (S.over source.new) × IsAtEnd (S.left source.new)) }
+    ensures large { result ≡ Err ReadError.TooLarge → most_bytes < length (gained (S.given source.old) (S.given source.new)) }
+    ensures count { S.faults source.new ≡ faults_after_reading result (S.faults source.old) }
+{
+    if has_room(alloc) {
+        read_buffered(alloc, source)
+    } else {
+        Err(ReadError::Memory)
+    }
+}
+
+/// As `read_whole`, where there is room for the buffer. A call of its own, so that the buffer is on the stack only while it
+/// lasts.
+#[inline(never)]
+fn read_buffered<S: Source>(alloc: Global, source: &mut S) -> Result<Vec<u8>, ReadError>
     ensures gave { Gave (S.left source.old) (S.left source.new) (S.given source.old) (S.given source.new) }
     ensures whole { IfOk result (λ whole. (length whole.items ≤ most_bytes)
         × (gained (S.given source.old) (S.given source.new) ≡ whole.items) × IsTrue (S.over source.new) × IsAtEnd (S.left source.new)) }

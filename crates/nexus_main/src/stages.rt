@@ -1,9 +1,9 @@
 ghost use Rattle.std.specs.Prelude.{◌≡◌, ◌↔◌, IsTrue, codes};
 
-use crate::lines::after_word;
 use crate::statements::{goal, with_statement};
 use nal_term::{Formula, Name, NameError};
 use std::alloc::Global;
+use text_lines::after_word;
 
 /// How much of an input was read before its proof. `docs/FORMATS.md`, "The check form", says which line may
 /// stand where.

@@ -2,7 +2,7 @@ ghost use Rattle.std.specs.Prelude.{◌≡◌, ◌≢◌, ◌⊎◌, IsTrue};
 ghost use Rattle.std.specs.Process.{exit_status};
 ghost use Rattle.nx_io.specs.Streams.{Gave, Grows, gained};
 ghost use Rattle.nexus_main.specs.Arguments.{words_of_call};
-ghost use Rattle.nexus_main.specs.Program.{RunsCheck, check_words};
+ghost use Rattle.nexus_main.specs.Program.{RunsCheck, check_words, sink_run, source_run};
 
 use crate::arguments::{Arguments, texts, words_of_call};
 use crate::program::run;
@@ -27,14 +27,8 @@ pub fn start<R, A: Arguments, S: Source, K: Sink>(
     ensures other_words { words_of_call (gained (A.told arguments.old) (A.told arguments.new)) ≢ check_words
         → ((exit_status result ≡ 2) ⊎ (exit_status result ≡ 6)) × (input.new ≡ input.old) × (output.new ≡ output.old) }
     ensures check { words_of_call (gained (A.told arguments.old) (A.told arguments.new)) ≡ check_words → RunsCheck
-        (record {
-          known = S.left input.old;
-          given = gained (S.given input.old) (S.given input.new);
-          over = S.over input.new;
-          faults = S.faults input.old;
-          faults_now = S.faults input.new;
-        })
-        (record { sent = gained (K.sent output.old) (K.sent output.new); faults = K.faults output.old; faults_now = K.faults output.new })
+        (source_run (S.left input.old) (S.given input.old) (S.given input.new) (S.over input.new) (S.faults input.old) (S.faults input.new))
+        (sink_run (K.sent output.old) (K.sent output.new) (K.faults output.old) (K.faults output.new))
         (exit_status result) }
 {
     let Ok(words) = words_of_call(alloc, arguments) else {

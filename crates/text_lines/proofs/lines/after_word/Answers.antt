@@ -5,7 +5,7 @@ use Rattle.std.proofs.lemmas.List.{take-append-drop}
 use Rattle.std.proofs.Math.Seq.{take-append_seam}
 use lib.Pointwise.{pointwise}
 use denote.Ref.{Bor}
-use Rattle.nexus_main.proofs.lines.after_word.Goals as goal
+use Rattle.text_lines.proofs.lines.after_word.Goals as goal
 
 begins : (line word : List ℕ) → pointwise eqb (take (length word) line) word ≡ true → line ≡ word ++ drop (length word) line
 begins line word e =

@@ -1,7 +1,7 @@
 use Rattle.std.proofs.Common.{◌≡◌, ◌≤◌, ◌+◌, ◌-◌, ◌++◌, length}
 use Rattle.nx_io.specs.Streams.{prepended}
 use Rattle.nexus_main.specs.Outcomes.{most_bytes}
-use Rattle.nexus_main.proofs.program.read_whole.Given as goal
+use Rattle.nexus_main.proofs.program.read_buffered.Given as goal
 
 abbrev pub invariant-loop-count : goal.invariant-loop-count
 invariant-loop-count g l =
