@@ -1,0 +1,28 @@
+-- The authorities of a host, as contracts see them.
+use Rattle.std.specs.Prelude.{◌≡◌, ◌≢◌, ℕ, List, Option, Some, None, slice_get, codes}
+use Rattle.std.specs.Option.{option_and_then, option_map}
+use Rattle.arrayvec.specs.ArrayVec.{ArrayVec}
+use Rattle.nal_term.specs.Trees.{FormulaTree}
+use Rattle.authority_ask.specs.AskLogs.{Made}
+use Rattle.authority_ask.specs.Panels.{Places}
+use Rattle.authority_ask.specs.TimeTests.{time_test}
+
+-- a panel: what was asked, how often, the address that was reached at each port, the faults, and the clock
+pub record Hosting (C : Type 0) : Type 0 where
+  pub said : List Made
+  pub asks : ℕ
+  pub reached : Places
+  pub faults : ℕ
+  pub clock : C
+
+-- the address that was reached at a port, where one was
+abbrev pub address_at : Places → ℕ → Option (List ℕ)
+address_at places port = option_and_then (λ (a : Option (List ℕ)). a) (slice_get places port)
+
+-- an ask for which the clock is looked at: the port has the address `clock`, and the statement one of the six forms
+abbrev pub NeedsClock : Places → ℕ → FormulaTree → Type 0
+NeedsClock places port f = (address_at places port ≡ Some (codes "clock")) × (time_test f ≢ None)
+
+-- the bytes of an address, where there is one
+abbrev pub address_bytes : Option (ArrayVec ℕ) → Option (List ℕ)
+address_bytes address = option_map (λ (a : ArrayVec ℕ). a.items) address

@@ -1,0 +1,7 @@
+pub mod AskLogs
+pub mod Clocks
+pub mod Hosts
+pub mod Inner
+pub mod Memory
+pub mod Panels
+pub mod TimeTests

@@ -1,0 +1,25 @@
+//! Authorities: whoever answers, when asked, whether a statement holds now.
+//!
+//! Code that is generic over [`Panel`] is proved once for each of them. It can neither raise a panel's count of faults
+//! nor add to what the panel tells of its asks, but by an ask: so no answer is kept for a later check, and Down is told
+//! only where an authority was down.
+#![tactic(auto)]
+
+mod ask_log;
+mod clocks;
+mod connections;
+mod conversations;
+mod hosts;
+mod memory;
+mod panels;
+mod time_tests;
+
+pub use ask_log::AskLog;
+pub use clocks::{Clock, HostClock, MemClock};
+pub use hosts::HostPanel;
+pub use memory::MemPanel;
+pub use panels::{Ask, Panel};
+pub use time_tests::TimeTest;
+
+#[cfg(test)]
+mod tests;

@@ -1,0 +1,4 @@
+pub mod Lookups
+pub mod LineFacts
+pub mod Asks
+pub mod Judged

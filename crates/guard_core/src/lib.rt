@@ -1,0 +1,13 @@
+//! The guard: what it answers of a case, and what it asks of authorities for that.
+#![tactic(auto)]
+
+mod asking;
+mod findings;
+mod guard;
+mod supports;
+
+pub use findings::{Finding, GuardError};
+pub use guard::judge;
+
+#[cfg(test)]
+mod tests;
