@@ -7,6 +7,8 @@ mod lists;
 mod verdicts;
 
 pub use cases::{Binding, Bindings, Case, Labels};
-pub use laws::{a_case_has_one_verdict, more_keeps_derivable, older_rules_are_kept, statements_are_consistent};
+pub use laws::{
+    a_case_has_one_verdict, more_keeps_derivable, older_rules_are_kept, statements_are_consistent,
+};
 pub use lists::ItemList;
 pub use verdicts::{Cause, Fault, Verdict, cause_numbers};
