@@ -1,5 +1,5 @@
 -- Laws of what sources and sinks tell.
-use Rattle.std.proofs.Common.{◌≡◌, ℕ, ◌+◌, ◌≤◌, List, ◌++◌, length, take, drop, sym, ◌∙◌, ap, append_assoc, arith, length-append, subst}
+use Rattle.std.proofs.Common.{◌≡◌, ℕ, ◌+◌, ◌≤◌, List, ◌++◌, length, take, drop, sym, ◌∙◌, ap, append_assoc, arith, length-append, length-drop, subst}
 use Rattle.std.specs.Prelude.{None, Some}
 use Rattle.std.specs.declared.option.Option.{Option}
 use Rattle.std.proofs.Math.Seq.{drop-append_seam, take-add, take-append_seam}
@@ -19,6 +19,14 @@ pub record IsSending (old now : List ℕ) (before count : ℕ) (piece : List ℕ
   pub within : done ≤ length piece
   pub sent : now ≡ old ++ take done piece
   pub still : count ≡ before
+
+-- one write more took n of what was left of the piece
+pub sending-more : (old now new piece rest : List ℕ) (before count later done n : ℕ) → IsSending old now before count piece done → rest ≡ drop done piece → n ≤ length rest → new ≡ now ++ take n rest → later ≡ count → IsSending old new before later piece (done + n)
+sending-more old now new piece rest before count later done n sending r fits e still = record {
+  within = omega (arith, sending.within, ap length r, length-drop done piece, fits);
+  sent = appended-take-add old now new piece rest done n r sending.sent e;
+  still = still ∙ sending.still;
+}
 
 -- what stands at the front of a buffer
 front-of-buffer : (rest into given : List ℕ) (n : ℕ) → n ≤ length rest → given ≡ take n rest → take n (given ++ drop n into) ≡ given

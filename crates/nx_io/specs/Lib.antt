@@ -1,4 +1,10 @@
+pub mod Doors
 pub mod Histories
+pub mod Inner
+pub mod Links
 pub mod Memory
+pub mod MemoryDoors
+pub mod MemoryLinks
 pub mod Readers
+pub mod Sockets
 pub mod Streams

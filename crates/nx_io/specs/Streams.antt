@@ -1,5 +1,5 @@
 -- What reads and writes answer, and what they do to the histories of a source and of a sink.
-use Rattle.std.specs.Prelude.{◌≡◌, ℕ, ◌+◌, ◌-◌, ◌^◌, ◌≤◌, ◌<◌, min, List, ◌++◌, length, take, drop, None, Some, Bool, true, false}
+use Rattle.std.specs.Prelude.{◌≡◌, ◌⊎◌, ℕ, ◌+◌, ◌-◌, ◌^◌, ◌≤◌, ◌<◌, min, List, ◌++◌, length, take, drop, None, Some, Bool, true, false}
 use Rattle.std.specs.Io.KnownBytes.{IsAtEnd}
 use Rattle.std.specs.declared.option.Option.{Option}
 use Rattle.nx_io.specs.declared.streams.Got.{Got}
@@ -16,6 +16,10 @@ one_more count = min (count + 1) (2 ^ 64 - 1)
 -- a count rose, or stands at the end of its type
 abbrev pub Rose : ℕ → ℕ → Type 0
 Rose before now = one_more before ≤ now
+
+-- a count stands still or rises by one
+abbrev pub MayRise : ℕ → ℕ → Type 0
+MayRise before now = (now ≡ before) ⊎ (now ≡ one_more before)
 
 -- the count of faults after a read: one more at `Failed`, the same at any other answer
 abbrev pub faults_after_read : Got → ℕ → ℕ

@@ -6,19 +6,34 @@
 //! given and sent.
 #![tactic(auto)]
 
+mod buffered;
 mod byte_list;
 mod discard;
+mod doors;
 mod history;
+mod links;
+mod listened;
 mod memory;
+mod memory_doors;
+mod memory_links;
+mod queues;
+mod scripts;
 mod standard;
 mod streams;
+mod tcp;
 
 pub use byte_list::Bytes;
 pub use discard::Discard;
+pub use doors::{Dial, Door, Gate, Next, OpenGate, Place};
 pub use history::History;
+pub use links::{Link, send_whole};
+pub use listened::Listened;
 pub use memory::{MemSink, MemSource};
+pub use memory_doors::{DoorPlan, MemDoor};
+pub use memory_links::MemLink;
 pub use standard::{StdSink, StdSource};
 pub use streams::{Got, Put, Reach, Shared, Sink, Source, send_all};
+pub use tcp::{TcpDoor, TcpLink};
 
 #[cfg(test)]
 mod tests;

@@ -4,51 +4,10 @@ ghost use Rattle.std.specs.List.{Contains};
 ghost use Rattle.nx_io.specs.Streams.{Reads, ReadsWithin, Writes, WritesWithin, faults_after_read, faults_after_write, given_after, one_more, over_after};
 ghost use Rattle.nx_io.specs.Memory.{Stores, Supplies};
 
+use crate::scripts::Script;
 use crate::streams::{Got, Put, Sink, Source};
 use std::alloc::{AllocError, Global};
 use std::marker::Model;
-
-// Which calls of an object fail, and how many did.
-#[derive(Drop)]
-struct Script {
-    fails: Vec<u64>,
-    calls: u64,
-    faults: u64,
-}
-
-impl Script {
-    fn new(alloc: Global, fails: &[u64]) -> Result<Script, AllocError>
-        ensures fails { IfOk result (λ script. script.fails.items ≡ fails.now) }
-        ensures calls { IfOk result (λ script. script.calls ≡ 0) }
-        ensures faults { IfOk result (λ script. script.faults ≡ 0) }
-    {
-        Ok(Script {
-            fails: Vec::from_slice(alloc, fails)?,
-            calls: 0,
-            faults: 0,
-        })
-    }
-
-    // Counts a fault.
-    fn fault(&mut self)
-        ensures fails { self.new.fails ≡ self.old.fails }
-        ensures calls { self.new.calls ≡ self.old.calls }
-        ensures faults { self.new.faults ≡ one_more self.old.faults }
-    {
-        self.faults = self.faults.saturating_add(1);
-    }
-
-    // Counts a call, and says whether it is one of those that fail.
-    fn call_fails(&mut self) -> bool
-        ensures fails { self.new.fails ≡ self.old.fails }
-        ensures calls { self.new.calls ≡ one_more self.old.calls }
-        ensures faults { self.new.faults ≡ self.old.faults }
-        ensures told { IsTrue result ↔ Contains self.old.fails.items self.new.calls }
-    {
-        self.calls = self.calls.saturating_add(1);
-        self.fails.contains(&self.calls)
-    }
-}
 
 /// A source over bytes in memory.
 #[derive(Drop)]

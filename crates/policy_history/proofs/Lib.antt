@@ -5,9 +5,11 @@ pub mod Changed
 pub mod CaseLists
 pub mod Acceptance
 pub mod Soundness
+pub mod LineBytes
 pub mod Keeping
 pub mod RowLaws
 pub mod Lasting
 pub mod RightLaw
 pub mod FirstRefusals
 pub mod Staying
+pub mod ForCallers

@@ -122,7 +122,7 @@ after_cases h s e = of (nat_lt e.principal (length h.principals)) refl (refusal_
     of true known (Some refusal) r = inl (after_refused h s e refusal known r)
     of true known None r = inr (ltb-true e.principal (length h.principals) known, r, after_accepted h s e known r)
 
-sound_after : (h : Head) (s : State) (e : EntryTree) → IsSound h s → IsSound h (after h s e)
+pub sound_after : (h : Head) (s : State) (e : EntryTree) → IsSound h s → IsSound h (after h s e)
 sound_after h s e sound = of (after_cases h s e)
   where
     of : (after h s e ≡ s) ⊎ ((e.principal < length h.principals) × (refusal_of h s e.session e.principal e.event ≡ None) × (after h s e ≡ accepted h s e.session e.principal e.event)) → IsSound h (after h s e)
@@ -186,7 +186,7 @@ entries_most h s sound few =
 
 -- ---- One more entry
 
-accepted_after : (h : Head) (s : State) (e : EntryTree) → IsAccepted h s e → after h s e ≡ accepted h s e.session e.principal e.event
+pub accepted_after : (h : Head) (s : State) (e : EntryTree) → IsAccepted h s e → after h s e ≡ accepted h s e.session e.principal e.event
 accepted_after h s e (below, free) = after_accepted h s e (lt-ltb e.principal (length h.principals) below) free
 
 pub replay_more : (h : Head) (s : State) (es : List EntryTree) (e : EntryTree) → replay_from h s (es ++ e ∷ []) ≡ after h (replay_from h s es) e

@@ -9,5 +9,6 @@ pub mod Walk
 pub mod Fits
 pub mod PrintedBytes
 pub mod PrintedProofs
+pub mod OneLine
 pub mod OneProof
 pub mod ForCallers

@@ -170,10 +170,10 @@ term_passed (tree.subprincipal t x) ok tail =
     let part = plain_passed (46 ∷ x) tail (words_plain x (name_bytes x ok.1)) in
     ap (bracket_length false) (append_assoc (term_text t) (46 ∷ x) tail) ∙ omega (arith, term_passed t ok.0 (46 ∷ x ++ tail), part, length-append (term_text t) (46 ∷ x))
 
-term_is_text : (t : TermTree) → IsSpellableTerm t → TermFits t → IsTermText (term_text t) t
+pub term_is_text : (t : TermTree) → IsSpellableTerm t → TermFits t → IsTermText (term_text t) t
 term_is_text t ok fits = record { length_limit = fits; spelled = term_text_spells t ok; fits = fits }
 
-formula_is_text : (f : FormulaTree) → IsSpellable f → FormulaFits f → IsFormulaText (formula_text f) f
+pub formula_is_text : (f : FormulaTree) → IsSpellable f → FormulaFits f → IsFormulaText (formula_text f) f
 formula_is_text f ok fits = record { length_limit = fits.length_limit; spelled = formula_text_spells f ok 64 fits.level_limit; fits = fits }
 
 bracket_read : (t : TermTree) → IsSpellableTerm t → TermFits t → (tail : List ℕ) → BeginsWithTerm (bracket_text (Some t) ++ tail) t tail
@@ -286,7 +286,7 @@ module _ (k : ℕ) (l : LineTree) (small : k < 2 ^ 64) (form : HasRuleForm l) (o
     formula = formula_is_text l.formula ok.formula fits.formula;
   }
 
-  line_uncut : IsUncut (line_text k l)
+  pub line_uncut : IsUncut (line_text k l)
   line_uncut =
       let formula = formula_text l.formula in
       let colon = codes " : " ++ formula in
@@ -328,7 +328,7 @@ lines_read (l ∷ ls) k positive some room fine =
     let f = All-first IsFine l ls fine in
     line (omega arith) (line_read k l (omega arith) f.form f.spellable f.fits) (lines_read ls (k + 1) (omega arith) (omega arith) (omega arith) (All-rest IsFine l ls fine))
 
-all_fine : (ls : List LineTree) → All HasRuleForm ls → All IsSpellableLine ls → All LineFits ls → All IsFine ls
+pub all_fine : (ls : List LineTree) → All HasRuleForm ls → All IsSpellableLine ls → All LineFits ls → All IsFine ls
 all_fine ls form spellable fits k d h = record { form = form k d h; spellable = spellable k d h; fits = fits k d h }
 
 -- the text of a proof that fits is read as the proof

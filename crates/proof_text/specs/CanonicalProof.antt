@@ -3,7 +3,7 @@ use Rattle.std.specs.Prelude.{◌<◌, ◌≤◌, ◌+◌, ◌^◌, ℕ, List, [
 use Rattle.std.specs.Fmt.{decimal}
 use Rattle.nal_term.specs.Trees.{TermTree}
 use Rattle.nal_parse.specs.Canonical.{formula_text, term_text, FormulaFits, TermFits, IsSpellable, IsSpellableTerm}
-use Rattle.proof_lines.specs.Lines.{LineTree}
+use Rattle.proof_lines.specs.Lines.{HasRuleForm, LineTree}
 use Rattle.proof_text.specs.RuleNames.{rule_name}
 
 -- the references, each after a space
@@ -56,3 +56,9 @@ pub record IsSpellableLine (l : LineTree) : Type 0 where
   pub references : All (λ r. r < 2 ^ 64) l.refs
   pub term : IsSpellableOptional l.term
   pub formula : IsSpellable l.formula
+
+-- what a proof is made of: at most 256 lines, each of the form of its rule, whose parts keep the limits of their kinds
+pub record IsSpellableProof (ls : List LineTree) : Type 0 where
+  pub few : length ls ≤ 256
+  pub forms : All HasRuleForm ls
+  pub parts : All IsSpellableLine ls

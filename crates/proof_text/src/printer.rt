@@ -2,7 +2,7 @@ ghost use Rattle.std.specs.Prelude.{◌≡◌, ◌<◌, ◌≤◌, ◌+◌, ◌^
 ghost use Rattle.std.specs.Fmt.{decimal};
 ghost use Rattle.nal_term.specs.Trees.{term_tree};
 ghost use Rattle.proof_lines.specs.Lines.{line_tree, line_trees};
-ghost use Rattle.proof_text.specs.CanonicalProof.{IsSpellableLine, IsSpellableOptional, ProofFits, bracket_text, line_text, lines_text, proof_text, references_text};
+ghost use Rattle.proof_text.specs.CanonicalProof.{IsSpellableLine, IsSpellableOptional, IsSpellableProof, ProofFits, bracket_text, line_text, lines_text, proof_text, references_text};
 ghost use Rattle.proof_text.specs.ProofText.{IsProofText};
 
 use crate::names::rule_name;
@@ -17,6 +17,7 @@ use std::alloc::{AllocError, Global};
 pub fn print_proof(alloc: Global, proof: &Proof) -> Result<Bytes, AllocError>
     ensures text { IfOk result (λ b. b ≡ proof_text (line_trees proof.now)) }
     ensures read_again { IfOk result (λ b. ProofFits (line_trees proof.now) → IsProofText b (line_trees proof.now)) }
+    ensures spellable { OnOk result (IsSpellableProof (line_trees proof.now)) }
 {
     let mut text = Bytes::of(alloc, b"proof 2")?;
     append_lines(alloc, &mut text, 1, proof.as_slice())?;
