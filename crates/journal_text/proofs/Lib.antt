@@ -1,7 +1,13 @@
+pub mod ForCallers
 pub mod OneRequest
 pub mod RequestCuts
 pub mod PolicyCuts
 pub mod PolicyEntries
 pub mod PolicyHeads
 pub mod PolicyReading
+pub mod OnePolicy
+pub mod PrintedEvents
+pub mod PrintedPolicies
 pub mod PolicyPrinting
+pub mod OneFront
+pub mod WordsForCallers

@@ -1,12 +1,11 @@
 -- How the words of a policy's lines are cut, and what their bytes are.
-use Rattle.std.proofs.Common.{◌≡◌, ◌≢◌, ◌<◌, ◌≤◌, ◌+◌, ◌%◌, ◌^◌, ℕ, List, [], ◌∷◌, ◌++◌, length, Bool, true, false, not, ◌&&◌, nat_le, IsTrue, codes, refl, sym, ap, ◌∙◌, subst, arith}
+use Rattle.std.proofs.Common.{◌≡◌, ◌≢◌, ◌<◌, ◌≤◌, ◌+◌, ◌%◌, ◌^◌, ℕ, List, [], ◌∷◌, length, true, not, ◌&&◌, nat_le, IsTrue, refl, ap, ◌∙◌, subst, arith}
 use Rattle.std.specs.List.{All, list_all}
 use Rattle.std.specs.Fmt.{decimal}
 use Rattle.std.proofs.lemmas.List.Elements.{All-nil, All-cons, All-head, All-tail, All-append}
 use Rattle.std.proofs.lemmas.Bool.{and_parts}
 use Rattle.std.proofs.lemmas.Fmt.{decimal_by_steps, decimal_nonempty}
 use Rattle.nal_term.specs.Names.{IsName, is_letter, is_reserved, is_word, is_word_byte}
-use Rattle.nal_term.specs.Secrets.{IsSecret, is_secret_byte}
 use Rattle.policy_history.specs.PolicyLines.{spaced}
 use Rattle.journal_text.specs.Inner.PolicyReading.{IsUnspaced}
 

@@ -15,7 +15,7 @@ use Rattle.policy_history.specs.Values.{decision}
 use Rattle.policy_history.specs.Events.{EntryTree, EventTree, numbered}
 use Rattle.policy_history.specs.PolicyLines.{spaced}
 use Rattle.journal_text.specs.PolicyText.{IsEntryLine, IsEventText}
-use Rattle.journal_text.specs.Inner.PolicyReading.{IsHeadLine, IsSoleEntry, IsSoleEvent, IsUnspaced}
+use Rattle.journal_text.specs.Inner.PolicyReading.{IsHeadLine, IsUnspaced}
 use Rattle.journal_text.proofs.PolicyCuts.{cut_same, name_unspaced, number_first, number_unspaced}
 
 -- no entry's line begins with a letter
@@ -73,26 +73,35 @@ entry_of session principal event = record { session = session; principal = princ
 some_same : (p q : ℕ) → Some p ≡ Some q → p ≡ q
 some_same p q e = cc
 
--- a line whose words are all read is that of one entry
-pub sole_entry : (h : Head) (line word rest name text : List ℕ) (session principal : ℕ) (event : EventTree) → line ≡ spaced word rest → IsUnspaced word → rest ≡ spaced name text
-    → IsUnspaced name → IsName name → word ≡ decimal session → 1 ≤ session → session < 2 ^ 64 → numbered h.principals name ≡ Some principal → IsSoleEvent text event
-    → IsSoleEntry h line (entry_of session principal event)
-sole_entry h line word rest name text session principal event cut plain cut2 plain2 named is one below known sole = record {
-  read = record {
-    name = name;
-    text = text;
-    formed = cut ∙ ap (λ w. spaced w rest) is ∙ ap (λ r. spaced (decimal session) r) cut2;
-    named = named;
-    session = (one, below);
-    principal = known;
-    event = sole.read;
-  };
-  only = λ other l.
-      let w = entry_words line word rest name text cut plain cut2 plain2 l in
-      let s : other.session ≡ session = decimal_injective other.session session w.range.1 below (sym w.session_is ∙ is) in
-      let p : other.principal ≡ principal = some_same _ _ (sym w.principal ∙ known) in
-      let e : other.event ≡ event = sole.only other.event w.event in
-      λ i. entry_of (s i) (p i) (e i);
+-- a line whose words are all read is that of this entry
+pub entry_line : (h : Head) (line word rest name text : List ℕ) (session principal : ℕ) (event : EventTree) → line ≡ spaced word rest → rest ≡ spaced name text
+    → IsName name → word ≡ decimal session → 1 ≤ session → session < 2 ^ 64 → numbered h.principals name ≡ Some principal → IsEventText text event
+    → IsEntryLine h line (entry_of session principal event)
+entry_line h line word rest name text session principal event cut cut2 named is one below known read = record {
+  name = name;
+  text = text;
+  formed = cut ∙ ap (λ w. spaced w rest) is ∙ ap (λ r. spaced (decimal session) r) cut2;
+  named = named;
+  session = (one, below);
+  principal = known;
+  event = read;
+}
+
+-- the line is that of this entry alone
+pub record IsSoleEntry (h : Head) (line : List ℕ) (e : EntryTree) : Type 0 where
+  pub read : IsEntryLine h line e
+  pub only : (other : EntryTree) → IsEntryLine h line other → other ≡ e
+
+-- which it is where its words are those of one event
+pub sole_entry : {h : Head} {line : List ℕ} {e : EntryTree} (l : IsEntryLine h line e) → ((other : EventTree) → IsEventText l.text other → other ≡ e.event) → IsSoleEntry h line e
+sole_entry {line = line} {e = e} l one = record {
+  read = l;
+  only = λ other m.
+      let w = entry_words line (decimal e.session) (spaced l.name l.text) l.name l.text l.formed (number_unspaced e.session l.session.1) refl (name_unspaced l.name l.named) m in
+      let s : other.session ≡ e.session = decimal_injective other.session e.session w.range.1 l.session.1 (sym w.session_is) in
+      let p : other.principal ≡ e.principal = some_same _ _ (sym w.principal ∙ l.principal) in
+      let x : other.event ≡ e.event = one other.event w.event in
+      λ i. entry_of (s i) (p i) (x i);
 }
 
 -- ---- A line that is no entry's

@@ -1,5 +1,5 @@
 -- How the lines of a head are read.
-use Rattle.std.proofs.Common.{◌≡◌, ◌≢◌, ◌<◌, ◌≤◌, ◌+◌, ◌^◌, ℕ, List, [], ◌∷◌, ◌++◌, length, codes, inl, inr, Result, Ok, Err, OnOk, get_or, length-append, refl, sym, ap, ◌∙◌, subst, arith}
+use Rattle.std.proofs.Common.{◌≡◌, ◌≢◌, ◌<◌, ◌≤◌, ◌^◌, ℕ, List, [], ◌∷◌, ◌++◌, length, codes, inl, inr, Result, Ok, Err, OnOk, length-append, refl, sym, ap, ◌∙◌, subst, arith}
 use Rattle.std.specs.Fmt.{decimal}
 use Rattle.std.proofs.lemmas.Fmt.{decimal_injective}
 use Rattle.std.proofs.lemmas.List.{get_or_push}
@@ -20,10 +20,6 @@ pub both_ok : {T E : Type 0} (r : Result T E) {P Q R : Type 0} → (P → Q → 
 both_ok (Ok x) f p q = f p q
 both_ok (Err e) f p q = tt
 
-pub ok_gives : {T E : Type 0} (r : Result T E) {P Q : Type 0} → (P → Q) → OnOk r P → OnOk r Q
-ok_gives (Ok x) f p = f p
-ok_gives (Err e) f p = tt
-
 -- ---- Principals
 
 same_principal : {a b line : List ℕ} → line ≡ codes "principal " ++ a → line ≡ codes "principal " ++ b → a ≡ b
@@ -39,10 +35,10 @@ differs x y xs ys less d e = let h : x ≡ y = cc in absurd (omega (arith, h, le
 not_both : {a b line : List ℕ} → line ≡ codes "principal " ++ a → line ≡ codes "authority " ++ b → ⊥
 not_both {a = a} {b = b} d e = differs 97 112 (codes "uthority " ++ b) (codes "rincipal " ++ a) (omega arith) e d
 
-principal_not_end : {a line : List ℕ} → line ≡ codes "principal " ++ a → line ≡ codes "end" → ⊥
+pub principal_not_end : {a line : List ℕ} → line ≡ codes "principal " ++ a → line ≡ codes "end" → ⊥
 principal_not_end {a = a} d e = differs 101 112 (codes "nd") (codes "rincipal " ++ a) (omega arith) e d
 
-authority_not_end : {a line : List ℕ} → line ≡ codes "authority " ++ a → line ≡ codes "end" → ⊥
+pub authority_not_end : {a line : List ℕ} → line ≡ codes "authority " ++ a → line ≡ codes "end" → ⊥
 authority_not_end {a = a} d e = differs 97 101 (codes "uthority " ++ a) (codes "nd") (omega arith) d e
 
 pub principal_follows : {line text : List ℕ} {ps new : List Principal} {qs : List Authority} → line ≡ codes "principal " ++ text → qs ≡ []
@@ -114,7 +110,7 @@ authority_follows {line = line} {ps = ps} {qs = qs} {new = new} d made are =
     authority made.0 (d ∙ ap (λ t. codes "authority " ++ t) made.1.formed) (subst AreAuthorities made.2 are) in
     subst (λ xs. Follows (open_with (head_of ps qs) []) line (open_with (head_of ps xs) [])) (sym made.2) f
 
-last_port : (qs : List Authority) (a : Authority) → AreAuthorities (qs ++ a ∷ []) → a.port < 2 ^ 64
+pub last_port : (qs : List Authority) (a : Authority) → AreAuthorities (qs ++ a ∷ []) → a.port < 2 ^ 64
 last_port qs a are =
     let e = get_or_push qs a a (length qs) refl in
     let l = length-append qs (a ∷ []) in

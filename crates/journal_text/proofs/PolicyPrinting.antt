@@ -1,11 +1,11 @@
 -- The lists that a policy's text is printed from.
-use Rattle.std.proofs.Common.{◌≡◌, ◌<◌, ◌+◌, ℕ, zero, suc, List, [], ◌∷◌, ◌++◌, length, take, get_or, map, Option, Some, None, refl, sym, ap, ◌∙◌, arith}
+use Rattle.std.proofs.Common.{◌≡◌, ◌<◌, ◌+◌, ℕ, zero, suc, List, [], ◌∷◌, ◌++◌, length, take, get_or, map, Some, sym, ap, ◌∙◌, arith}
 use Rattle.std.specs.Prelude.{slice_get}
 use Rattle.std.proofs.lemmas.List.{take_more}
 use Rattle.std.proofs.lemmas.Option.{get_or_from_slice_get, slice_get_within}
 use Rattle.policy_history.specs.declared.heads.Head.{Head}
 use Rattle.policy_history.specs.declared.events.Entry.{Entry}
-use Rattle.policy_history.specs.Events.{EntryTree, entry_tree}
+use Rattle.policy_history.specs.Events.{entry_tree}
 use Rattle.policy_history.specs.Machine.{IsLegalFrom, after}
 use Rattle.policy_history.specs.States.{State}
 

@@ -1,19 +1,21 @@
 -- How the lines of a policy's text lead from stage to stage.
-use Rattle.std.proofs.Common.{◌≡◌, ◌≢◌, ◌<◌, ◌≤◌, ◌+◌, ◌⊎◌, ◌==◌, true, false, inl, inr, ℕ, List, [], ◌∷◌, ◌++◌, length, codes, Some, None, refl, sym, ap, ◌∙◌, subst, arith}
+use Rattle.std.proofs.Common.{◌≡◌, ◌≢◌, ◌<◌, ◌≤◌, ◌+◌, ◌-◌, ◌^◌, ◌⊎◌, ◌==◌, true, false, inl, inr, ℕ, List, [], ◌∷◌, ◌++◌, length, codes, Some, None, Result, Ok, Err, IfOk, IfErr, refl, sym, ap, ◌∙◌, subst, arith}
 use Rattle.std.proofs.lemmas.Bool.Decides.{Decides-eqb}
+use Rattle.std.proofs.lemmas.List.Elements.{All-nil}
 use Rattle.policy_history.specs.declared.heads.Head.{Head}
 use Rattle.policy_history.specs.declared.events.Refusal.{Refusal}
 use Rattle.policy_history.specs.Events.{EntryTree}
-use Rattle.policy_history.specs.Laws.{refusal_number}
 use Rattle.policy_history.specs.Machine.{IsAccepted, refusal_of, replay}
 use Rattle.policy_history.specs.PolicyLines.{spaced}
-use Rattle.policy_history.specs.Values.{History, entry_trees}
+use Rattle.policy_history.specs.Values.{History, entry_trees, greatest_of}
 use Rattle.text_lines.specs.Lines.{after_line, first_line}
-use Rattle.journal_text.specs.PolicyText.{Fault, Follows, IsEntryLine, IsErrorOf, IsFaultAt, IsFormlessAt, IsRefusedAt, IsWrongFrom, Leads, ReadsAs, Stage, authority, end, ended_with, entry, formless, head_of, header, header_due, here, most_bytes, on, open_with, principal, refusal}
-use Rattle.journal_text.specs.Inner.PolicyReading.{IsErrorFrom, IsHeadLine, IsHeadRead, IsLineAdded, IsLineRefused, IsSoleEntry, PassesThrough, ReadsFrom}
+use Rattle.journal_text.specs.PolicyText.{Fault, Follows, IsEntryLine, IsErrorOf, IsFormlessAt, IsRefusedAt, IsWrongFrom, Leads, Stage, authority, end, ended_with, entry, formless, head_of, header, header_due, here, most_bytes, on, open_with, principal, refusal}
+use Rattle.journal_text.specs.PolicyFronts.{AreBelow, IsAboveIn, IsFront, IsFrontError, IsWrongIn}
+use Rattle.journal_text.specs.Inner.PolicyReading.{IsErrorFrom, IsHeadError, IsHeadLine, IsHeadRead, IsLineAdded, IsLineRefused, ReadsOn}
+use Rattle.journal_text.proofs.ForCallers.{above_last, greatest_below}
 use Rattle.journal_text.specs.declared.policy_reader.PolicyError.{PolicyError}
 use Rattle.journal_text.specs.declared.policy_reader.PolicyError.TheVariants.{Bad, Refused, TooLong, Memory}
-use Rattle.journal_text.proofs.PolicyEntries.{IsNoEntry, end_no_entry, head_line_no_entry}
+use Rattle.journal_text.proofs.PolicyEntries.{IsNoEntry, IsSoleEntry, end_no_entry, head_line_no_entry}
 
 -- ---- One line more
 
@@ -29,52 +31,13 @@ pub leads_on : {stage mid last : Stage} {text rest left : List ℕ} {n m : ℕ} 
 leads_on {m = m} here l = (m, omega arith, l)
 leads_on (on some f k) l = let h = leads_on k l in (h.0 + 1, omega (arith, h.1), on some f h.2)
 
--- a reading that is not at its end goes on by one line
-abbrev pub GoesOn : Stage → List ℕ → Head → List EntryTree → Type 0
-GoesOn stage text h es = (next : Stage) × (text ≢ []) × Follows stage (first_line text) next × ReadsFrom next (after_line text) h es
-
-open_goes_on : {text : List ℕ} {n : ℕ} (h : Head) (es : List EntryTree) (h' : Head) (es' : List EntryTree) → Leads (open_with h es) text n (ended_with h' es') [] → GoesOn (open_with h es) text h' es'
-open_goes_on h es h' es' (on {next = next} {n = n} some f l) = (next, some, f, (n, l))
-
-pub reads_on : {text : List ℕ} {h : Head} {es : List EntryTree} (h' : Head) (es' : List EntryTree) → ReadsFrom (open_with h es) text h' es' → GoesOn (open_with h es) text h' es'
-reads_on {h = h} {es = es} h' es' r = open_goes_on h es h' es' r.1
-
-header_goes_on : {text : List ℕ} {n : ℕ} (h' : Head) (es' : List EntryTree) → Leads header_due text n (ended_with h' es') [] → GoesOn header_due text h' es'
-header_goes_on h' es' (on {next = next} {n = n} some f l) = (next, some, f, (n, l))
-
-pub header_reads_on : {text : List ℕ} (h' : Head) (es' : List EntryTree) → ReadsFrom header_due text h' es' → GoesOn header_due text h' es'
-header_reads_on h' es' r = header_goes_on h' es' r.1
-
-pub passes_here : (stage : Stage) (text : List ℕ) → PassesThrough stage text stage text
-passes_here stage text h es r = r
-
--- where one stage follows, every reading comes through it
-pub passes_on : {stage next : Stage} {text rest : List ℕ} {h : Head} {es : List EntryTree} → PassesThrough stage text (open_with h es) rest
-    → ((other : Stage) → Follows (open_with h es) (first_line rest) other → other ≡ next) → PassesThrough stage text next (after_line rest)
-passes_on {rest = rest} t only h' es' r =
-    let g = reads_on h' es' (t h' es' r) in
-    subst (λ s. ReadsFrom s (after_line rest) h' es') (only g.0 g.2) g.3
-
--- where none follows, there is no reading
-pub passes_nowhere : {stage : Stage} {text rest : List ℕ} {h : Head} {es : List EntryTree} → PassesThrough stage text (open_with h es) rest
-    → ((next : Stage) → rest ≢ [] → Follows (open_with h es) (first_line rest) next → ⊥) → (h' : Head) (es' : List EntryTree) → ReadsFrom stage text h' es' → ⊥
-passes_nowhere t none h' es' r = let g = reads_on h' es' (t h' es' r) in none g.0 g.1 g.2
-
 -- ---- The header
 
-header_one : {line : List ℕ} {next : Stage} → Follows header_due line next → next ≡ open_with (head_of [] []) []
+pub header_one : {line : List ℕ} {next : Stage} → Follows header_due line next → next ≡ open_with (head_of [] []) []
 header_one (header e) = refl
-
-pub header_passes : (text rest : List ℕ) → rest ≡ after_line text → PassesThrough header_due text (open_with (head_of [] []) []) rest
-header_passes text rest e h es r =
-    let g = header_reads_on h es r in
-    subst (λ s. ReadsFrom s rest h es) (header_one g.2) (subst (λ t. ReadsFrom g.0 t h es) (sym e) g.3)
 
 header_is : {line : List ℕ} {next : Stage} → Follows header_due line next → (line ≡ codes "nexus 1") ⊎ (line ≡ codes "nexus 2")
 header_is (header e) = e
-
-pub no_header : (text : List ℕ) → ((first_line text ≡ codes "nexus 1") ⊎ (first_line text ≡ codes "nexus 2") → ⊥) → (h : Head) (es : List EntryTree) → ReadsAs text h es → ⊥
-no_header text bad h es r = bad (header_is (header_reads_on h es (r.1, r.2)).2)
 
 empty_or : (text : List ℕ) → (text ≡ []) ⊎ (text ≢ [])
 empty_or [] = inl refl
@@ -84,8 +47,9 @@ formless_header : (text : List ℕ) → ((first_line text ≡ codes "nexus 1") �
 formless_header text bad (inl none) = inl (none, tt)
 formless_header text bad (inr some) = inr (some, λ next f. bad (header_is f), λ r x. x)
 
-pub header_wrong : (text : List ℕ) → ((first_line text ≡ codes "nexus 1") ⊎ (first_line text ≡ codes "nexus 2") → ⊥) → IsWrongFrom header_due text 1 formless
-header_wrong text bad = record { before = 0; last = header_due; rest = text; number = refl; led = here; wrong = formless_header text bad (empty_or text) }
+pub header_wrong : (text : List ℕ) → ((first_line text ≡ codes "nexus 1") ⊎ (first_line text ≡ codes "nexus 2") → ⊥) → (most : ℕ) → IsWrongIn most header_due text 1 formless
+header_wrong text bad most =
+    record { before = 0; last = header_due; rest = text; number = refl; led = here; unended = tt; below = tt; wrong = formless_header text bad (empty_or text) }
 
 header_some : (line : List ℕ) → (line ≡ codes "nexus 1") ⊎ (line ≡ codes "nexus 2") → line ≢ []
 header_some line (inl e) n = cc
@@ -119,13 +83,15 @@ no_refusal h es none r x = none h x.0 x.1
 
 -- a line of a head that may not stand there is wrong
 pub head_line_wrong : {stage : Stage} {text rest : List ℕ} {n : ℕ} {h : Head} → Leads stage text n (open_with h []) rest → IsHeadLine (first_line rest)
-    → ((next : Stage) → Follows (open_with h []) (first_line rest) next → ⊥) → IsWrongFrom stage text (n + 1) formless
-head_line_wrong {rest = rest} {n = n} {h = h} l is bad = record {
+    → ((next : Stage) → Follows (open_with h []) (first_line rest) next → ⊥) → (most : ℕ) → IsWrongIn most stage text (n + 1) formless
+head_line_wrong {rest = rest} {n = n} {h = h} l is bad most = record {
   before = n;
   last = open_with h [];
   rest = rest;
   number = refl;
   led = l;
+  unended = tt;
+  below = All-nil (λ (e : EntryTree). e.session ≤ most);
   wrong = inr (head_text_some rest is, bad, no_refusal h [] (head_line_no_entry (first_line rest) is));
 }
 
@@ -189,48 +155,63 @@ end_only {h = h} {es = es} {line = line} is past next f = of (open_cases f)
     of (by_entry e l acc n) = absurd (end_no_entry line is h e l)
     of (by_end n m) = m
 
-nothing_after : {line : List ℕ} {h : Head} {es : List EntryTree} {next : Stage} → Follows (ended_with h es) line next → ⊥
+pub nothing_after : {line : List ℕ} {h : Head} {es : List EntryTree} {next : Stage} → Follows (ended_with h es) line next → ⊥
 nothing_after f = elim f [ ]
 
+-- the entry of the line, at the head that the journal keeps
+pub record IsAddedHere (h : Head) (es new : List EntryTree) (line : List ℕ) : Type 0 where
+  pub entry_is : EntryTree
+  pub read : IsEntryLine h line entry_is
+  pub accepted : IsAccepted h (replay h es) entry_is
+  pub added : new ≡ es ++ entry_is ∷ []
+
 -- a text that ends before the policy does
-pub wrong_early : {stage : Stage} {text rest : List ℕ} {n : ℕ} {h : Head} {es : List EntryTree} → Leads stage text n (open_with h es) rest → rest ≡ [] → IsWrongFrom stage text (n + 1) formless
-wrong_early {rest = rest} {n = n} {h = h} {es = es} l none = record { before = n; last = open_with h es; rest = rest; number = refl; led = l; wrong = inl (none, tt) }
+pub wrong_early : {stage : Stage} {text rest : List ℕ} {n : ℕ} {h : Head} {es : List EntryTree} (most : ℕ) → Leads stage text n (open_with h es) rest → AreBelow most es → rest ≡ []
+    → IsWrongIn most stage text (n + 1) formless
+wrong_early {rest = rest} {n = n} {h = h} {es = es} most l below none =
+    record { before = n; last = open_with h es; rest = rest; number = refl; led = l; unended = tt; below = below; wrong = inl (none, tt) }
 
 -- a line that has no form
-pub wrong_line : {stage : Stage} {text rest : List ℕ} {n : ℕ} {h : Head} {es : List EntryTree} → Leads stage text n (open_with h es) rest → rest ≢ []
-    → ((next : Stage) → Follows (open_with h es) (first_line rest) next → ⊥) → ((e : EntryTree) → IsEntryLine h (first_line rest) e → ⊥) → IsWrongFrom stage text (n + 1) formless
-wrong_line {rest = rest} {n = n} {h = h} {es = es} l some bad none =
-    record { before = n; last = open_with h es; rest = rest; number = refl; led = l; wrong = inr (some, bad, λ r x. none x.0 x.1) }
+pub wrong_line : {stage : Stage} {text rest : List ℕ} {n : ℕ} {h : Head} {es : List EntryTree} (most : ℕ) → Leads stage text n (open_with h es) rest → AreBelow most es → rest ≢ []
+    → ((next : Stage) → Follows (open_with h es) (first_line rest) next → ⊥) → ((e : EntryTree) → IsEntryLine h (first_line rest) e → ⊥) → IsWrongIn most stage text (n + 1) formless
+wrong_line {rest = rest} {n = n} {h = h} {es = es} most l below some bad none =
+    record { before = n; last = open_with h es; rest = rest; number = refl; led = l; unended = tt; below = below; wrong = inr (some, bad, λ r x. none x.0 x.1) }
 
 -- an entry that is refused
-pub wrong_entry : {stage : Stage} {text rest : List ℕ} {n : ℕ} {h : Head} {es : List EntryTree} (e : EntryTree) (r : Refusal) → Leads stage text n (open_with h es) rest → rest ≢ []
-    → IsEntryLine h (first_line rest) e → refusal_of h (replay h es) e.session e.principal e.event ≡ Some r → IsWrongFrom stage text (n + 1) (refusal r)
-wrong_entry {rest = rest} {n = n} {h = h} {es = es} e r l some line refused =
-    record { before = n; last = open_with h es; rest = rest; number = refl; led = l; wrong = (some, (e, line, refused)) }
+pub wrong_entry : {stage : Stage} {text rest : List ℕ} {n : ℕ} {h : Head} {es : List EntryTree} (most : ℕ) (e : EntryTree) (r : Refusal) → Leads stage text n (open_with h es) rest → AreBelow most es → rest ≢ []
+    → IsEntryLine h (first_line rest) e → refusal_of h (replay h es) e.session e.principal e.event ≡ Some r → IsWrongIn most stage text (n + 1) (refusal r)
+wrong_entry {rest = rest} {n = n} {h = h} {es = es} most e r l below some line refused =
+    record { before = n; last = open_with h es; rest = rest; number = refl; led = l; unended = tt; below = below; wrong = (some, (e, line, refused)) }
 
--- a line behind the last
-pub wrong_behind : {stage : Stage} {text rest : List ℕ} {n : ℕ} {h : Head} {es : List EntryTree} → Leads stage text n (open_with h es) rest → rest ≢ []
-    → first_line rest ≡ codes "end" → after_line rest ≢ [] → IsWrongFrom stage text (n + 1 + 1) formless
-wrong_behind {rest = rest} {n = n} {h = h} {es = es} l some is more = record {
-  before = n + 1;
-  last = ended_with h es;
-  rest = after_line rest;
+-- an entry whose session is above the bound
+pub above_entry : {stage : Stage} {text rest : List ℕ} {n : ℕ} {h : Head} {es new : List EntryTree} (most : ℕ) → Leads stage text n (open_with h es) rest → AreBelow most es → rest ≢ []
+    → IsAddedHere h es new (first_line rest) → most < greatest_of new → IsAboveIn most stage text (n + 1)
+above_entry {rest = rest} {n = n} {h = h} {es = es} {new = new} most l below some a above = record {
+  before = n;
+  head = h;
+  entries = es;
+  rest = rest;
+  last = a.entry_is;
   number = refl;
-  led = leads_more l some (end is);
-  wrong = inr (more, λ next f. nothing_after f, λ r x. x);
+  led = l;
+  below = below;
+  some = some;
+  line = a.read;
+  above = above_last most es a.entry_is below (subst (λ xs. most < greatest_of xs) a.added above);
 }
 
-ended_same : {text : List ℕ} {n : ℕ} {h h' : Head} {es es' : List EntryTree} → Leads (ended_with h es) text n (ended_with h' es') [] → (h' ≡ h) × (es' ≡ es) × (text ≡ [])
+-- and one whose session is not
+pub below_entry : {h : Head} {es new : List EntryTree} {line : List ℕ} (most : ℕ) → IsAddedHere h es new line → greatest_of new ≤ most → AreBelow most new
+below_entry {new = new} most a bound = greatest_below most new bound
+
+-- a line behind the last
+pub wrong_behind : {stage : Stage} {text rest : List ℕ} {n : ℕ} {h : Head} {es : List EntryTree} → Leads stage text n (ended_with h es) rest → rest ≢ [] → IsWrongFrom stage text (n + 1) formless
+wrong_behind {rest = rest} {n = n} {h = h} {es = es} l more =
+    record { before = n; last = ended_with h es; rest = rest; number = refl; led = l; wrong = inr (more, λ next f. nothing_after f, λ r x. x) }
+
+pub ended_same : {text : List ℕ} {n : ℕ} {h h' : Head} {es es' : List EntryTree} → Leads (ended_with h es) text n (ended_with h' es') [] → (h' ≡ h) × (es' ≡ es) × (text ≡ [])
 ended_same here = (refl, refl, refl)
 ended_same (on some f l) = absurd (nothing_after f)
-
--- at the end a text has been read as one head and one list of entries
-pub ends_as : {stage : Stage} {text rest : List ℕ} {h : Head} {es : List EntryTree} → PassesThrough stage text (open_with h es) rest → first_line rest ≡ codes "end" → IsPast es (first_line rest)
-    → (h' : Head) (es' : List EntryTree) → ReadsFrom stage text h' es' → (h' ≡ h) × (es' ≡ es) × (after_line rest ≡ [])
-ends_as {rest = rest} {h = h} {es = es} t is past h' es' r =
-    let g = reads_on h' es' (t h' es' r) in
-    let last = subst (λ s. ReadsFrom s (after_line rest) h' es') (end_only is past g.0 g.2) g.3 in
-    ended_same last.1
 
 -- ---- What one turn of the reader leaves
 
@@ -245,32 +226,25 @@ not_nothing : {X : Type 0} (xs : List X) (x : X) → xs ++ x ∷ [] ≢ []
 not_nothing [] x e = cc
 not_nothing (y ∷ ys) x e = cc
 
--- the entry of the line, at the head that the journal keeps
-pub record IsAddedHere (h : Head) (es new : List EntryTree) (line : List ℕ) : Type 0 where
-  pub entry_is : EntryTree
-  pub sole : IsSoleEntry h line entry_is
-  pub accepted : IsAccepted h (replay h es) entry_is
-  pub added : new ≡ es ++ entry_is ∷ []
-
 pub added_here : (h : Head) (old new : History) (line first : List ℕ) → old.head ≡ h → line ≡ first → IsLineAdded old new line
     → IsAddedHere h (entry_trees old.entries) (entry_trees new.entries) first
 added_here h old new line first hd le a = record {
   entry_is = a.entry;
-  sole = subst (λ l. IsSoleEntry h l a.entry) le (subst (λ g. IsSoleEntry g line a.entry) hd a.sole);
+  read = subst (λ l. IsEntryLine h l a.entry) le (subst (λ g. IsEntryLine g line a.entry) hd a.read);
   accepted = subst (λ g. IsAccepted g (replay g (entry_trees old.entries)) a.entry) hd a.accepted;
   added = a.added;
 }
 
 pub record IsRefusedHere (h : Head) (es : List EntryTree) (line : List ℕ) (r : Refusal) : Type 0 where
   pub entry_is : EntryTree
-  pub sole : IsSoleEntry h line entry_is
+  pub read : IsEntryLine h line entry_is
   pub refused : refusal_of h (replay h es) entry_is.session entry_is.principal entry_is.event ≡ Some r
 
 pub refused_here : (h : Head) (old : History) (line first : List ℕ) (r : Refusal) → old.head ≡ h → line ≡ first → IsLineRefused old line r
     → IsRefusedHere h (entry_trees old.entries) first r
 refused_here h old line first r hd le a = record {
   entry_is = a.entry;
-  sole = subst (λ l. IsSoleEntry h l a.entry) le (subst (λ g. IsSoleEntry g line a.entry) hd a.sole);
+  read = subst (λ l. IsEntryLine h l a.entry) le (subst (λ g. IsEntryLine g line a.entry) hd a.read);
   refused = subst (λ g. refusal_of g (replay g (entry_trees old.entries)) a.entry.session a.entry.principal a.entry.event ≡ Some r) hd a.refused;
 }
 
@@ -280,50 +254,86 @@ bad_here h g line first hd le none e l = none e (subst (λ x. IsEntryLine x line
 pub entry_leads : {stage : Stage} {text rest : List ℕ} {n : ℕ} {h : Head} {es : List EntryTree} (new : List EntryTree) (left : List ℕ) → Leads stage text n (open_with h es) rest → rest ≢ []
     → IsAddedHere h es new (first_line rest) → left ≡ after_line rest → Leads stage text (n + 1) (open_with h new) left
 entry_leads {stage = stage} {text = text} {rest = rest} {n = n} {h = h} {es = es} new left l some a is =
-    let f = leads_more l some (entry {h = h} {es = es} a.entry_is a.sole.read a.accepted) in
+    let f = leads_more l some (entry {h = h} {es = es} a.entry_is a.read a.accepted) in
     subst (λ t. Leads stage text (n + 1) (open_with h new) t) (sym is) (subst (λ xs. Leads stage text (n + 1) (open_with h xs) (after_line rest)) (sym a.added) f)
-
-pub entry_passes : {stage : Stage} {text rest : List ℕ} {h : Head} {es : List EntryTree} (new : List EntryTree) (left : List ℕ) → PassesThrough stage text (open_with h es) rest
-    → IsPast es (first_line rest) → IsAddedHere h es new (first_line rest) → (first_line rest ≡ codes "end" → ⊥) → left ≡ after_line rest
-    → PassesThrough stage text (open_with h new) left
-entry_passes {stage = stage} {text = text} {h = h} new left t past a not_end is =
-    subst (λ u. PassesThrough stage text (open_with h new) u) (sym is) (passes_on t (entry_only a.entry_is past a.sole a.added not_end))
 
 pub entry_past : {h : Head} {es new : List EntryTree} {line : List ℕ} (first : List ℕ) → IsAddedHere h es new line → IsPast new first
 entry_past {es = es} first a none l = not_nothing es a.entry_is (sym a.added ∙ none)
 
--- the line `end`, with nothing behind it
-pub whole_read : {stage : Stage} {text rest : List ℕ} {n : ℕ} {h : Head} {es : List EntryTree} (h' : Head) → h' ≡ h → Leads stage text n (open_with h es) rest → rest ≢ []
-    → first_line rest ≡ codes "end" → after_line rest ≡ [] → ReadsFrom stage text h' es
-whole_read {stage = stage} {text = text} {n = n} {h = h} {es = es} h' hd l some is last =
+-- the line `end`
+pub last_read : {stage : Stage} {text rest : List ℕ} {n : ℕ} {h : Head} {es : List EntryTree} (most before line : ℕ) (h' : Head) (left : List ℕ) → h' ≡ h → line ≡ before + n
+    → Leads stage text n (open_with h es) rest → AreBelow most es → rest ≢ [] → first_line rest ≡ codes "end" → left ≡ after_line rest
+    → ReadsOn most before stage text h' es (line + 1) left
+last_read {stage = stage} {text = text} {rest = rest} {n = n} {h = h} {es = es} most before line h' left hd number l below some is last =
     let f = leads_more l some (end is) in
-    (n + 1, subst (λ g. Leads stage text (n + 1) (ended_with g es) []) (sym hd) (subst (λ t. Leads stage text (n + 1) (ended_with h es) t) last f))
+    let g : Leads stage text (n + 1) (ended_with h' es) (after_line rest) = subst (λ (x : Head). Leads stage text (n + 1) (ended_with x es) (after_line rest)) (sym hd) f in
+    record { n = n + 1; lines_are = omega (arith, number); led = subst (λ t. Leads stage text (n + 1) (ended_with h' es) t) (sym last) g; below = below }
 
 -- ---- The whole text
 
--- what a head that was read and the lines after it make together
-pub whole_ok : {text rest : List ℕ} {n : ℕ} {h : Head} {es : List EntryTree} (g h' : Head) → length text ≤ most_bytes → g ≡ h → IsHeadRead text h rest n → ReadsFrom (open_with g []) rest h' es
-    → ReadsAs text h' es
-whole_ok {text = text} {rest = rest} {es = es} g h' short hd read r =
-    let rs = subst (λ x. ReadsFrom (open_with x []) rest h' es) hd r in
-    let l = leads_on read.led rs.1 in
-    (short, l.0, l.2)
-
-pub whole_through : {text rest : List ℕ} {n : ℕ} {h : Head} (g : Head) → g ≡ h → IsHeadRead text h rest n → (h' : Head) (es : List EntryTree) → ReadsAs text h' es → ReadsFrom (open_with g []) rest h' es
-whole_through {rest = rest} g hd read h' es r =
-    subst (λ x. ReadsFrom (open_with x []) rest h' es) (sym hd) (read.through h' es (r.1, r.2))
-
-wrong_after : {stage mid : Stage} {text rest : List ℕ} {n k : ℕ} {fault : Fault} → Leads stage text n mid rest → IsWrongFrom mid rest k fault → IsWrongFrom stage text (n + k) fault
-wrong_after l w =
+wrong_after : {stage mid : Stage} {text rest : List ℕ} {n k : ℕ} {fault : Fault} (most : ℕ) → Leads stage text n mid rest → IsWrongIn most mid rest k fault → IsWrongIn most stage text (n + k) fault
+wrong_after most l w =
     let h = leads_on l w.led in
-    record { before = h.0; last = w.last; rest = w.rest; number = omega (arith, w.number, h.1); led = h.2; wrong = w.wrong }
+    record { before = h.0; last = w.last; rest = w.rest; number = omega (arith, w.number, h.1); led = h.2; unended = w.unended; below = w.below; wrong = w.wrong }
 
-pub whole_err : {text rest : List ℕ} {n : ℕ} {h : Head} (g : Head) (e : PolicyError) → length text ≤ most_bytes → g ≡ h → IsHeadRead text h rest n → IsErrorFrom n (open_with g []) rest e → IsErrorOf text e
-whole_err {text = text} {rest = rest} {n = n} g (Bad k) short hd read w =
-    let there = subst (λ x. IsWrongFrom (open_with x []) rest w.0 formless) hd w.2 in
-    (short, subst (λ m. IsWrongFrom header_due text m formless) (sym w.1) (wrong_after read.led there))
-whole_err {text = text} {rest = rest} {n = n} g (Refused k number) short hd read w =
-    let there = subst (λ x. IsWrongFrom (open_with x []) rest w.2 (refusal w.0)) hd w.4 in
-    (short, w.0, w.1, subst (λ m. IsWrongFrom header_due text m (refusal w.0)) (sym w.3) (wrong_after read.led there))
-whole_err g TooLong short hd read w = absurd w
-whole_err g Memory short hd read w = tt
+above_after : {stage mid : Stage} {text rest : List ℕ} {n k : ℕ} (most : ℕ) → Leads stage text n mid rest → IsAboveIn most mid rest k → IsAboveIn most stage text (n + k)
+above_after most l w =
+    let h = leads_on l w.led in
+    record {
+      before = h.0;
+      head = w.head;
+      entries = w.entries;
+      rest = w.rest;
+      last = w.last;
+      number = omega (arith, w.number, h.1);
+      led = h.2;
+      below = w.below;
+      some = w.some;
+      line = w.line;
+      above = w.above;
+    }
+
+-- what a head that was read and the lines after it make together
+pub front_error : (text : List ℕ) {rest : List ℕ} {n : ℕ} {h : Head} (most : ℕ) (e : PolicyError) → IsHeadRead text h rest n → IsErrorFrom most n (open_with h []) rest e → IsFrontError most text e
+front_error text most (Bad k) read (j, e, inl w) = inl (subst (λ m. IsWrongIn most header_due text m formless) (sym e) (wrong_after most read.led w))
+front_error text most (Bad k) read (j, e, inr w) = inr (subst (λ m. IsAboveIn most header_due text m) (sym e) (above_after most read.led w))
+front_error text most (Refused k number) read w =
+    (w.0, w.1, subst (λ m. IsWrongIn most header_due text m (refusal w.0)) (sym w.3) (wrong_after most read.led w.4))
+front_error text most TooLong read w = absurd w
+front_error text most Memory read w = tt
+
+pub front_of : {text rest left : List ℕ} {n lines : ℕ} {h g : Head} {es : List EntryTree} (most : ℕ) → IsHeadRead text h rest n → ReadsOn most n (open_with h []) rest g es lines left
+    → IsFront most text g es lines left
+front_of {text = text} {left = left} {g = g} {es = es} most read later =
+    let l = leads_on read.led later.led in
+    record { led = subst (λ m. Leads header_due text m (ended_with g es) left) (l.1 ∙ sym later.lines_are) l.2; below = later.below }
+
+-- a head that is wrong is wrong whatever the bound
+pub head_error : (text : List ℕ) (most : ℕ) (e : PolicyError) → IsHeadError text e → IsFrontError most text e
+head_error text most (Bad k) w = inl (w most)
+head_error text most (Refused k number) w = absurd w
+head_error text most TooLong w = absurd w
+head_error text most Memory w = tt
+
+-- ---- A text that is a policy's as a whole
+
+wrong_from : {most : ℕ} {stage : Stage} {text : List ℕ} {k : ℕ} {fault : Fault} → IsWrongIn most stage text k fault → IsWrongFrom stage text k fault
+wrong_from w = record { before = w.before; last = w.last; rest = w.rest; number = w.number; led = w.led; wrong = w.wrong }
+
+-- no session is above 64 bits
+pub policy_error : (text : List ℕ) (e : PolicyError) → length text ≤ most_bytes → IsFrontError (2 ^ 64 - 1) text e → IsErrorOf text e
+policy_error text (Bad k) short (inl w) = (short, wrong_from w)
+policy_error text (Bad k) short (inr w) = absurd (omega (arith, w.above, w.line.session.1))
+policy_error text (Refused k number) short w = (short, w.0, w.1, wrong_from w.2)
+policy_error text TooLong short w = absurd w
+policy_error text Memory short w = tt
+
+-- ---- Answers that say more
+
+pub if_ok : {A E : Type 0} (P Q : A → Type 0) (r : Result A E) → ((a : A) → P a → Q a) → IfOk r P → IfOk r Q
+if_ok P Q (Ok a) f p = f a p
+if_ok P Q (Err e) f p = tt
+
+pub if_err : {A E : Type 0} (P Q : E → Type 0) (r : Result A E) → ((e : E) → P e → Q e) → IfErr r P → IfErr r Q
+if_err P Q (Ok a) f p = tt
+if_err P Q (Err e) f p = f e p

@@ -1,13 +1,11 @@
 -- Words without a space, and where a line is cut.
-use Rattle.std.proofs.Common.{◌≡◌, ◌≢◌, ◌<◌, ◌≤◌, ◌+◌, ◌/◌, ◌%◌, ◌^◌, ℕ, List, [], ◌∷◌, ◌++◌, length, Bool, true, false, nat_le, not, ◌&&◌, IsTrue, refl, sym, ap, ◌∙◌, subst, arith}
-use Rattle.std.specs.List.{All, list_all}
+use Rattle.std.proofs.Common.{◌≡◌, ◌≢◌, ◌<◌, ◌+◌, ◌%◌, ◌^◌, ℕ, List, [], ◌∷◌, length, true, nat_le, not, ◌&&◌, IsTrue, refl, sym, ap, ◌∙◌, subst, arith}
+use Rattle.std.specs.List.{list_all}
 use Rattle.std.specs.Fmt.{decimal}
 use Rattle.std.proofs.lemmas.List.Elements.{All-nil, All-cons, All-head, All-tail, All-append}
 use Rattle.std.proofs.lemmas.Bool.{and_parts, false≢true}
 use Rattle.std.proofs.lemmas.Fmt.{decimal_by_steps}
 use Rattle.nal_term.specs.Names.{IsName, is_word, is_word_byte, is_letter, is_reserved}
-use Rattle.nal_term.specs.Secrets.{IsSecret}
-use Rattle.journal_text.specs.RequestLines.{IsOneWord}
 use Rattle.journal_text.specs.RequestForms.{HasNoSpace, cut}
 
 abbrev IsNoSpace : ℕ → Type 0

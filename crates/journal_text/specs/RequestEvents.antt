@@ -1,8 +1,6 @@
 -- The event that a request asks for.
 use Rattle.std.specs.Prelude.{◌≡◌, ℕ, List, Option, Some, None}
-use Rattle.nal_term.specs.Trees.{TermTree, FormulaTree}
 use Rattle.nal_parse.specs.Grammar.{IsFormulaText, IsTermText}
-use Rattle.proof_lines.specs.Lines.{LineTree}
 use Rattle.proof_text.specs.ProofText.{IsProofText}
 use Rattle.policy_history.specs.Events.{EventTree}
 use Rattle.policy_history.specs.Events as event

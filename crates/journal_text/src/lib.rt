@@ -6,16 +6,21 @@ mod events;
 mod line_tests;
 mod policy_entries;
 mod policy_heads;
+mod policy_laws;
 #[cfg(test)]
 mod policy_print_tests;
 mod policy_printer;
 mod policy_reader;
+#[cfg(test)]
+mod policy_tests;
 mod policy_words;
 mod replies;
 mod request_lines;
 
 pub use events::event_of;
+pub use policy_laws::{printed_policies_are_read_again, texts_tell_one_policy};
 pub use policy_printer::{policy_line, print_policy};
-pub use policy_reader::{PolicyError, refusal_number};
+pub use policy_reader::{PolicyError, PolicyFront, read_front, read_policy, refusal_number};
+pub use policy_words::split_word;
 pub use replies::{cause_text, reply_line};
 pub use request_lines::{LineError, lines_tell_one_request, read_request};

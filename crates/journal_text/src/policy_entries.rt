@@ -7,7 +7,7 @@ ghost use Rattle.policy_history.specs.Laws.{refusal_number};
 ghost use Rattle.policy_history.specs.Machine.{IsAccepted, refusal_of};
 ghost use Rattle.policy_history.specs.Values.{entry_trees, state_after};
 ghost use Rattle.journal_text.specs.PolicyText.{IsEntryLine, IsEventText};
-ghost use Rattle.journal_text.specs.Inner.PolicyReading.{IsLineAdded, IsLineRefused, IsSoleEntry, IsSoleEvent};
+ghost use Rattle.journal_text.specs.Inner.PolicyReading.{IsLineAdded, IsLineRefused};
 
 use crate::events::event_of;
 use crate::policy_words::split_word;
@@ -70,7 +70,7 @@ fn append_entry(journal: &mut Journal, entry: Entry) -> Result<Option<Refusal>, 
 
 /// Reads the line of an entry. `Bad` exactly where it is that of none.
 fn read_entry(alloc: Global, head: &Head, line: &[u8]) -> Result<Entry, LineError>
-    ensures ok { IfOk result (λ e. IsSoleEntry head.now line.now (entry_tree e)) }
+    ensures ok { IfOk result (λ e. IsEntryLine head.now line.now (entry_tree e)) }
     ensures within { IfOk result (λ e. e.principal < length head.now.principals) }
     ensures bad { result ≡ Err LineError.Bad → (e : EntryTree) → ¬ IsEntryLine head.now line.now e }
 {
@@ -134,7 +134,7 @@ fn place_of(items: &[Principal], name: &[u8]) -> Option<usize>
 
 /// Reads the text of an event. `Bad` exactly where it is that of none.
 fn read_event(alloc: Global, text: &[u8]) -> Result<Event, LineError>
-    ensures ok { IfOk result (λ event. IsSoleEvent text.now (event_tree event)) }
+    ensures ok { IfOk result (λ event. IsEventText text.now (event_tree event)) }
     ensures bad { result ≡ Err LineError.Bad → (e : EventTree) → ¬ IsEventText text.now e }
 {
     let request = match read_request_text(alloc, text) {

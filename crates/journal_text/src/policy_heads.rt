@@ -1,12 +1,10 @@
 //! Reading the head of a policy's text.
-ghost use Rattle.std.specs.Prelude.{◌≡◌, ◌≢◌, ◌≤◌, ◌++◌, ◌∷◌, ◌↔◌, ◌⊎◌, [], List, IfErr, IfOk, IsTrue, OnOk, codes, length};
-ghost use Rattle.policy_history.specs.Events.{EntryTree};
+ghost use Rattle.std.specs.Prelude.{◌≡◌, ◌≤◌, ◌++◌, ◌∷◌, ◌↔◌, ◌⊎◌, [], List, IfErr, IfOk, IsTrue, OnOk, codes, length};
 ghost use Rattle.policy_history.specs.Heads.{AreAuthorities, ArePrincipals};
-ghost use Rattle.policy_history.specs.declared.heads.Head.{Head};
 ghost use Rattle.policy_history.specs.declared.heads.Principal.{Principal};
 ghost use Rattle.policy_history.specs.declared.heads.Authority.{Authority};
-ghost use Rattle.journal_text.specs.PolicyText.{Follows, IsErrorOf, ReadsAs, Stage, most_bytes, open_with};
-ghost use Rattle.journal_text.specs.Inner.PolicyReading.{IsAuthorityOf, IsHeadLine, IsHeadRead, IsPrincipalOf};
+ghost use Rattle.journal_text.specs.PolicyText.{Follows, Stage, most_bytes, open_with};
+ghost use Rattle.journal_text.specs.Inner.PolicyReading.{IsAuthorityOf, IsHeadError, IsHeadLine, IsHeadRead, IsPrincipalOf};
 
 use crate::policy_reader::PolicyError;
 use crate::policy_words::split_word;
@@ -22,8 +20,7 @@ use text_lines::{after_word, first_line, read_number};
 pub fn read_head(alloc: Global, text: &[u8]) -> Result<(Head, &[u8], u64), PolicyError>
     requires { length text.now ≤ most_bytes }
     ensures ok { IfOk result (λ read. IsHeadRead text.now read.0 read.1.now read.2) }
-    ensures err { IfErr result (IsErrorOf text.now) }
-    ensures refused { IfErr result (λ e. e ≢ PolicyError.Memory → (h : Head) (es : List EntryTree) → ¬ ReadsAs text.now h es) }
+    ensures err { IfErr result (IsHeadError text.now) }
 {
     let (header, mut rest) = first_line(text);
     if !is_header(header) {
@@ -73,7 +70,6 @@ fn is_head_line(line: &[u8]) -> bool
 fn add_line(alloc: Global, head: &mut Head, line: &[u8]) -> Result<(), LineError>
     requires { IsHeadLine line.now }
     ensures ok { OnOk result (Follows (open_with head.old []) line.now (open_with head.new [])) }
-    ensures only { OnOk result ((next : Stage) → Follows (open_with head.old []) line.now next → next ≡ open_with head.new []) }
     ensures bad { result ≡ Err LineError.Bad → (next : Stage) → ¬ Follows (open_with head.old []) line.now next }
 {
     if let Some(text) = after_word(line, "principal ") {
@@ -91,7 +87,6 @@ fn add_line(alloc: Global, head: &mut Head, line: &[u8]) -> Result<(), LineError
 /// Adds the principal of a name and a secret. `Bad` exactly where the text is not that of one that may be added.
 fn add_principal(alloc: Global, principals: &mut Principals, text: &[u8]) -> Result<(), LineError>
     ensures ok { OnOk result ((p : Principal) × IsPrincipalOf text.now p × (principals.new ≡ principals.old ++ p ∷ [])) }
-    ensures only { OnOk result ((p : Principal) → IsPrincipalOf text.now p → principals.new ≡ principals.old ++ p ∷ []) }
     ensures bad { result ≡ Err LineError.Bad → (p : Principal) → IsPrincipalOf text.now p → ¬ ArePrincipals (principals.old ++ p ∷ []) }
     ensures principals { OnOk result (ArePrincipals principals.new) }
 {
@@ -132,7 +127,6 @@ fn read_principal(alloc: Global, text: &[u8]) -> Result<Principal, LineError>
 /// Adds the authority of a port and an address. `Bad` exactly where the text is not that of one that may be added.
 fn add_authority(alloc: Global, authorities: &mut Authorities, text: &[u8]) -> Result<(), LineError>
     ensures ok { OnOk result ((a : Authority) × IsAuthorityOf text.now a × (authorities.new ≡ authorities.old ++ a ∷ [])) }
-    ensures only { OnOk result ((a : Authority) → IsAuthorityOf text.now a → authorities.new ≡ authorities.old ++ a ∷ []) }
     ensures bad { result ≡ Err LineError.Bad → (a : Authority) → IsAuthorityOf text.now a → ¬ AreAuthorities (authorities.old ++ a ∷ []) }
     ensures authorities { OnOk result (AreAuthorities authorities.new) }
 {

@@ -1,21 +1,23 @@
 //! Writing the text of a policy.
-ghost use Rattle.std.specs.Prelude.{◌≡◌, ◌↔◌, ◌++◌, [], IfOk, IsTrue, OnOk, option_map};
+ghost use Rattle.std.specs.Prelude.{◌≡◌, ◌<◌, ◌^◌, ◌↔◌, ◌++◌, [], IfOk, IsTrue, OnOk, option_map};
 ghost use Rattle.std.specs.Fmt.{decimal};
-ghost use Rattle.std.specs.List.{flat_map};
+ghost use Rattle.std.specs.List.{All, flat_map};
 ghost use Rattle.nal_term.specs.Trees.{formula_tree, term_tree};
-ghost use Rattle.nal_parse.specs.Canonical.{FormulaFits, TermFits, formula_text, term_text};
+ghost use Rattle.nal_parse.specs.Canonical.{FormulaFits, IsSpellable, IsSpellableTerm, TermFits, formula_text, term_text};
 ghost use Rattle.proof_lines.specs.Lines.{line_trees};
-ghost use Rattle.proof_text.specs.CanonicalProof.{ProofFits, proof_text};
-ghost use Rattle.policy_history.specs.Events.{event_tree};
+ghost use Rattle.proof_text.specs.CanonicalProof.{IsSpellableProof, ProofFits, proof_text};
+ghost use Rattle.policy_history.specs.Events.{EntryTree, event_tree};
 ghost use Rattle.policy_history.specs.Events as tree;
 ghost use Rattle.policy_history.specs.PolicyLines.{entry_line, event_text, spaced};
 ghost use Rattle.policy_history.specs.Values.{entry_trees};
-ghost use Rattle.journal_text.specs.PolicyText.{authority_text, ended, head_text, IsGiven, IsSpelledWhole, line_of, policy_text, principal_text};
+ghost use Rattle.policy_history.specs.PolicyTexts.{authority_text, ended, head_text, IsGiven, IsSpelledWhole, line_of, policy_text, principal_text};
+ghost use Rattle.journal_text.specs.PolicyText.{ReadsAs};
+ghost use Rattle.journal_text.specs.PolicyLaws.{IsInSession, IsKeptEntry, IsKeptEvent, IsKeptHead, IsKeptPrincipal};
 
 use nal_parse::{fits, print_formula, print_term, term_fits};
 use nal_term::{Formula, Name, Term};
 use nx_io::Bytes;
-use policy_history::{Authorities, Authority, Event, Head, Journal, Principals};
+use policy_history::{Authorities, Authority, Event, Head, Journal, Principal, Principals};
 use proof_lines::Proof;
 use proof_text::{print_proof, proof_fits};
 use std::alloc::{AllocError, Global};
@@ -39,12 +41,15 @@ pub fn policy_line(
     Ok(printer.text)
 }
 
-/// The text of a policy: the head and the entries of the journal. An `Err` is want of memory.
+/// The text of a policy: the head and the entries of the journal. Where each entry has a session, it is read again as an
+/// equal journal. An `Err` is want of memory.
 /// `docs/FORMATS.md`, "Policy text", states the form.
 pub fn print_policy(alloc: Global, journal: &Journal) -> Result<Bytes, AllocError>
     ensures text { IfOk result (λ text. text ≡ policy_text journal.now.head (entry_trees journal.now.entries)) }
+    ensures read_again { IfOk result (λ text. All IsInSession (entry_trees journal.now.entries) → ReadsAs text journal.now.head (entry_trees journal.now.entries)) }
 {
     let mut printer = PolicyPrinter::new(alloc);
+    let _count = journal.count();
     printer.head(journal.head())?;
     printer.entries(journal)?;
     printer.piece(b"end\n")?;
@@ -123,21 +128,24 @@ impl PolicyPrinter {
     }
 
     fn term(&mut self, term: &Term) -> Result<(), AllocError>
-        ensures { OnOk result (self.new.text ≡ self.old.text ++ term_text (term_tree term.now)) }
+        ensures text { OnOk result (self.new.text ≡ self.old.text ++ term_text (term_tree term.now)) }
+        ensures kept { OnOk result (IsSpellableTerm (term_tree term.now)) }
     {
         let term = print_term(self.alloc, term)?;
         self.text.extend(term.as_slice())
     }
 
     fn formula(&mut self, formula: &Formula) -> Result<(), AllocError>
-        ensures { OnOk result (self.new.text ≡ self.old.text ++ formula_text (formula_tree formula.now)) }
+        ensures text { OnOk result (self.new.text ≡ self.old.text ++ formula_text (formula_tree formula.now)) }
+        ensures kept { OnOk result (IsSpellable (formula_tree formula.now)) }
     {
         let formula = print_formula(self.alloc, formula)?;
         self.text.extend(formula.as_slice())
     }
 
     fn proof(&mut self, proof: &Proof) -> Result<(), AllocError>
-        ensures { OnOk result (self.new.text ≡ self.old.text ++ proof_text (line_trees proof.now)) }
+        ensures text { OnOk result (self.new.text ≡ self.old.text ++ proof_text (line_trees proof.now)) }
+        ensures kept { OnOk result (IsSpellableProof (line_trees proof.now)) }
     {
         let proof = print_proof(self.alloc, proof)?;
         self.text.extend(proof.as_slice())
@@ -154,22 +162,33 @@ impl PolicyPrinter {
 
     /// Appends the lines of a head.
     fn head(&mut self, head: &Head) -> Result<(), AllocError>
-        ensures { OnOk result (self.new.text ≡ self.old.text ++ head_text head.now) }
+        ensures text { OnOk result (self.new.text ≡ self.old.text ++ head_text head.now) }
+        ensures kept { OnOk result (IsKeptHead head.now) }
     {
+        let _principals = head.principals.count();
+        let _authorities = head.authorities.count();
         self.piece(b"nexus 2\n")?;
         self.principals(&head.principals)?;
         self.authorities(&head.authorities)
     }
 
     fn principals(&mut self, principals: &Principals) -> Result<(), AllocError>
-        ensures { OnOk result (self.new.text ≡ self.old.text ++ flat_map (λ p. ended (principal_text p)) principals.now) }
+        ensures text { OnOk result (self.new.text ≡ self.old.text ++ flat_map (λ p. ended (principal_text p)) principals.now) }
+        ensures kept { OnOk result (All IsKeptPrincipal principals.now) }
     {
         for principal in principals.as_slice() {
-            self.piece(b"principal ")?;
-            self.pair(principal.name.as_slice(), principal.secret.as_slice())?;
-            self.piece(b"\n")?;
+            self.principal(principal)?;
         }
         Ok(())
+    }
+
+    fn principal(&mut self, principal: &Principal) -> Result<(), AllocError>
+        ensures text { OnOk result (self.new.text ≡ self.old.text ++ ended (principal_text principal.now)) }
+        ensures kept { OnOk result (IsKeptPrincipal principal.now) }
+    {
+        self.piece(b"principal ")?;
+        self.pair(principal.name.as_slice(), principal.secret.as_slice())?;
+        self.piece(b"\n")
     }
 
     fn authorities(&mut self, authorities: &Authorities) -> Result<(), AllocError>
@@ -196,7 +215,8 @@ impl PolicyPrinter {
 
     /// Appends the lines of the entries.
     fn entries(&mut self, journal: &Journal) -> Result<(), AllocError>
-        ensures { OnOk result (self.new.text ≡ self.old.text ++ flat_map (line_of journal.now.head) (entry_trees journal.now.entries)) }
+        ensures text { OnOk result (self.new.text ≡ self.old.text ++ flat_map (line_of journal.now.head) (entry_trees journal.now.entries)) }
+        ensures kept { OnOk result (All IsKeptEntry (entry_trees journal.now.entries)) }
     {
         let _count = journal.count();
         let principals = &journal.head().principals;
@@ -212,7 +232,8 @@ impl PolicyPrinter {
 
     /// Appends the line of an entry.
     fn entry(&mut self, session: u64, name: &Name, event: &Event) -> Result<(), AllocError>
-        ensures { OnOk result (self.new.text ≡ self.old.text ++ entry_line session name.now (event_tree event.now)) }
+        ensures text { OnOk result (self.new.text ≡ self.old.text ++ entry_line session name.now (event_tree event.now)) }
+        ensures kept { OnOk result ((session < 2 ^ 64) × IsKeptEvent (event_tree event.now)) }
     {
         self.number(session)?;
         self.piece(b" ")?;
@@ -224,7 +245,8 @@ impl PolicyPrinter {
 
     /// Appends the text of an event; of one of which a part is missing, nothing.
     fn event(&mut self, event: &Event) -> Result<(), AllocError>
-        ensures { OnOk result (self.new.text ≡ self.old.text ++ event_text (event_tree event.now)) }
+        ensures text { OnOk result (self.new.text ≡ self.old.text ++ event_text (event_tree event.now)) }
+        ensures kept { OnOk result (IsKeptEvent (event_tree event.now)) }
     {
         match event {
             Event::Say { principal, formula } => self.say(principal, formula),
@@ -255,7 +277,8 @@ impl PolicyPrinter {
     }
 
     fn say(&mut self, principal: &Option<Term>, formula: &Option<Formula>) -> Result<(), AllocError>
-        ensures { OnOk result (self.new.text ≡ self.old.text ++ event_text (tree.say (option_map term_tree principal.now) (option_map formula_tree formula.now))) }
+        ensures text { OnOk result (self.new.text ≡ self.old.text ++ event_text (tree.say (option_map term_tree principal.now) (option_map formula_tree formula.now))) }
+        ensures kept { OnOk result (IsKeptEvent (tree.say (option_map term_tree principal.now) (option_map formula_tree formula.now))) }
     {
         let (Some(principal), Some(formula)) = (principal, formula) else {
             return Ok(());
@@ -272,7 +295,8 @@ impl PolicyPrinter {
         object: &Name,
         goal: &Option<Formula>,
     ) -> Result<(), AllocError>
-        ensures { OnOk result (self.new.text ≡ self.old.text ++ event_text (tree.set_goal op.now object.now (option_map formula_tree goal.now))) }
+        ensures text { OnOk result (self.new.text ≡ self.old.text ++ event_text (tree.set_goal op.now object.now (option_map formula_tree goal.now))) }
+        ensures kept { OnOk result (IsKeptEvent (tree.set_goal op.now object.now (option_map formula_tree goal.now))) }
     {
         let Some(goal) = goal else { return Ok(()) };
         self.piece(b"goal ")?;
@@ -287,7 +311,8 @@ impl PolicyPrinter {
         object: &Name,
         proof: &Option<Proof>,
     ) -> Result<(), AllocError>
-        ensures { OnOk result (self.new.text ≡ self.old.text ++ event_text (tree.set_proof op.now object.now (option_map line_trees proof.now))) }
+        ensures text { OnOk result (self.new.text ≡ self.old.text ++ event_text (tree.set_proof op.now object.now (option_map line_trees proof.now))) }
+        ensures kept { OnOk result (IsKeptEvent (tree.set_proof op.now object.now (option_map line_trees proof.now))) }
     {
         let Some(proof) = proof else { return Ok(()) };
         self.piece(b"proof ")?;
@@ -297,7 +322,8 @@ impl PolicyPrinter {
     }
 
     fn bind(&mut self, principal: &Option<Term>, port: u64) -> Result<(), AllocError>
-        ensures { OnOk result (self.new.text ≡ self.old.text ++ event_text (tree.bind (option_map term_tree principal.now) port)) }
+        ensures text { OnOk result (self.new.text ≡ self.old.text ++ event_text (tree.bind (option_map term_tree principal.now) port)) }
+        ensures kept { OnOk result (IsKeptEvent (tree.bind (option_map term_tree principal.now) port)) }
     {
         let Some(principal) = principal else {
             return Ok(());
@@ -309,7 +335,8 @@ impl PolicyPrinter {
     }
 
     fn unbind(&mut self, principal: &Option<Term>) -> Result<(), AllocError>
-        ensures { OnOk result (self.new.text ≡ self.old.text ++ event_text (tree.unbind (option_map term_tree principal.now))) }
+        ensures text { OnOk result (self.new.text ≡ self.old.text ++ event_text (tree.unbind (option_map term_tree principal.now))) }
+        ensures kept { OnOk result (IsKeptEvent (tree.unbind (option_map term_tree principal.now))) }
     {
         let Some(principal) = principal else {
             return Ok(());

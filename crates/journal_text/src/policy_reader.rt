@@ -1,17 +1,22 @@
 //! Reading the text of a policy.
-ghost use Rattle.std.specs.Prelude.{◌≡◌, ◌≢◌, ◌<◌, ◌≤◌, ◌+◌, ◌^◌, [], List, IfErr, IfOk, IsTrue, ◌↔◌, OnOk, codes, length};
+ghost use Rattle.std.specs.Prelude.{◌≡◌, ◌≢◌, ◌<◌, ◌≤◌, ◌+◌, ◌^◌, [], ℕ, List, IfErr, IfOk, IsTrue, ◌↔◌, codes, length};
 ghost use Rattle.policy_history.specs.Events.{EntryTree};
 ghost use Rattle.policy_history.specs.Laws.{refusal_number};
 ghost use Rattle.policy_history.specs.Values.{entry_trees};
 ghost use Rattle.policy_history.specs.declared.heads.Head.{Head};
 ghost use Rattle.text_lines.specs.Lines.{first_line};
-ghost use Rattle.journal_text.specs.PolicyText.{open_with};
-ghost use Rattle.journal_text.specs.Inner.PolicyReading.{IsErrorFrom, IsHeadLine, ReadsFrom};
+ghost use Rattle.journal_text.specs.PolicyFronts.{IsFront, IsFrontError};
+ghost use Rattle.journal_text.specs.PolicyText.{IsErrorOf, ReadsAs, most_bytes, open_with};
+ghost use Rattle.journal_text.specs.Inner.PolicyReading.{IsErrorFrom, IsHeadLine, ReadsOn};
 
 use crate::policy_entries::{LineFault, add_entry};
-use policy_history::{Journal, Refusal};
-use std::alloc::Global;
+use crate::policy_heads::read_head;
+use policy_history::{Head, Journal, Refusal};
+use std::alloc::{AllocError, Global};
 use text_lines::first_line;
+
+/// How many bytes the text of a policy may have.
+const MOST_BYTES: usize = 67_108_864;
 
 /// Why the text of a policy was not read: where it is wrong in several lines, the lowest is told.
 /// `docs/FORMATS.md`, "Policy text", says which comes.
@@ -27,22 +32,129 @@ pub enum PolicyError {
     Memory,
 }
 
-/// Reads the lines after the head, up to the end of the text, into the journal, which has no entries. So many lines were
-/// read before.
-fn read_entries(
+/// The text of a policy that stands at the front of a longer text.
+#[derive(Drop)]
+pub struct PolicyFront<'a> {
+    /// The policy.
+    pub journal: Journal,
+    /// What follows its line `end`.
+    pub rest: &'a [u8],
+    /// How many lines it has.
+    pub lines: u64,
+}
+
+/// Reads the text of a policy. Ok exactly where the text is that of a journal; none is that of two. `TooLong` exactly where
+/// it has more than 67,108,864 bytes, and before all others; else the error of its lowest wrong line.
+/// `docs/FORMATS.md`, "Policy text", states the form.
+pub fn read_policy(alloc: Global, text: &[u8]) -> Result<Journal, PolicyError>
+    ensures ok { IfOk result (λ journal. ReadsAs text.now journal.head (entry_trees journal.entries)) }
+    ensures only { IfOk result (λ journal. (h : Head) (es : List EntryTree) → ReadsAs text.now h es → (h ≡ journal.head) × (es ≡ entry_trees journal.entries)) }
+    ensures err { IfErr result (IsErrorOf text.now) }
+    ensures refused { IfErr result (λ e. e ≢ PolicyError.Memory → (h : Head) (es : List EntryTree) → ¬ ReadsAs text.now h es) }
+    ensures long { most_bytes < length text.now → result ≡ Err PolicyError.TooLong }
+{
+    if text.len() > MOST_BYTES {
+        return Err(PolicyError::TooLong);
+    }
+    read_lines(alloc, text)
+}
+
+/// Reads the text of a policy that is not too long.
+fn read_lines(alloc: Global, text: &[u8]) -> Result<Journal, PolicyError>
+    requires { length text.now ≤ most_bytes }
+    ensures ok { IfOk result (λ journal. ReadsAs text.now journal.head (entry_trees journal.entries)) }
+    ensures err { IfErr result (IsErrorOf text.now) }
+{
+    match read_front(alloc, text, u64::MAX) {
+        Ok(
+            PolicyFront {
+                journal,
+                rest,
+                lines,
+            },
+        ) => {
+            if rest.is_empty() {
+                Ok(journal)
+            } else {
+                Err(PolicyError::Bad { line: lines + 1 })
+            }
+        }
+        Err(error) => Err(error),
+    }
+}
+
+/// Reads the text of a policy at the front of a text of at most 67,108,864 bytes: up to and with its line `end`. No session of
+/// its entries is above the bound. `Bad` and `Refused` tell the lowest line that is wrong; that of an entry whose session is above
+/// the bound is Bad. `TooLong` never comes. `docs/FORMATS.md`, "Policy text", states the form.
+pub fn read_front(alloc: Global, text: &[u8], most_session: u64) -> Result<PolicyFront, PolicyError>
+    requires { length text.now ≤ most_bytes }
+    ensures ok { IfOk result (λ front. IsFront most_session text.now front.journal.head (entry_trees front.journal.entries) front.lines front.rest.now) }
+    ensures only { IfOk result (λ front. (h : Head) (es : List EntryTree) (n : ℕ) (rest : List ℕ) → IsFront most_session text.now h es n rest
+        → (h ≡ front.journal.head) × (es ≡ entry_trees front.journal.entries) × (n ≡ front.lines) × (rest ≡ front.rest.now)) }
+    ensures fewer { IfOk result (λ front. front.lines + length front.rest.now ≤ length text.now) }
+    ensures err { IfErr result (IsFrontError most_session text.now) }
+    ensures refused { IfErr result (λ e. e ≢ PolicyError.Memory → (h : Head) (es : List EntryTree) (n : ℕ) (rest : List ℕ) → ¬ IsFront most_session text.now h es n rest) }
+{
+    read_to_end(alloc, text, most_session)
+}
+
+/// Reads the head, and the lines up to the end of the policy.
+fn read_to_end(alloc: Global, text: &[u8], most_session: u64) -> Result<PolicyFront, PolicyError>
+    requires { length text.now ≤ most_bytes }
+    ensures ok { IfOk result (λ front. IsFront most_session text.now front.journal.head (entry_trees front.journal.entries) front.lines front.rest.now) }
+    ensures fewer { IfOk result (λ front. front.lines + length front.rest.now ≤ length text.now) }
+    ensures err { IfErr result (IsFrontError most_session text.now) }
+{
+    let (head, rest, lines) = match read_head(alloc, text) {
+        Ok(read) => read,
+        Err(error) => return Err(error),
+    };
+    read_journal(alloc, head, rest, lines, most_session)
+}
+
+/// Reads the lines after this head, up to the end of the policy, into a journal. So many lines were read before.
+fn read_journal(
     alloc: Global,
-    journal: &mut Journal,
+    head: Head,
     text: &[u8],
     before: u64,
-) -> Result<(), PolicyError>
+    most_session: u64,
+) -> Result<PolicyFront, PolicyError>
+    requires room { before + length text.now ≤ 2 ^ 32 }
+    requires past { ¬ IsHeadLine (first_line text.now) }
+    ensures ok { IfOk result (λ front. ReadsOn most_session before (open_with head []) text.now front.journal.head (entry_trees front.journal.entries) front.lines front.rest.now) }
+    ensures fewer { IfOk result (λ front. front.lines + length front.rest.now ≤ before + length text.now) }
+    ensures err { IfErr result (IsErrorFrom most_session before (open_with head []) text.now) }
+{
+    let mut journal = match Journal::new(alloc, head) {
+        Ok(journal) => journal,
+        Err(AllocError) => return Err(PolicyError::Memory),
+    };
+    match read_entries(alloc, &mut journal, text, before, most_session) {
+        Ok((rest, lines)) => Ok(PolicyFront {
+            journal,
+            rest,
+            lines,
+        }),
+        Err(error) => Err(error),
+    }
+}
+
+/// Reads the lines after the head, up to the end of the policy, into the journal, which has no entries. So many lines were
+/// read before. What follows the end, and how many lines were read up to it.
+fn read_entries<'a>(
+    alloc: Global,
+    journal: &mut Journal,
+    text: &'a [u8],
+    before: u64,
+    most_session: u64,
+) -> Result<(&'a [u8], u64), PolicyError>
     requires room { before + length text.now ≤ 2 ^ 32 }
     requires empty { journal.old.entries ≡ [] }
     requires past { ¬ IsHeadLine (first_line text.now) }
-    ensures ok { OnOk result (ReadsFrom (open_with journal.old.head []) text.now journal.new.head (entry_trees journal.new.entries)) }
-    ensures only { OnOk result ((h : Head) (es : List EntryTree) → ReadsFrom (open_with journal.old.head []) text.now h es
-        → (h ≡ journal.new.head) × (es ≡ entry_trees journal.new.entries)) }
-    ensures err { IfErr result (IsErrorFrom before (open_with journal.old.head []) text.now) }
-    ensures refused { IfErr result (λ e. e ≢ PolicyError.Memory → (h : Head) (es : List EntryTree) → ¬ ReadsFrom (open_with journal.old.head []) text.now h es) }
+    ensures ok { IfOk result (λ read. ReadsOn most_session before (open_with journal.old.head []) text.now journal.new.head (entry_trees journal.new.entries) read.1 read.0.now) }
+    ensures fewer { IfOk result (λ read. read.1 + length read.0.now ≤ before + length text.now) }
+    ensures err { IfErr result (IsErrorFrom most_session before (open_with journal.old.head []) text.now) }
 {
     let mut rest = text;
     let mut line = before;
@@ -53,13 +165,10 @@ fn read_entries(
         }
         let (entry, after) = first_line(rest);
         if is_end(entry) {
-            if after.is_empty() {
-                return Ok(());
-            }
-            return Err(PolicyError::Bad { line: line + 1 });
+            return Ok((after, line));
         }
         match add_entry(alloc, journal, entry) {
-            Ok(()) => rest = after,
+            Ok(()) => {}
             Err(LineFault::Bad) => return Err(PolicyError::Bad { line }),
             Err(LineFault::Refused(refusal)) => {
                 return Err(PolicyError::Refused {
@@ -69,6 +178,10 @@ fn read_entries(
             }
             Err(LineFault::Memory) => return Err(PolicyError::Memory),
         }
+        if journal.greatest_session() > most_session {
+            return Err(PolicyError::Bad { line });
+        }
+        rest = after;
     }
 }
 

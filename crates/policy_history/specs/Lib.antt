@@ -1,6 +1,7 @@
 pub mod Heads
 pub mod Events
 pub mod PolicyLines
+pub mod PolicyTexts
 pub mod Rows
 pub mod States
 pub mod Machine

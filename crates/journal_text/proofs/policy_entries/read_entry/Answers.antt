@@ -1,6 +1,6 @@
 use Rattle.std.proofs.Common.{refl, sym, arith}
 use Rattle.policy_history.specs.Events.{event_tree}
-use Rattle.journal_text.proofs.PolicyEntries.{err_over, no_event, no_principal, no_second_space, no_session, sole_entry}
+use Rattle.journal_text.proofs.PolicyEntries.{entry_line, err_over, no_event, no_principal, no_second_space, no_session}
 use Rattle.journal_text.proofs.policy_entries.read_entry.Goals as goal
 
 pub returns-in_default-split_word-clause-bad : goal.returns-in_default-split_word-clause-bad
@@ -17,9 +17,9 @@ returns-in_default-number_named-clause-bad c = λ _ e l.
 
 pub returns-in-Ok-clause-ok : goal.returns-in-Ok-clause-ok
 returns-in-Ok-clause-ok c =
-    sole_entry c.args.head.now c.args.line.now c.in-Some.session.now c.in-Some.rest.now c.in-Some-split_word.name.now c.in-Some-split_word.text.now
-    c.in-Some-read_session.session c.in-Some-number_named.principal (event_tree c.in-Ok.event) c.in-Some.ensures.0 c.in-Some.ensures.1 c.in-Some-split_word.ensures.0
-    c.in-Some-split_word.ensures.1 c.in-Some-number_named.ensures.named c.in-Some-read_session.ensures.value.0 c.in-Some-read_session.ensures.value.1 (omega arith)
+    entry_line c.args.head.now c.args.line.now c.in-Some.session.now c.in-Some.rest.now c.in-Some-split_word.name.now c.in-Some-split_word.text.now
+    c.in-Some-read_session.session c.in-Some-number_named.principal (event_tree c.in-Ok.event) c.in-Some.ensures.0 c.in-Some-split_word.ensures.0
+    c.in-Some-number_named.ensures.named c.in-Some-read_session.ensures.value.0 c.in-Some-read_session.ensures.value.1 (omega arith)
     (sym c.in-Some-number_named.ensures.number) c.in-Ok.ensures.ok
 
 pub returns-in-Err-clause-bad : goal.returns-in-Err-clause-bad

@@ -1,8 +1,8 @@
-use Rattle.std.proofs.Common.{◌≡◌, ◌+◌, ◌++◌, ◌∷◌, [], suc, take, ap, sym, ◌∙◌, arith}
+use Rattle.std.proofs.Common.{◌≡◌, ◌+◌, ◌++◌, ◌∷◌, [], take, ap, sym, ◌∙◌}
 use Rattle.std.specs.List.{flat_map}
 use Rattle.std.proofs.lemmas.List.{flat_map_more}
 use Rattle.policy_history.specs.declared.heads.Authority.{Authority}
-use Rattle.journal_text.specs.PolicyText.{authority_text, ended}
+use Rattle.policy_history.specs.PolicyTexts.{authority_text, ended}
 use Rattle.journal_text.proofs.PolicyPrinting.{one_more}
 use Rattle.journal_text.proofs.policy_printer.PolicyPrinter.authorities.Goals as goal
 

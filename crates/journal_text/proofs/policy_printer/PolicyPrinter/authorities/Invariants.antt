@@ -1,7 +1,7 @@
 use Rattle.std.proofs.Common.{◌≡◌, ◌++◌, take}
 use Rattle.std.specs.List.{flat_map}
 use Rattle.policy_history.specs.declared.heads.Authority.{Authority}
-use Rattle.journal_text.specs.PolicyText.{authority_text, ended}
+use Rattle.policy_history.specs.PolicyTexts.{authority_text, ended}
 use Rattle.journal_text.proofs.policy_printer.PolicyPrinter.authorities.Given as goal
 
 abbrev pub invariant-loop-place : goal.invariant-loop-place

@@ -1,0 +1,10 @@
+pub mod Numbers
+pub mod Payloads
+pub mod OneBeginning
+pub mod Putting
+pub mod Judging
+pub mod Taking
+pub mod Answered
+pub mod OneReply
+pub mod ReplyTaken
+pub mod ForCallers
