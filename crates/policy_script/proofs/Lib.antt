@@ -1,0 +1,2 @@
+mod Askings
+mod Scripts

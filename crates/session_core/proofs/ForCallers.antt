@@ -1,0 +1,57 @@
+-- Laws of what sessions are told, which the proofs of other crates may cite.
+use Rattle.std.proofs.Common.{◌≡◌, ℕ, List, [], ◌∷◌, ◌++◌, refl, sym, ◌∙◌, ap, subst, append_assoc}
+use Rattle.std.proofs.lemmas.List.{append-nil}
+use Rattle.policy_history.specs.declared.heads.Head.{Head}
+use Rattle.nx_io.specs.Streams.{gained, Grows}
+use Rattle.nx_io.proofs.ForCallers.{gained-by, grows-by}
+use Rattle.authority_ask.specs.Panels.{Told}
+use Rattle.guard_core.specs.Judging.{asks_after}
+use Rattle.session_wire.specs.declared.replies.Reply.{Reply}
+use Rattle.session_core.specs.declared.lines.Asking.{Asking}
+use Rattle.session_core.specs.Answers.{Outcome, faults_after_reply}
+use Rattle.session_core.specs.Sessions.{Answers, Point, Told1, behind, faults_after_replies}
+
+-- one request more, behind those that were answered
+pub told-then : (h : Head) (first : ℕ) (point : Point) (askings : List Asking) (replies : List Reply) (asks : List Told) (last : Point) (asking : Asking) (outcome : Outcome)
+    → Told1 h first point askings replies asks last → Answers h first last asking outcome
+    → Told1 h first point (askings ++ asking ∷ []) (replies ++ outcome.reply ∷ []) (asks ++ outcome.asks) (behind last asking.place outcome)
+told-then h first point [] [] asks last asking outcome told answers =
+    let here : Answers h first point asking outcome = subst (λ (p : Point). Answers h first p asking outcome) told.1 answers in
+    let all : asks ++ outcome.asks ≡ outcome.asks ++ [] = ap (λ xs. xs ++ outcome.asks) told.0 ∙ sym (append-nil outcome.asks) in
+    (outcome, [], here, refl, all, (refl, ap (λ (p : Point). behind p asking.place outcome) told.1))
+told-then h first point (q ∷ qs) (r ∷ rs) asks last asking outcome told answers =
+    let all : asks ++ outcome.asks ≡ told.0.asks ++ (told.1 ++ outcome.asks) = ap (λ xs. xs ++ outcome.asks) told.4 ∙ append_assoc told.0.asks told.1 outcome.asks in (
+      told.0,
+      told.1 ++ outcome.asks,
+      told.2,
+      told.3,
+      all,
+      told-then h first (behind point q.place told.0) qs rs told.1 last asking outcome told.5 answers,
+    )
+told-then h first point [] (r ∷ rs) asks last asking outcome told answers = absurd told
+told-then h first point (q ∷ qs) [] asks last asking outcome told answers = absurd told
+
+-- the count of faults after one reply more
+pub faults-then : (replies : List Reply) (reply : Reply) (faults : ℕ)
+    → faults_after_replies (replies ++ reply ∷ []) faults ≡ faults_after_reply reply (faults_after_replies replies faults)
+faults-then [] reply faults = refl
+faults-then (r ∷ rs) reply faults = faults-then rs reply (faults_after_reply r faults)
+
+-- how often was asked, after asks and more of them
+pub asks-then : (asks more : List Told) (count : ℕ) → asks_after (asks ++ more) count ≡ asks_after more (asks_after asks count)
+asks-then [] more count = refl
+asks-then (a ∷ asks) more count = asks-then asks more _
+
+-- a history that grew twice
+pub gained-on : {A : Type 0} (a b c : List A) → Grows a b → Grows b c → gained a c ≡ gained a b ++ gained b c
+gained-on a b c first second =
+    gained-by a c (gained a b ++ gained b c) (second ∙ ap (λ xs. xs ++ gained b c) first ∙ append_assoc a (gained a b) (gained b c))
+
+pub grows-on : {A : Type 0} (a b c : List A) → Grows a b → Grows b c → Grows a c
+grows-on a b c first second =
+    grows-by a c (gained a b ++ gained b c) (second ∙ ap (λ xs. xs ++ gained b c) first ∙ append_assoc a (gained a b) (gained b c))
+
+-- how often was asked, where a panel was asked twice in a row
+pub asks-on : (a b c : List Told) (m n k : ℕ) → Grows a b → Grows b c → n ≡ asks_after (gained a b) m → k ≡ asks_after (gained b c) n → k ≡ asks_after (gained a c) m
+asks-on a b c m n k first second asked more =
+    more ∙ ap (asks_after (gained b c)) asked ∙ sym (asks-then (gained a b) (gained b c) m) ∙ ap (λ asks. asks_after asks m) (sym (gained-on a b c first second))

@@ -1,0 +1,4 @@
+pub mod ForCallers
+mod Answering
+mod OneTurn
+mod Turns

@@ -1,0 +1,21 @@
+use Rattle.std.proofs.Common.{[], refl}
+use Rattle.nx_io.proofs.ForCallers.{gained-nothing}
+use Rattle.policy_history.specs.Values.{entry_trees}
+use Rattle.session_core.specs.Ends.{at_first, no_memory}
+use Rattle.session_core.proofs.serving.serve_on.Goals.{in-Ok, in-Err}
+use Rattle.session_core.proofs.serving.serve_on.Goals as goal
+
+pub returns-clause-served : goal.returns-clause-served
+returns-clause-served g c =
+    elim c.match-new.branch [
+      | in-Ok w ↦ rw (c.close.ensures.coming.taken_is, c.close.ensures.sent, w.end-is, w.journal-is, w.link-is, w.panel-is) w.serve_frames-end.ensures.served
+      | in-Err w ↦ rw (c.close.ensures.coming.taken_is, c.close.ensures.sent, w.end-is, w.journal-is, w.link-is, w.panel-is) (record {
+        requests = [];
+        replies = [];
+        last = at_first (entry_trees c.args.journal.now.entries);
+        ended = no_memory refl c.requires.taken c.requires.sent refl refl;
+        told = (gained-nothing (g.P.Panel.said c.args.panel.now), refl);
+        entries = refl;
+        downs = refl;
+      })
+    ]

@@ -1,0 +1,3 @@
+-- Words that only the contracts of private functions use. No statement about a session rests on them.
+pub mod Serving
+pub mod Steps

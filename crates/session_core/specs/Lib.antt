@@ -1,0 +1,5 @@
+pub mod Answers
+pub mod Ends
+pub mod Inner
+pub mod Reaching
+pub mod Sessions

@@ -1,0 +1,183 @@
+// Sessions over links in memory. The frames are written by hand, after docs/FORMATS.md, "Frames".
+ghost use Rattle.std.specs.Prelude.{◌≤◌};
+
+use crate::serve_on;
+use authority_ask::MemPanel;
+use journal_text::read_policy;
+use nx_io::MemLink;
+use policy_history::Journal;
+use std::alloc::{AllocError, Global};
+use std::net::{Net, TcpListener, TcpStream};
+use std::rt::Clock;
+use std::test::Fail;
+
+const POLICY: &[u8] = b"nexus 1\nprincipal alice pa\nend\n";
+
+// A hello, an object, a goal, a label, a proof by it, and two calls.
+fn requests() -> &'static [u8] {
+    b"\0\0\0\x0c\x01\0\x05alice\0\x02pa\
+    \0\0\0\x04\x05\0\x01f\
+    \0\0\0\x19\x06\0\x04read\0\x01f\0\x0dalice says ok\
+    \0\0\0\x0c\x02\0\x05alice\0\x02ok\
+    \0\0\0\x33\x08\0\x04read\0\x01f\0\x27proof 1 ; 1 label : alice says ok ; end\
+    \0\0\0\x12\x0c\0\x04read\0\x01f\0\0\0\0\0\0\0\0\
+    \0\0\0\x12\x0c\0\x04read\0\x01f\0\0\0\0\0\0\0\0"
+}
+
+// Welcome 1 at 0; done 1 to 4, with the numbers 0, 0, 3 and 0; and twice allowed at 4.
+fn replies() -> &'static [u8] {
+    b"\0\0\0\x11A\0\0\0\0\0\0\0\x01\0\0\0\0\0\0\0\0\
+    \0\0\0\x11B\0\0\0\0\0\0\0\x01\0\0\0\0\0\0\0\0\
+    \0\0\0\x11B\0\0\0\0\0\0\0\x02\0\0\0\0\0\0\0\0\
+    \0\0\0\x11B\0\0\0\0\0\0\0\x03\0\0\0\0\0\0\0\x03\
+    \0\0\0\x11B\0\0\0\0\0\0\0\x04\0\0\0\0\0\0\0\0\
+    \0\0\0\x19C\0\0\0\0\0\0\0\x04\0\0\0\0\0\0\0\0\0\0\0\0\0\0\0\0\
+    \0\0\0\x19C\0\0\0\0\0\0\0\x04\0\0\0\0\0\0\0\0\0\0\0\0\0\0\0\0"
+}
+
+// What is told where so many bytes of the requests came.
+fn told_of_cut(cut: usize) -> &'static str {
+    match cut {
+        0 => "Closed 0 true true",
+        1..16 => "Torn 0 true true",
+        16 => "Closed 21 true true",
+        17..24 => "Torn 21 true true",
+        24 => "Closed 42 true true",
+        25..53 => "Torn 42 true true",
+        53 => "Closed 63 true true",
+        54..69 => "Torn 63 true true",
+        69 => "Closed 84 true true",
+        70..124 => "Torn 84 true true",
+        124 => "Closed 105 true true",
+        125..146 => "Torn 105 true true",
+        146 => "Closed 134 true true",
+        147..168 => "Torn 134 true true",
+        _ => "Closed 163 true true",
+    }
+}
+
+// What a link gives, in which pieces, where it fails, and what comes of it.
+#[derive(Clone, Copy)]
+struct Case {
+    left: &'static [u8],
+    piece: usize,
+    take_fails: &'static [u64],
+    send_fails: &'static [u64],
+    told: &'static str,
+    replies: &'static [u8],
+}
+
+// Serves a session over a link of the case that gives these bytes. The journal is read anew.
+fn serve_over<R: Net<Listener = TcpListener, Stream = TcpStream> + Clock>(
+    rt: &R,
+    alloc: Global,
+    left: &[u8],
+    case: &Case,
+) -> Result<String, AllocError> {
+    match read_policy(alloc, POLICY) {
+        Ok(mut journal) => told_over(rt, alloc, &mut journal, left, case),
+        Err(_) => Err(AllocError),
+    }
+}
+
+// The end of the session, how many bytes it sent, whether they begin the replies, and whether the link is closed.
+fn told_over<R: Net<Listener = TcpListener, Stream = TcpStream> + Clock>(
+    rt: &R,
+    alloc: Global,
+    journal: &mut Journal,
+    left: &[u8],
+    case: &Case,
+) -> Result<String, AllocError> {
+    let Some(session) = journal.greatest_session().checked_add(1) else {
+        return Err(AllocError);
+    };
+    let mut panel = MemPanel::new(alloc, &[], &[], &[])?;
+    let (takes, sends) = (case.take_fails, case.send_fails);
+    let mut link = MemLink::new(alloc, left, 1000, case.piece.max(1), takes, sends)?;
+    let end = serve_on(rt, alloc, journal, session, &mut link, &mut panel);
+    let sent = link.sent().len();
+    let same = case.replies.starts_with(link.sent());
+    let closed = link.is_closed();
+    format!(in alloc; "{end:?} {sent} {same} {closed}")
+}
+
+fn whole() -> Case {
+    Case {
+        left: requests(),
+        piece: 1000,
+        take_fails: &[],
+        send_fails: &[],
+        told: "Closed 163 true true",
+        replies: replies(),
+    }
+}
+
+fn cases() -> [Case; 9] {
+    let whole = whole();
+    [
+        Case { ..whole },
+        Case { piece: 1, ..whole },
+        Case {
+            left: b"\0\0\0",
+            told: "Torn 0 true true",
+            ..whole
+        },
+        // A length that no payload has, at once and behind a request.
+        Case {
+            left: b"\0\0\x84\x01",
+            told: "BadFrame { place: 0 } 13 true true",
+            replies: b"\0\0\0\x09H\0\0\0\0\0\0\0\0",
+            ..whole
+        },
+        Case {
+            left: b"\0\0\0\x04\x05\0\x01f\0\0\0\x01\xff",
+            told: "BadFrame { place: 12 } 34 true true",
+            replies: b"\0\0\0\x11E\0\0\0\0\0\0\0\0\0\0\0\0\0\0\0\x01\0\0\0\x09H\0\0\0\0\0\0\0\x0c",
+            ..whole
+        },
+        // Each frame takes two calls, its length and its payload, so the fifth take is at the third frame.
+        Case {
+            take_fails: &[5],
+            told: "ReadFault 42 true true",
+            ..whole
+        },
+        Case {
+            send_fails: &[3],
+            told: "WriteFault 42 true true",
+            ..whole
+        },
+        Case {
+            piece: 1,
+            send_fails: &[50],
+            told: "WriteFault 49 true true",
+            ..whole
+        },
+        Case {
+            left: b"\0\0\x84\x01",
+            send_fails: &[1],
+            told: "WriteFault 0 true true",
+            ..whole
+        },
+    ]
+}
+
+#[test]
+fn sessions_end_as_their_links_do(rt: HostRuntime) -> Result<(), Fail> {
+    let alloc = rt.alloc();
+    for case in cases() {
+        let told = serve_over(&rt, alloc, case.left, &case)?;
+        assert_eq!(rt; told.as_str(), case.told);
+    }
+    Ok(())
+}
+
+#[test]
+fn a_cut_link_is_answered_its_whole_frames(rt: HostRuntime) -> Result<(), Fail> {
+    let alloc = rt.alloc();
+    let bytes = requests();
+    for cut in 0..=bytes.len() {
+        let told = serve_over(&rt, alloc, &bytes[..cut], &whole())?;
+        assert_eq!(rt; told.as_str(), told_of_cut(cut), "{cut}");
+    }
+    Ok(())
+}
