@@ -1,6 +1,6 @@
 #!/usr/bin/env bash
-# Runs each example of `nexus check` and compares what it prints, byte for byte, and its exit status; then the other
-# ways in which the program ends.
+# Runs each example of `nexus check` and of `nexus script` and compares what it prints, byte for byte, and its exit status;
+# then the other ways in which the program ends.
 #
 #   examples/run.sh [PROGRAM]     PROGRAM is ./nexus at the top of the repository where none is given
 #
@@ -14,9 +14,10 @@ trap 'rm -rf "$work"' EXIT
 
 passed=0
 failed=0
-for folder in "$examples"/check/*/; do
+for folder in "$examples"/check/*/ "$examples"/script/*/; do
     name=$(basename "$folder")
-    "$program" check <"$folder/input" >"$work/output"
+    command=$(basename "$(dirname "$folder")")
+    "$program" "$command" <"$folder/input" >"$work/output"
     status=$?
     if [ "$status" -eq 70 ]; then
         echo "$name: the program was not built"
@@ -46,6 +47,7 @@ expect() {
 }
 
 share=$examples/check/share/input
+day=$examples/script/storage/input
 : >"$work/output"
 "$program" chek <"$share" >"$work/output"
 expect 'a word that is no command' 2 ''
@@ -62,9 +64,21 @@ expect 'an input that cannot be read' 4 ''
 expect 'an output that cannot be written' 5 ''
 "$program" check </dev/null >/dev/full
 expect 'a refusal that cannot be written' 5 ''
+"$program" script more <"$day" >"$work/output"
+expect 'a word too many of a script' 2 ''
+: >"$work/output"
+"$program" script <"$day" >/dev/full
+expect 'a script whose output cannot be written' 5 ''
+"$program" script </dev/null >"$work/output"
+expect 'a script without a line' 3 'refused line 1'
+# Nobody listens at this address.
+printf 'nexus 2\nauthority 3 127.0.0.1:1\nend\n' | "$program" script >"$work/output"
+expect 'an authority that cannot be reached' 8 ''
 head -c 67108865 /dev/zero | tr '\0' a >"$work/large"
 "$program" check <"$work/large" >"$work/output"
 expect 'an input of one byte too many' 3 'refused size'
+"$program" script <"$work/large" >"$work/output"
+expect 'a script of one byte too many' 3 'refused size'
 head -c 67108864 "$work/large" >"$work/largest"
 "$program" check <"$work/largest" >"$work/output"
 expect 'a largest input' 3 'refused line 1'

@@ -9,7 +9,8 @@ use Rattle.nexus_main.specs.declared.check_form.InputError.TheVariants.{Wrong, M
 use Rattle.nexus_main.specs.declared.stages.Progress.{Progress}
 use Rattle.nexus_main.specs.declared.stages.Progress.TheVariants.{HeaderDue, SubjectDue, LabelsDue, YesDue, ProofDue}
 use Rattle.nexus_main.specs.declared.outcomes.Outcome.TheVariants.{Refused}
-use Rattle.nexus_main.specs.Outcomes.{IsOutcome, most_bytes}
+use Rattle.run_streams.specs.Runs.{most_bytes}
+use Rattle.nexus_main.specs.Outcomes.{IsOutcome}
 use Rattle.text_lines.specs.Lines.{first_line, after_line}
 use Rattle.nexus_main.specs.CheckForm.{CheckForm, IsCheckForm, Stage, proof_due, Follows, Reaches, next_line, IsBeforeProof, IsWrongAt, before_proof, in_proof}
 use Rattle.nexus_main.specs.Inner.Forms.{stage_of, IsWrongProof, IsWrongLine}

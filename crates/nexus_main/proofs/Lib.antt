@@ -8,3 +8,4 @@ pub mod OneOutcome
 pub mod Only
 pub mod Programs
 pub mod Justified
+mod ScriptEnds

@@ -1,6 +1,5 @@
 -- How the program's ends come from those of its parts.
-use Rattle.std.proofs.Common.{◌≡◌, ◌==◌, ◌<◌, ◌↔◌, ◌⊎◌, inl, inr, ◌++◌, ℕ, List, [], ◌∷◌, map, length, Bool, true, false, IsTrue, Option, Some, None, codes, refl, sym, ap, subst, ◌∙◌, arith}
-use Rattle.std.proofs.lemmas.List.{append-nil, length-append}
+use Rattle.std.proofs.Common.{◌≡◌, ◌==◌, ◌<◌, ◌↔◌, ◌⊎◌, inl, inr, ℕ, List, [], ◌∷◌, map, length, Bool, true, false, IsTrue, Option, refl, sym, ap, subst, ◌∙◌, arith}
 use Rattle.std.proofs.lemmas.Bool.Decides.{Decides-eqb}
 use Rattle.std.specs.Io.KnownBytes.{IsAtEnd}
 use Rattle.nx_io.specs.Streams.{gained, Grows, prepended}
@@ -8,25 +7,11 @@ use Rattle.nx_io.proofs.ForCallers.{gained-by, gained-nothing, grows-by, grows-n
 use Rattle.nal_rules.specs.declared.verdicts.Verdict.TheVariants.{Allowed, Denied}
 use Rattle.nexus_main.specs.declared.outcomes.Outcome.{Outcome}
 use Rattle.nexus_main.specs.declared.outcomes.Outcome.TheVariants.{Told, Refused, TooLarge}
-use Rattle.nexus_main.specs.Outcomes.{IsOutcome, most_bytes, output_of, status_of}
-use Rattle.nexus_main.proofs.Verdicts.{some_same}
-use Rattle.nexus_main.specs.Program.{check_words, Ends, told, source_failed, sink_failed, no_memory, IsComplete, IsOutcomeOf, IsRefusedInput, RefusesExactly, RunsCheck, SinkRun, SourceRun}
+use Rattle.run_streams.specs.Runs.{SinkRun, SourceRun, most_bytes}
+use Rattle.run_streams.proofs.ForCallers.{known_large, known_whole}
+use Rattle.nexus_main.specs.Outcomes.{IsOutcome, output_of, status_of}
+use Rattle.nexus_main.specs.Program.{Ends, told, source_failed, sink_failed, no_memory, IsComplete, IsOutcomeOf, IsRefusedInput, RefusesExactly, RunsCheck}
 use Rattle.nexus_main.specs.Inner.Ends.{Tells, whole, part, nothing}
-
--- what a source that was read to its end gave is all that it had
-known_whole : (left left_now : Option (List ℕ)) (gain text : List ℕ) → left ≡ prepended gain left_now → IsAtEnd left_now → left ≡ Some text → text ≡ gain
-known_whole left None gain text e a h = absurd (cc (sym h ∙ e))
-known_whole left (Some rest) gain text e a h =
-    let same : text ≡ gain ++ rest = some_same _ _ (sym h ∙ e) in
-    same ∙ ap (λ r. gain ++ r) a ∙ append-nil gain
-
--- a source that gave too much had too much
-known_large : (left left_now : Option (List ℕ)) (gain text : List ℕ) → left ≡ prepended gain left_now → most_bytes < length gain → left ≡ Some text → IsOutcome text TooLarge
-known_large left None gain text e large h = absurd (cc (sym h ∙ e))
-known_large left (Some rest) gain text e large h =
-    let same : text ≡ gain ++ rest = some_same _ _ (sym h ∙ e) in
-    let sum = length-append gain rest in
-    rw same (omega (arith, large, sum))
 
 -- the outcome of a text that was read whole is that of what the source gave
 pub whole_outcome : (source : SourceRun) (left_now : Option (List ℕ)) (outcome : Outcome) (bytes : List ℕ)
@@ -64,7 +49,7 @@ told_grows before now (part e w f) = grows-by before now _ w.2
 told_grows before now (nothing e w f) = rw w (grows-nothing before)
 
 -- a status is one number
-apart : (status m n : ℕ) → status ≡ m → status ≡ n → (m == n) ≡ false → ⊥
+pub apart : (status m n : ℕ) → status ≡ m → status ≡ n → (m == n) ≡ false → ⊥
 apart status m n e f h = let t = (Decides-eqb m n).1 (sym e ∙ f) in cc
 
 -- an outcome's status tells of no fault
@@ -115,10 +100,10 @@ runs_check {source = source} {sink = sink} {status = status} e = record {
 }
 
 -- one word is the list of its texts
-pub one_word : {A : Type 0} (f : A → List ℕ) (ws rest : List A) (w : A) (b : Bool) → ws ≡ w ∷ rest → (length rest == 0) ≡ true
-    → IsTrue b ↔ f w ≡ codes "check" → IsTrue b ↔ map f ws ≡ check_words
-one_word f ws [] w b e l t = rw e ((λ h. ap (λ x. x ∷ []) (t.0 h)), λ h. t.1 (head_same h))
+pub one_word : {A : Type 0} (f : A → List ℕ) (due : List ℕ) (ws rest : List A) (w : A) (b : Bool) → ws ≡ w ∷ rest → (length rest == 0) ≡ true
+    → IsTrue b ↔ f w ≡ due → IsTrue b ↔ map f ws ≡ due ∷ []
+one_word f due ws [] w b e l t = rw e ((λ h. ap (λ x. x ∷ []) (t.0 h)), λ h. t.1 (head_same h))
   where
     head_same : {x y : List ℕ} → x ∷ [] ≡ y ∷ [] → x ≡ y
     head_same e = cc
-one_word f ws (r ∷ rest) w b e l t = let n = (Decides-eqb (length (r ∷ rest)) 0).0 l in absurd (omega (arith, n))
+one_word f due ws (r ∷ rest) w b e l t = let n = (Decides-eqb (length (r ∷ rest)) 0).0 l in absurd (omega (arith, n))

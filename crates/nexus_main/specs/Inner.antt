@@ -3,3 +3,4 @@ pub mod Ends
 pub mod Forms
 pub mod Hashes
 pub mod Support
+pub mod ScriptEnds

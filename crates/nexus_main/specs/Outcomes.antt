@@ -17,11 +17,8 @@ use Rattle.nal_rules.specs.declared.verdicts.Verdict.{Verdict}
 use Rattle.nal_rules.specs.declared.verdicts.Verdict.TheVariants.{Allowed, Denied}
 use Rattle.nexus_main.specs.declared.outcomes.Outcome.{Outcome}
 use Rattle.nexus_main.specs.declared.outcomes.Outcome.TheVariants.{Told, Refused, TooLarge}
+use Rattle.run_streams.specs.Runs.{most_bytes}
 use Rattle.nexus_main.specs.CheckForm.{CheckForm, IsCheckForm, IsWrongAt}
-
--- how many bytes an input has at most
-abbrev pub most_bytes : ℕ
-most_bytes = 67108864
 
 -- the principal of a formula `P says S`, bound to some port
 abbrev pub bound_for : FormulaTree → List (TermTree × ℕ)

@@ -1,51 +1,17 @@
 -- How a run of `check` ends: the status, what the source gave, and what was written.
-use Rattle.std.specs.Prelude.{◌≡◌, ◌≢◌, ◌<◌, ◌↔◌, ◌⊎◌, ℕ, List, ◌∷◌, [], length, take, Bool, IsTrue, Option, Some, codes}
-use Rattle.nx_io.specs.Streams.{Rose, gained, one_more}
+use Rattle.std.specs.Prelude.{◌≡◌, ◌≢◌, ◌<◌, ◌↔◌, ◌⊎◌, ℕ, List, [], length, Some}
+use Rattle.nx_io.specs.Streams.{Rose, one_more}
+use Rattle.run_streams.specs.Runs.{IsProperPart, IsReadWhole, SinkRun, SourceRun, most_bytes}
 use Rattle.nexus_main.specs.declared.outcomes.Outcome.{Outcome}
 use Rattle.nexus_main.specs.declared.outcomes.Outcome.TheVariants.{TooLarge}
 use Rattle.nexus_main.specs.CheckForm.{CheckForm, IsCheckForm}
-use Rattle.nexus_main.specs.Outcomes.{IsOutcome, most_bytes, output_of, status_of}
-
--- the words by which `check` is called
-abbrev pub check_words : List (List ℕ)
-check_words = codes "check" ∷ []
-
--- a source in a run: the bytes that it had at the start, where it knew them; those that it gave; whether it is over at
--- the end; and how often it had failed, before and after
-pub record SourceRun : Type 0 where
-  pub known : Option (List ℕ)
-  pub given : List ℕ
-  pub over : Bool
-  pub faults : ℕ
-  pub faults_now : ℕ
-
--- a sink in a run: the bytes that it took, and how often it had failed, before and after
-pub record SinkRun : Type 0 where
-  pub sent : List ℕ
-  pub faults : ℕ
-  pub faults_now : ℕ
-
--- what a source and a sink did in a run, by what they tell before and after
-abbrev pub source_run : Option (List ℕ) → List ℕ → List ℕ → Bool → ℕ → ℕ → SourceRun
-source_run known given given_now over faults faults_now = record { known = known; given = gained given given_now; over = over; faults = faults; faults_now = faults_now }
-
-abbrev pub sink_run : List ℕ → List ℕ → ℕ → ℕ → SinkRun
-sink_run sent sent_now faults faults_now = record { sent = gained sent sent_now; faults = faults; faults_now = faults_now }
-
--- the source is over, and has given all that it had
-pub record IsReadWhole (source : SourceRun) : Type 0 where
-  pub over : IsTrue source.over
-  pub all : (text : List ℕ) → source.known ≡ Some text → text ≡ source.given
+use Rattle.nexus_main.specs.Outcomes.{IsOutcome, output_of, status_of}
 
 -- the outcome is that of the bytes that the source gave, and it gave all, but for an input that is too large
 pub record IsOutcomeOf (source : SourceRun) (outcome : Outcome) : Type 0 where
   pub outcome_of_given : IsOutcome source.given outcome
   pub whole : outcome ≢ TooLarge → IsReadWhole source
   pub outcome_of_known : (text : List ℕ) → source.known ≡ Some text → IsOutcome text outcome
-
--- a proper part of these bytes: a front of them, and not all
-abbrev pub IsProperPart : List ℕ → List ℕ → Type 0
-IsProperPart part all = (n : ℕ) × (n < length all) × (part ≡ take n all)
 
 -- `check` ends with this status: an outcome is told, or the source failed, or the sink, or there was no memory. The
 -- one failure that ends it is the only one of the run.

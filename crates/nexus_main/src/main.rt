@@ -2,7 +2,9 @@
 #![tactic(auto)]
 
 mod arguments;
+mod check;
 mod check_form;
+mod commands;
 mod judge;
 #[cfg(test)]
 mod kinds_tests;
@@ -10,23 +12,39 @@ mod laws;
 mod outcomes;
 mod places;
 mod program;
+mod script;
+#[cfg(test)]
+mod script_tests;
 mod stages;
 mod start;
 mod statements;
+mod telling;
 #[cfg(test)]
 mod tests;
 
 pub use arguments::{Arguments, SystemArguments};
+use authority_ask::{HostClock, HostPanel};
 pub use laws::an_input_has_one_outcome;
 use nx_io::{StdSink, StdSource};
 pub use program::{Ended, run};
-pub use start::start;
+pub use start::{Finished, start};
 use std::process::ExitCode;
 
 /// Starts the program on the arguments of its call, on standard input and on standard output, and ends with its status.
 fn main(rt: HostRuntime) -> ExitCode {
+    let Ok(panel) = HostPanel::new(rt.alloc(), HostClock::new()) else {
+        return ExitCode::from(6);
+    };
     let mut arguments = SystemArguments::new(&rt);
     let mut input = StdSource::new(rt.stdin());
     let mut output = StdSink::new(rt.stdout());
-    start(&rt, rt.alloc(), &mut arguments, &mut input, &mut output)
+    start(
+        &rt,
+        rt.alloc(),
+        &mut arguments,
+        &mut input,
+        &mut output,
+        panel,
+    )
+    .code
 }

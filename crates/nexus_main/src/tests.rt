@@ -2,12 +2,14 @@
 use crate::arguments::SystemArguments;
 use crate::program::run;
 use crate::start::start;
+use authority_ask::MemPanel;
 use nx_io::{Discard, MemSink, MemSource, Sink, Source, StdSink, StdSource};
-use std::alloc::AllocError;
+use std::alloc::{AllocError, Global};
 use std::env::FillError;
 use std::io::{self, ErrorKind, Read, Write};
+use std::net::{Net, TcpListener, TcpStream};
 use std::process::ExitCode;
-use std::rt::Env;
+use std::rt::{Clock, Env};
 use std::test::Fail;
 
 // An input, what is written of it, and the status.
@@ -81,14 +83,31 @@ fn cases() -> [Case; 11] {
     ]
 }
 
+// The status of a run with these words, over a panel that is asked nothing.
+fn status_of<R, S: Source, K: Sink>(
+    rt: &R,
+    alloc: Global,
+    words: &[&str],
+    source: &mut S,
+    sink: &mut K,
+) -> Result<u8, AllocError>
+where
+    R: Net<Listener = TcpListener, Stream = TcpStream> + Clock,
+{
+    let panel = MemPanel::new(alloc, &[], &[], &[])?;
+    Ok(run(rt, alloc, words, source, sink, panel).status)
+}
+
 #[test]
 fn inputs_come_to_their_outcomes(rt: HostRuntime) -> Result<(), AllocError> {
     let alloc = rt.alloc();
     for case in cases() {
         let mut source = MemSource::new(alloc, case.input.as_bytes(), 7, &[])?;
         let mut sink = MemSink::new(alloc, 64, 3, &[])?;
-        let ended = run(&rt, alloc, &["check"], &mut source, &mut sink);
-        assert_eq!(rt; ended.status, case.status);
+        assert_eq!(rt;
+            status_of(&rt, alloc, &["check"], &mut source, &mut sink)?,
+            case.status
+        );
         assert!(rt; sink.sent() == case.written.as_bytes());
         assert!(rt; source.left().is_empty());
     }
@@ -130,8 +149,10 @@ fn faults_end_the_program(rt: HostRuntime) -> Result<(), AllocError> {
     for case in cases {
         let mut source = MemSource::new(alloc, ALLOWED.as_bytes(), 7, case.source_fails)?;
         let mut sink = MemSink::new(alloc, 64, 1, case.sink_fails)?;
-        let ended = run(&rt, alloc, &["check"], &mut source, &mut sink);
-        assert_eq!(rt; ended.status, case.status);
+        assert_eq!(rt;
+            status_of(&rt, alloc, &["check"], &mut source, &mut sink)?,
+            case.status
+        );
         assert!(rt; sink.sent() == case.written.as_bytes());
     }
     Ok(())
@@ -142,15 +163,16 @@ fn other_words_are_not_run(rt: HostRuntime) -> Result<(), AllocError> {
     let alloc = rt.alloc();
     let mut source = MemSource::new(alloc, ALLOWED.as_bytes(), 7, &[])?;
     let mut sink = MemSink::new(alloc, 64, 1, &[])?;
-    assert_eq!(rt; run(&rt, alloc, &[], &mut source, &mut sink).status, 2);
-    assert_eq!(rt;
-        run(&rt, alloc, &["chec"], &mut source, &mut sink).status,
-        2
-    );
-    assert_eq!(rt;
-        run(&rt, alloc, &["check", "check"], &mut source, &mut sink).status,
-        2
-    );
+    let calls: [&'static [&'static str]; 5] = [
+        &[],
+        &["chec"],
+        &["check", "check"],
+        &["script", "script"],
+        &["check", "script"],
+    ];
+    for words in calls {
+        assert_eq!(rt; status_of(&rt, alloc, words, &mut source, &mut sink)?, 2);
+    }
     assert!(rt; source.left() == ALLOWED.as_bytes());
     assert!(rt; sink.sent().is_empty());
     Ok(())
@@ -249,8 +271,10 @@ fn a_reader_is_read_to_its_first_end_or_fault(rt: HostRuntime) -> Result<(), Fai
             calls: 0,
         });
         let mut sink = Discard::new();
-        let ended = run(&rt, alloc, &["check"], &mut source, &mut sink);
-        assert_eq!(rt; ended.status, case.status);
+        assert_eq!(rt;
+            status_of(&rt, alloc, &["check"], &mut source, &mut sink)?,
+            case.status
+        );
         assert_eq!(rt; source.faults(), case.faults);
     }
     Ok(())
@@ -265,8 +289,10 @@ fn a_write_that_fails_ends_the_program(rt: HostRuntime) -> Result<(), Fail> {
             error,
             has_failed: false,
         });
-        let ended = run(&rt, alloc, &["check"], &mut source, &mut sink);
-        assert_eq!(rt; ended.status, status);
+        assert_eq!(rt;
+            status_of(&rt, alloc, &["check"], &mut source, &mut sink)?,
+            status
+        );
     }
     Ok(())
 }
@@ -316,8 +342,9 @@ fn all_words_after_the_name_count(rt: HostRuntime) -> Result<(), Fail> {
         let mut source = MemSource::new(alloc, ALLOWED.as_bytes(), 4096, &[])?;
         let mut sink = Discard::new();
         let mut words = SystemArguments::new(&call);
-        let code = start(&rt, alloc, &mut words, &mut source, &mut sink);
-        assert!(rt; code == ExitCode::from(status));
+        let panel = MemPanel::new(alloc, &[], &[], &[])?;
+        let finished = start(&rt, alloc, &mut words, &mut source, &mut sink, panel);
+        assert!(rt; finished.code == ExitCode::from(status));
     }
     Ok(())
 }

@@ -1,6 +1,6 @@
 use Rattle.nexus_main.specs.Outcomes.{IsOutcome}
 use Rattle.nexus_main.proofs.Programs.{told_ends, whole_outcome, large_outcome}
-use Rattle.nexus_main.proofs.program.check.Goals as goal
+use Rattle.nexus_main.proofs.check.check.Goals as goal
 
 pub returns-in-Ok-outcome-clause-ends : goal.returns-in-Ok-outcome-clause-ends
 returns-in-Ok-outcome-clause-ends g c =
