@@ -1,14 +1,12 @@
 // Whole inputs with the line that is written of each, and what faults of the source and of the sink come to.
-use crate::arguments::SystemArguments;
+use crate::arguments::{SystemArguments, texts, words_of_call};
 use crate::program::run;
-use crate::start::start;
 use authority_ask::MemPanel;
 use nx_io::{Discard, MemSink, MemSource, Sink, Source, StdSink, StdSource};
 use std::alloc::{AllocError, Global};
 use std::env::FillError;
 use std::io::{self, ErrorKind, Read, Write};
 use std::net::{Net, TcpListener, TcpStream};
-use std::process::ExitCode;
 use std::rt::{Clock, Env};
 use std::test::Fail;
 
@@ -327,24 +325,23 @@ impl Env for Call {
 #[test]
 fn all_words_after_the_name_count(rt: HostRuntime) -> Result<(), Fail> {
     let alloc = rt.alloc();
-    let calls: [(&'static [&'static [u8]], u8); 7] = [
-        (&[b"nexus", b"check"], 0),
+    let calls: [(&'static [&'static [u8]], Option<&'static [&'static str]>); 7] = [
+        (&[b"nexus", b"check"], Some(&["check"])),
         // The program's name is any bytes.
-        (&[b"\xff", b"check"], 0),
-        (&[b"", b"check"], 0),
-        (&[b"nexus"], 2),
-        (&[], 2),
-        (&[b"nexus", b"check", b""], 2),
-        (&[b"nexus", b"check", b"\xff"], 2),
+        (&[b"\xff", b"check"], Some(&["check"])),
+        (&[b"", b"check"], Some(&["check"])),
+        (&[b"nexus"], Some(&[])),
+        (&[], Some(&[])),
+        (&[b"nexus", b"check", b""], Some(&["check", ""])),
+        (&[b"nexus", b"check", b"\xff"], None),
     ];
-    for (arguments, status) in calls {
+    for (arguments, wanted) in calls {
         let call = Call { arguments };
-        let mut source = MemSource::new(alloc, ALLOWED.as_bytes(), 4096, &[])?;
-        let mut sink = Discard::new();
-        let mut words = SystemArguments::new(&call);
-        let panel = MemPanel::new(alloc, &[], &[], &[])?;
-        let finished = start(&rt, alloc, &mut words, &mut source, &mut sink, panel);
-        assert!(rt; finished.code == ExitCode::from(status));
+        let words = words_of_call(alloc, &mut SystemArguments::new(&call))?;
+        match (texts(alloc, words.as_slice())?, wanted) {
+            (Some(found), Some(wanted)) => assert!(rt; found.as_slice() == wanted),
+            (found, wanted) => assert!(rt; found.is_none() && wanted.is_none()),
+        }
     }
     Ok(())
 }

@@ -1,17 +1,24 @@
 -- What other crates may cite of the laws of the policy machine.
-use Rattle.std.proofs.Common.{◌≡◌, ◌≤◌, ℕ, List, [], ◌∷◌, ◌++◌, length, false, None}
-use Rattle.std.specs.List.{flat_map}
+use Rattle.std.proofs.Common.{◌≡◌, ◌<◌, ◌≤◌, ℕ, List, [], ◌∷◌, ◌++◌, length, false, Some, None, IsOk}
+use Rattle.std.specs.List.{flat_map, slice_get}
+use Rattle.object_table.specs.Objects.{number_of}
+use Rattle.proof_store.specs.Cases.{CaseRow, number_of as case_number}
 use Rattle.policy_history.specs.declared.heads.Head.{Head}
 use Rattle.policy_history.specs.declared.events.Refusal.{Refusal}
 use Rattle.policy_history.specs.Events.{EntryTree, EventTree, name_of}
-use Rattle.policy_history.specs.Laws.{PlainTests}
-use Rattle.policy_history.specs.Machine.{IsLegal, after, applies, refusal_of, replay}
+use Rattle.policy_history.specs.Laws.{CasesStay, PlainTests, RightStays}
+use Rattle.policy_history.specs.Machine.{IsAccepted, IsLegal, after, applies, refusal_of, replay}
 use Rattle.policy_history.specs.PolicyLines.{entry_line}
 use Rattle.policy_history.specs.States.{State, empty_state}
+use Rattle.policy_history.specs.Values.{decision}
 use Rattle.policy_history.proofs.Acceptance as acceptance
+use Rattle.policy_history.proofs.Bounds as bounds
+use Rattle.policy_history.proofs.Keeping as keeping
 use Rattle.policy_history.proofs.Limits as limits
 use Rattle.policy_history.proofs.LineBytes as bytes
+use Rattle.policy_history.proofs.RightLaw as right
 use Rattle.policy_history.proofs.Soundness as soundness
+use Rattle.policy_history.proofs.Staying as staying
 
 -- no refusal applies to an event that is accepted
 pub none_applies : (h : Head) (s : State) (session p : ℕ) (e : EventTree) → refusal_of h s session p e ≡ None → (refusal : Refusal) → applies h s session p e refusal ≡ false
@@ -29,3 +36,28 @@ replay_more h es e = soundness.replay_more h (empty_state h) es e
 pub lines_bounded : (h : Head) (es : List EntryTree) → IsLegal h es → length h.principals ≤ 64
     → length (flat_map (λ (e : EntryTree). entry_line e.session (name_of h.principals e.principal) e.event) es) ≤ 33554432
 lines_bounded = bytes.lines_bounded
+
+-- an event of which a number is told is accepted
+pub accepted_where : (h : Head) (s : State) (session p : ℕ) (e : EventTree) → IsOk (decision h s session p e) → refusal_of h s session p e ≡ None
+accepted_where = keeping.accepted_where
+
+-- a legal list, and one more entry that is accepted behind it
+pub legal_more : (h : Head) (es : List EntryTree) (e : EntryTree) → IsLegal h es → IsAccepted h (replay h es) e → IsLegal h (es ++ e ∷ [])
+legal_more h es e = soundness.legal_more h (empty_state h) es e
+
+-- a verdict that rests on goal, proof and labels alone stays right
+pub right_stays : RightStays
+right_stays = right.right_stays
+
+-- a case keeps its subject, operation and object
+pub cases_stay : CasesStay
+cases_stay = staying.cases_stay
+
+-- an object that has a number is one of 4,096
+pub object_there : (h : Head) (es : List EntryTree) (name : List ℕ) (k : ℕ) → number_of (replay h es).objects name ≡ Some k → k < 4096
+object_there = bounds.object_there
+
+-- a case that has a number is the row in this place, of the subject and the object, one of 65,536
+pub case_there : (h : Head) (es : List EntryTree) (subject : ℕ) (op : List ℕ) (object k : ℕ) → case_number (replay h es).cases subject op object ≡ Some k
+    → (row : CaseRow) × (slice_get (replay h es).cases k ≡ Some row) × (row.2 ≡ object) × (row.0 ≡ subject) × (k < 65536)
+case_there = bounds.case_there

@@ -12,4 +12,5 @@ pub mod Lasting
 pub mod RightLaw
 pub mod FirstRefusals
 pub mod Staying
+pub mod Bounds
 pub mod ForCallers
