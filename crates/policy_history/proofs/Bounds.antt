@@ -101,11 +101,11 @@ object_there h es name k at =
 
 -- a case that has a number is the row in this place, of the subject and the object
 pub case_there : (h : Head) (es : List EntryTree) (subject : ℕ) (op : List ℕ) (object k : ℕ) → case_number (replay h es).cases subject op object ≡ Some k
-    → (row : CaseRow) × (slice_get (replay h es).cases k ≡ Some row) × (row.2 ≡ object) × (row.0 ≡ subject) × (k < 65536)
+    → (row : CaseRow) × (slice_get (replay h es).cases k ≡ Some row) × (row.0 ≡ subject) × (row.1 ≡ op) × (row.2 ≡ object) × (k < 65536)
 case_there h es subject op object k at =
     let rows = (replay h es).cases in
     let d : CaseRow = (0, [], 0, None) in
     let place = position-Some (is_case subject op object) rows k d at in
     let triple = same_triple subject op object (get_or rows k d) place.1 in
     let within : k < 65536 = omega (arith, place.0, cases_bounded h es) in
-    (get_or rows k d, slice_get-get_or rows k d place.0, sym triple.2, sym triple.0, within)
+    (get_or rows k d, slice_get-get_or rows k d place.0, sym triple.0, sym triple.1, sym triple.2, within)

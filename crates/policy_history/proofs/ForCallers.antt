@@ -1,11 +1,14 @@
 -- What other crates may cite of the laws of the policy machine.
-use Rattle.std.proofs.Common.{◌≡◌, ◌<◌, ◌≤◌, ℕ, List, [], ◌∷◌, ◌++◌, length, false, Some, None, IsOk}
+use Rattle.std.proofs.Common.{◌≡◌, ◌<◌, ◌≤◌, ℕ, Bool, List, [], ◌∷◌, ◌++◌, length, false, Some, None, IsOk}
 use Rattle.std.specs.List.{flat_map, slice_get}
 use Rattle.object_table.specs.Objects.{number_of}
+use Rattle.nal_rules.specs.Verdicts.{CaseTree, IsVerdict}
+use Rattle.nal_rules.specs.declared.verdicts.Verdict.{Verdict}
 use Rattle.proof_store.specs.Cases.{CaseRow, number_of as case_number}
 use Rattle.policy_history.specs.declared.heads.Head.{Head}
 use Rattle.policy_history.specs.declared.events.Refusal.{Refusal}
 use Rattle.policy_history.specs.Events.{EntryTree, EventTree, name_of}
+use Rattle.policy_history.specs.Judged.{IsLasting}
 use Rattle.policy_history.specs.Laws.{CasesStay, PlainTests, RightStays}
 use Rattle.policy_history.specs.Machine.{IsAccepted, IsLegal, after, applies, refusal_of, replay}
 use Rattle.policy_history.specs.PolicyLines.{entry_line}
@@ -14,6 +17,7 @@ use Rattle.policy_history.specs.Values.{decision}
 use Rattle.policy_history.proofs.Acceptance as acceptance
 use Rattle.policy_history.proofs.Bounds as bounds
 use Rattle.policy_history.proofs.Keeping as keeping
+use Rattle.policy_history.proofs.Lasting as lasting
 use Rattle.policy_history.proofs.Limits as limits
 use Rattle.policy_history.proofs.LineBytes as bytes
 use Rattle.policy_history.proofs.RightLaw as right
@@ -57,7 +61,11 @@ cases_stay = staying.cases_stay
 pub object_there : (h : Head) (es : List EntryTree) (name : List ℕ) (k : ℕ) → number_of (replay h es).objects name ≡ Some k → k < 4096
 object_there = bounds.object_there
 
--- a case that has a number is the row in this place, of the subject and the object, one of 65,536
+-- a case that has a number is the row in this place, of the subject, the operation and the object, one of 65,536
 pub case_there : (h : Head) (es : List EntryTree) (subject : ℕ) (op : List ℕ) (object k : ℕ) → case_number (replay h es).cases subject op object ≡ Some k
-    → (row : CaseRow) × (slice_get (replay h es).cases k ≡ Some row) × (row.2 ≡ object) × (row.0 ≡ subject) × (k < 65536)
+    → (row : CaseRow) × (slice_get (replay h es).cases k ≡ Some row) × (row.0 ≡ subject) × (row.1 ≡ op) × (row.2 ≡ object) × (k < 65536)
 case_there = bounds.case_there
+
+-- a verdict that lasts rests on no answer
+pub lasting_alone : (c : CaseTree) (answers : List Bool) (verdict : Verdict) → IsLasting c verdict → IsVerdict c answers verdict → IsVerdict c [] verdict
+lasting_alone = lasting.lasting_alone

@@ -71,3 +71,31 @@ module _ (c d : CaseTree) (goal : c.goal ≡ d.goal) (proof : c.proof ≡ d.proo
   lasting_kept more (Denied (LabelMissing k)) lasting told = absurd lasting
   lasting_kept more (Denied (NotBound k)) lasting told = absurd lasting
   lasting_kept more (Denied (AuthorityNo k)) lasting told = absurd lasting
+
+-- the causes that rest on no answer
+unasked : (c : CaseTree) (answers : List Bool) (cause : Cause) → cause_number cause < 6 → HasCause c [] cause → HasCause c answers cause
+unasked c answers GoalUnset low h = h
+unasked c answers NoProof low h = h
+unasked c answers (Line k fault) low h = h
+unasked c answers (LabelMissing k) low h = h
+unasked c answers (NotBound k) low h = h
+unasked c answers (AuthorityNo k) low h = absurd (omega (arith, low))
+
+-- a verdict that lasts rests on no answer
+module _ (c : CaseTree) (answers : List Bool) where
+  allowed_alone : filter is_ask (lines_of c) ≡ [] → IsVerdict c answers Allowed → IsVerdict c [] Allowed
+  allowed_alone none told GoalUnset h = told GoalUnset h
+  allowed_alone none told NoProof h = told NoProof h
+  allowed_alone none told (Line k fault) h = told (Line k fault) h
+  allowed_alone none told (LabelMissing k) h = told (LabelMissing k) h
+  allowed_alone none told (NotBound k) h = told (NotBound k) h
+  allowed_alone none told (AuthorityNo k) (ls, is, ((l, at, rule, unanswered), lowest)) = no_ask_at ls (rw is at none) k l at rule
+
+  pub lasting_alone : (verdict : Verdict) → IsLasting c verdict → IsVerdict c answers verdict → IsVerdict c [] verdict
+  lasting_alone Allowed lasting told = allowed_alone lasting told
+  lasting_alone (Denied GoalUnset) lasting (has, first) = (has, λ other lower h. first other lower (unasked c answers other (omega (arith, lower)) h))
+  lasting_alone (Denied NoProof) lasting (has, first) = (has, λ other lower h. first other lower (unasked c answers other (omega (arith, lower)) h))
+  lasting_alone (Denied (Line k fault)) lasting (has, first) = (has, λ other lower h. first other lower (unasked c answers other (omega (arith, lower)) h))
+  lasting_alone (Denied (LabelMissing k)) lasting told = absurd lasting
+  lasting_alone (Denied (NotBound k)) lasting told = absurd lasting
+  lasting_alone (Denied (AuthorityNo k)) lasting told = absurd lasting

@@ -1,5 +1,5 @@
 -- How the answer to a request comes from its parts.
-use Rattle.std.proofs.Common.{◌≡◌, ℕ, List, Option, Some, None, refl, sym, subst, inr, length}
+use Rattle.std.proofs.Common.{◌≡◌, ℕ, List, Option, Some, None, refl, sym, subst, inr, length, inl}
 use Rattle.std.specs.Prelude.{Result, Ok, Err}
 use Rattle.nx_io.specs.Streams.{gained, Grows}
 use Rattle.nx_io.proofs.ForCallers.{gained-nothing, grows-nothing}
@@ -110,3 +110,10 @@ pub is_change : (request : Request) → ¬ IsHello request → ((op object : Lis
 is_change (Hello name secret) other call = absurd (other tt)
 is_change (Call op object arg) other call = absurd (call op object arg refl)
 is_change request other call = tt
+
+-- a request for which there was no memory, whichever it is
+pub given_up_outcome : (h : Head) (es : List EntryTree) (session : ℕ) (who : Option ℕ) (request : Request) (said : List Told)
+    → HasOutcome h es session who request (outcome_of NoMemory who said said es es)
+given_up_outcome h es session (Some p) (Call op object arg) said = given_up (inl (gained-nothing said), rw (gained-nothing es) refl)
+given_up_outcome h es session (Some p) request said = given_up (still (Some p) NoMemory said es)
+given_up_outcome h es session None request said = given_up (still None NoMemory said es)

@@ -9,6 +9,11 @@ use Rattle.guard_core.specs.Judging.{asks_after}
 use Rattle.session_wire.specs.declared.replies.Reply.{Reply}
 use Rattle.session_core.specs.declared.lines.Asking.{Asking}
 use Rattle.session_core.specs.Answers.{Outcome, faults_after_reply}
+use Rattle.policy_history.specs.Events.{EntryTree}
+use Rattle.session_wire.specs.declared.requests.Request.{Request}
+use Rattle.verdict_words.specs.declared.views.Item.{Item}
+use Rattle.session_core.specs.Standing.{Standing}
+use Rattle.session_core.specs.Told.{Answers as BoardAnswers, Leads, Turn}
 use Rattle.session_core.specs.Sessions.{Answers, Point, Told1, behind, faults_after_replies}
 
 -- one request more, behind those that were answered
@@ -55,3 +60,36 @@ grows-on a b c first second =
 pub asks-on : (a b c : List Told) (m n k : ℕ) → Grows a b → Grows b c → n ≡ asks_after (gained a b) m → k ≡ asks_after (gained b c) n → k ≡ asks_after (gained a c) m
 asks-on a b c m n k first second asked more =
     more ∙ ap (asks_after (gained b c)) asked ∙ sym (asks-then (gained a b) (gained b c) m) ∙ ap (λ asks. asks_after asks m) (sym (gained-on a b c first second))
+
+-- one request more that a session over a shared board is answered, behind those that it was
+pub leads_then : (h : Head) (es : List EntryTree) (s : ℕ) (before : Standing) (requests : List Request) (replies : List Reply) (asks : List Told) (steps : List Item)
+    (added : List EntryTree) (last : Standing) (request : Request) (turn : Turn)
+    → Leads h es s before requests replies asks steps added last → BoardAnswers h es s last request turn
+    → Leads h es s before (requests ++ request ∷ []) (replies ++ turn.reply ∷ []) (asks ++ turn.asks) (steps ++ turn.steps) (added ++ turn.added) turn.after
+leads_then h es s before [] [] asks steps added last request turn leads answers =
+    let here : BoardAnswers h es s before request turn = subst (λ (x : Standing). BoardAnswers h es s x request turn) leads.3 answers in (
+      turn,
+      [],
+      [],
+      [],
+      here,
+      refl,
+      ap (λ xs. xs ++ turn.asks) leads.0 ∙ sym (append-nil turn.asks),
+      ap (λ xs. xs ++ turn.steps) leads.1 ∙ sym (append-nil turn.steps),
+      ap (λ xs. xs ++ turn.added) leads.2 ∙ sym (append-nil turn.added),
+      (refl, refl, refl, refl),
+    )
+leads_then h es s before (q ∷ qs) (r ∷ rs) asks steps added last request turn leads answers = (
+  leads.0,
+  leads.1 ++ turn.asks,
+  leads.2 ++ turn.steps,
+  leads.3 ++ turn.added,
+  leads.4,
+  leads.5,
+  ap (λ xs. xs ++ turn.asks) leads.6 ∙ append_assoc leads.0.asks leads.1 turn.asks,
+  ap (λ xs. xs ++ turn.steps) leads.7 ∙ append_assoc leads.0.steps leads.2 turn.steps,
+  ap (λ xs. xs ++ turn.added) leads.8 ∙ append_assoc leads.0.added leads.3 turn.added,
+  leads_then h es s leads.0.after qs rs leads.1 leads.2 leads.3 last request turn leads.9 answers,
+)
+leads_then h es s before [] (r ∷ rs) asks steps added last request turn leads answers = absurd leads
+leads_then h es s before (q ∷ qs) [] asks steps added last request turn leads answers = absurd leads

@@ -3,3 +3,8 @@ pub mod Ends
 pub mod Inner
 pub mod Reaching
 pub mod Sessions
+pub mod Standing
+pub mod Told
+pub mod Served
+pub mod ToldLaws
+pub mod ToldRows

@@ -6,12 +6,18 @@ mod ends;
 mod lines;
 mod reaching;
 mod serving;
+mod sitting;
+mod told_laws;
 
 pub use answers::Session;
 pub use ends::SessionEnd;
 pub use lines::{Asking, answer_all};
 pub use reaching::reach_all;
 pub use serving::serve_on;
+pub use told_laws::{
+    only_allowed_calls_run_and_only_changes_add, what_was_told_stays_told,
+    worked_sessions_are_told, wrong_answers_are_never_told,
+};
 
 #[cfg(test)]
 mod tests;

@@ -58,11 +58,12 @@ fn told_of_cut(cut: usize) -> &'static str {
 
 // What a link gives, in which pieces, where it fails, and what comes of it.
 #[derive(Clone, Copy)]
-struct Case {
+struct Case<'a> {
     left: &'static [u8],
     piece: usize,
-    take_fails: &'static [u64],
-    send_fails: &'static [u64],
+    room: usize,
+    take_fails: &'a [u64],
+    send_fails: &'a [u64],
     told: &'static str,
     replies: &'static [u8],
 }
@@ -93,7 +94,7 @@ fn told_over<R: Net<Listener = TcpListener, Stream = TcpStream> + Clock>(
     };
     let mut panel = MemPanel::new(alloc, &[], &[], &[])?;
     let (takes, sends) = (case.take_fails, case.send_fails);
-    let mut link = MemLink::new(alloc, left, 1000, case.piece.max(1), takes, sends)?;
+    let mut link = MemLink::new(alloc, left, case.room, case.piece.max(1), takes, sends)?;
     let end = serve_on(rt, alloc, journal, session, &mut link, &mut panel);
     let sent = link.sent().len();
     let same = case.replies.starts_with(link.sent());
@@ -101,10 +102,11 @@ fn told_over<R: Net<Listener = TcpListener, Stream = TcpStream> + Clock>(
     format!(in alloc; "{end:?} {sent} {same} {closed}")
 }
 
-fn whole() -> Case {
+fn whole() -> Case<'static> {
     Case {
         left: requests(),
         piece: 1000,
+        room: 1000,
         take_fails: &[],
         send_fails: &[],
         told: "Closed 163 true true",
@@ -112,7 +114,7 @@ fn whole() -> Case {
     }
 }
 
-fn cases() -> [Case; 9] {
+fn cases() -> [Case<'static>; 9] {
     let whole = whole();
     [
         Case { ..whole },
@@ -179,5 +181,59 @@ fn a_cut_link_is_answered_its_whole_frames(rt: HostRuntime) -> Result<(), Fail> 
         let told = serve_over(&rt, alloc, &bytes[..cut], &whole())?;
         assert_eq!(rt; told.as_str(), told_of_cut(cut), "{cut}");
     }
+    Ok(())
+}
+
+// How many bytes so many replies have.
+fn length_of(count: usize) -> u64 {
+    match count {
+        0 => 0,
+        1..6 => 21 * count as u64,
+        6 => 134,
+        _ => 163,
+    }
+}
+
+#[test]
+fn a_link_may_fail_at_each_of_its_calls(rt: HostRuntime) -> Result<(), Fail> {
+    let alloc = rt.alloc();
+    // Each frame takes two calls, and the last call is that which finds the end.
+    for take in 1..=15u64 {
+        let (fails, sent) = ([take], length_of((take as usize - 1) / 2));
+        let case = Case {
+            take_fails: &fails,
+            ..whole()
+        };
+        let told = serve_over(&rt, alloc, requests(), &case)?;
+        let wanted = format!(in alloc; "ReadFault {sent} true true")?;
+        assert_eq!(rt; told, wanted);
+    }
+    for send in 1..=7u64 {
+        let (fails, sent) = ([send], length_of(send as usize - 1));
+        let case = Case {
+            send_fails: &fails,
+            ..whole()
+        };
+        let told = serve_over(&rt, alloc, requests(), &case)?;
+        let wanted = format!(in alloc; "WriteFault {sent} true true")?;
+        assert_eq!(rt; told, wanted);
+    }
+    Ok(())
+}
+
+#[test]
+fn a_session_is_spent_by_its_last_request(rt: HostRuntime) -> Result<(), Fail> {
+    let alloc = rt.alloc();
+    let mut left = Vec::new(alloc);
+    for _ in 0..1_048_577u64 {
+        left.extend_from_slice(b"\0\0\0\x04\x05\0\x01f")?;
+    }
+    // Each of them is refused, since nobody has said hello.
+    let case = Case {
+        room: 22_020_117,
+        ..whole()
+    };
+    let told = serve_over(&rt, alloc, left.as_slice(), &case)?;
+    assert_eq!(rt; told.as_str(), "Spent 22020096 false true");
     Ok(())
 }

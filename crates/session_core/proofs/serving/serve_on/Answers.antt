@@ -1,4 +1,4 @@
-use Rattle.std.proofs.Common.{[], refl}
+use Rattle.std.proofs.Common.{[], ◌∷◌, refl}
 use Rattle.nx_io.proofs.ForCallers.{gained-nothing}
 use Rattle.policy_history.specs.Values.{entry_trees}
 use Rattle.session_core.specs.Ends.{at_first, no_memory}
@@ -8,7 +8,17 @@ use Rattle.session_core.proofs.serving.serve_on.Goals as goal
 pub returns-clause-served : goal.returns-clause-served
 returns-clause-served g c =
     elim c.match-new.branch [
-      | in-Ok w ↦ rw (c.close.ensures.coming.taken_is, c.close.ensures.sent, w.end-is, w.journal-is, w.link-is, w.panel-is) w.serve_frames-end.ensures.served
+      | in-Ok w ↦ rw (c.close.ensures.coming.taken_is, c.close.ensures.sent, w.end-is, w.journal-is, w.link-is, w.panel-is) (
+          let sat = w.serve_sitting.ensures.served in
+          record {
+            requests = sat.requests;
+            replies = sat.replies;
+            last = record { entries = entry_trees w.serve_sitting.new.book.entries; admitted = w.serve_sitting.result.0.principal ∷ [] };
+            ended = sat.ended;
+            told = sat.told.told;
+            entries = refl;
+            downs = sat.told.downs;
+          })
       | in-Err w ↦ rw (c.close.ensures.coming.taken_is, c.close.ensures.sent, w.end-is, w.journal-is, w.link-is, w.panel-is) (record {
         requests = [];
         replies = [];

@@ -1,0 +1,7 @@
+pub mod Sessions
+pub mod Spelled
+pub mod Texts
+pub mod Snaps
+pub mod Meeting
+pub mod Deciding
+pub mod ForCallers

@@ -1,0 +1,117 @@
+-- What contracts see of a book, what its sink was sent, and what it learns of a pass that it meets.
+use Rattle.std.specs.Prelude.{◌≡◌, ℕ, ◌<◌, ◌≤◌, Bool, true, false, List, [], ◌∷◌, ◌++◌, length, Option, Some, Result}
+use Rattle.nx_io.specs.Streams.{Rose, Sends, SendsPart}
+use Rattle.nx_io.specs.declared.streams.Reach.{Reach}
+use Rattle.nx_io.specs.declared.streams.Reach.TheVariants.{Ready, Failed}
+use Rattle.policy_history.specs.declared.events.Due.{Due}
+use Rattle.policy_history.specs.declared.events.Entry.{Entry}
+use Rattle.policy_history.specs.declared.events.Event.{Event}
+use Rattle.policy_history.specs.declared.events.Refusal.{Refusal}
+use Rattle.policy_history.specs.declared.heads.Head.{Head}
+use Rattle.policy_history.specs.Events.{EntryTree, event_tree}
+use Rattle.policy_history.specs.Machine.{IsAccepted, IsLegal, replay}
+use Rattle.policy_history.specs.PolicyTexts.{front, line_of}
+use Rattle.policy_history.specs.States.{State}
+use Rattle.policy_history.specs.Values.{decision, entry_trees}
+use Rattle.verdict_words.specs.Histories.{IsPrefix, own}
+use Rattle.verdict_words.specs.Rule.{IsSeated}
+use Rattle.verdict_words.specs.Values.{Identity, PassValue, met_seen}
+use Rattle.verdict_words.specs.declared.views.Item.TheVariants.{Met}
+
+-- A book: its board, the accepted changes, the number of the next session, what its sink had sent and how often it had failed
+-- when the book was made, the sink, whether the front of the text was written, and whether a write of it has failed
+pub record BookValue (K : Type 0) : Type 0 where
+  pub board : Identity Entry Head
+  pub entries : List Entry
+  pub next : ℕ
+  pub start : List ℕ
+  pub start_faults : ℕ
+  pub sink : K
+  pub is_open : Bool
+  pub is_broken : Bool
+
+-- the session that made an entry
+abbrev pub session_of : Entry → ℕ
+session_of e = e.session
+
+-- the plain value of the entry that a change makes
+abbrev pub entry_of : ℕ → ℕ → Event → EntryTree
+entry_of session principal event = record { session = session; principal = principal; event = event_tree event }
+
+-- What a sink was sent since it had sent `start`, the book being open or not, and broken or not. The policy text of the
+-- journal without its last line goes out whole before the book is open, and the line of each change before it is made; so a
+-- part of it, or of the line of one more change, may stand there where a write failed, and nothing goes out after that
+abbrev pub HasText : Bool → Bool → Head → List EntryTree → List ℕ → List ℕ → Type 0
+HasText false false h es start sent = sent ≡ start
+HasText false true h es start sent = SendsPart start sent (front h es)
+HasText true false h es start sent = Sends start sent (front h es)
+HasText true true h es start sent = (e : EntryTree) × IsAccepted h (replay h es) e × SendsPart (start ++ front h es) sent (line_of h e)
+
+-- what a call did that is done as a whole or fails
+abbrev pub is_ready : Reach → Bool
+is_ready Ready = true
+is_ready Failed = false
+
+abbrev pub is_failed : Reach → Bool
+is_failed Ready = false
+is_failed Failed = true
+
+module _ {K : Type 0} where
+  -- a book as it was made, over this board and with this sink
+  abbrev pub new_book : (K → List ℕ) → (K → ℕ) → Identity Entry Head → K → BookValue K
+  new_book sent faults board sink = record {
+    board = board;
+    entries = board.origin.opening;
+    next = board.origin.first;
+    start = sent sink;
+    start_faults = faults sink;
+    sink = sink;
+    is_open = false;
+    is_broken = false;
+  }
+
+  -- the book has this board, this number of the next session, and this that its sink had sent, and how often it had failed, when the book was made
+  abbrev pub IsNamed : Option (Identity Entry Head) → ℕ → List ℕ → ℕ → BookValue K → Type 0
+  IsNamed board next start start_faults book = (board ≡ Some book.board) × (next ≡ book.next) × (start ≡ book.start) × (start_faults ≡ book.start_faults)
+
+  abbrev pub head_of : BookValue K → Head
+  head_of book = book.board.origin.setting
+
+  -- the entries as plain values
+  abbrev pub trees_of : BookValue K → List EntryTree
+  trees_of book = entry_trees book.entries
+
+  -- the state of the policy at the end of the journal
+  abbrev pub state_of : BookValue K → State
+  state_of book = replay (head_of book) (trees_of book)
+
+  -- each entry is accepted in its place
+  abbrev pub IsLegalBook : BookValue K → Type 0
+  IsLegalBook book = IsLegal (head_of book) (trees_of book)
+
+  -- the journal begins with the entries that the board was made with, all entries are of sessions below the next one, and those behind the opening ones of sessions that came with the board
+  abbrev pub IsNumbered : BookValue K → Type 0
+  IsNumbered book = IsSeated session_of book.board.origin book.entries book.next 0
+
+  -- the text that was written, by what the sink has sent and how often it has failed
+  pub record IsWritten (sent : K → List ℕ) (faults : K → ℕ) (book : BookValue K) : Type 0 where
+    pub text : HasText book.is_open book.is_broken (head_of book) (trees_of book) book.start (sent book.sink)
+    pub unopened : book.is_open ≡ false → book.entries ≡ book.board.origin.opening
+    pub failed : book.is_broken ≡ true → Rose book.start_faults (faults book.sink)
+    pub later : book.start_faults ≤ faults book.sink
+
+  -- the pass once it was met: it has seen all entries
+  abbrev pub met_in : BookValue K → PassValue Entry Head → PassValue Entry Head
+  met_in book pass = record pass { board = book.board; seen = book.entries; trail = pass.trail ++ Met (length book.entries) ∷ [] }
+
+  -- What is learnt of a pass that is met. What it had seen begins the journal, its session is one of the board's, and the journal has no entry of it beside those that it had seen, and those that it had seen when it was last met
+  pub record IsMetIn (book : BookValue K) (pass : PassValue Entry Head) : Type 0 where
+    pub seen : IsPrefix pass.seen book.entries
+    pub above : book.board.origin.first ≤ pass.session
+    pub below : pass.session < book.next
+    pub own_seen : own session_of book.entries pass.session ≡ own session_of pass.seen pass.session
+    pub own_met : own session_of book.entries pass.session ≡ own session_of (met_seen pass) pass.session
+
+  -- what a change of a principal comes to at the end of the journal: its first refusal, or its reply number and the length of its line
+  abbrev pub decided : BookValue K → ℕ → ℕ → Event → Result Due Refusal
+  decided book session principal event = decision (head_of book) (state_of book) session principal (event_tree event)

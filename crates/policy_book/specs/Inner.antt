@@ -1,0 +1,4 @@
+-- What only private parts of the crate use.
+pub mod Staying
+pub mod Kept
+pub mod Adding

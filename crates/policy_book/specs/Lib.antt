@@ -1,0 +1,5 @@
+pub mod Matter
+pub mod Books
+pub mod Writes
+pub mod Snaps
+pub mod Inner

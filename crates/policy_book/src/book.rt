@@ -1,0 +1,183 @@
+//! The book: how it is made, opened and given up, and how sessions get their passes.
+ghost use Rattle.std.specs.Prelude.{◌≡◌, ◌≢◌, ℕ, ◌+◌, ◌-◌, ◌^◌, ◌<◌, ◌≤◌, List, [], false, true, length, All, IfErr, IfOk, IfSome, MatchResult};
+ghost use Rattle.nx_io.specs.Streams.{SendsAll, faults_after_reach};
+ghost use Rattle.policy_history.specs.Events.{admitted};
+ghost use Rattle.policy_history.specs.PolicyTexts.{front};
+ghost use Rattle.policy_history.specs.Values.{entry_trees, greatest_of};
+ghost use Rattle.verdict_words.specs.Rule.{IsPart};
+ghost use Rattle.verdict_words.specs.Settling.{all_met};
+ghost use Rattle.verdict_words.specs.Steps.{OneList};
+ghost use Rattle.verdict_words.specs.Words.{register_word};
+ghost use Rattle.policy_book.specs.Books.{IsLegalBook, IsMetIn, IsNumbered, IsWritten, head_of, is_failed, is_ready, met_in, new_book, trees_of};
+
+use crate::matter::NalMatter;
+use nal_term::{Name, Secret};
+use nx_io::{Reach, Sink, send_all};
+use policy_history::Journal;
+use std::alloc::{AllocError, Global};
+use std::marker::Model;
+use std::snapshot::Snapshot;
+use verdict_words::{Board, BookSeat, Pass};
+
+/// The journal of a policy, the seat of its board, and the sink of its text. Contracts see the board, the entries, the
+/// number of the next session, the sink with what it had sent when the book was made, whether the book is open, and whether a
+/// write of the text has failed. `docs/ARCHITECTURE.md`, "The book", says how it is used.
+#[derive(Drop)]
+pub struct Book<K: Sink> {
+    pub(crate) journal: Journal,
+    pub(crate) seat: BookSeat<NalMatter>,
+    pub(crate) sink: K,
+    pub(crate) start: Snapshot<K>,
+    pub(crate) is_open: bool,
+    pub(crate) is_broken: bool,
+}
+
+impl<K: Sink> Model for Book<K> {
+    ghost use Rattle.std.specs.Coded.{codes};
+    ghost use Rattle.nal_term.specs.contracts.terms.Term as t;
+    ghost use Rattle.nal_term.specs.contracts.formulas.Formula as f;
+    ghost use Rattle.policy_book.specs.Books.{BookValue};
+
+    ghost Value = { BookValue K };
+
+    ghost coded = { Prim.hlevel (codes, t.the_row.coded, f.the_row.coded) };
+
+    ghost use Rattle.policy_book.specs.Inner.Kept.{IsKept, value_of};
+
+    ghost view = { λ b. value_of K.sent K.faults b.seat b.sink b.start.value b.is_open b.is_broken };
+
+    ghost invariant = { λ b. IsKept K.sent K.faults b.journal b.seat (value_of K.sent K.faults b.seat b.sink b.start.value b.is_open b.is_broken) };
+}
+
+impl<K: Sink> Book<K> {
+    /// A book over this journal and this sink, and the board of its entries. Its sessions are numbered from one above the
+    /// greatest session number of the journal. It writes nothing. At want of memory journal and sink are given back.
+    pub fn make(
+        alloc: Global,
+        journal: Journal,
+        sink: K,
+    ) -> Result<(Board<NalMatter>, Book<K>), (Journal, K, AllocError)>
+        requires { greatest_of (entry_trees journal.entries) < 2 ^ 64 - 1 }
+        ensures board { IfOk result (λ r. r.0.origin ≡ record { setting = journal.head; opening = journal.entries; first = greatest_of (entry_trees journal.entries) + 1 }) }
+        ensures book { IfOk result (λ r. r.1 ≡ new_book K.sent K.faults r.0 sink) }
+        ensures kept { IfErr result (λ r. (r.0 ≡ journal) × (r.1 ≡ sink)) }
+    {
+        let _count = journal.count();
+        let next = journal.greatest_session() + 1;
+        match Board::make(alloc, journal.head(), journal.entries(), next) {
+            Ok((board, seat)) => {
+                let start = Snapshot::of(&sink);
+                let book = Book {
+                    journal,
+                    seat,
+                    sink,
+                    start,
+                    is_open: false,
+                    is_broken: false,
+                };
+                Ok((board, book))
+            }
+            Err(AllocError) => Err((journal, sink, AllocError)),
+        }
+    }
+
+    /// Writes the front of the policy text, which is the text of the journal without its last line. `Ready` says that it went
+    /// out whole, and the book is then open. `Failed` comes only where the sink failed in this call; the book is then broken,
+    /// and is never open. It takes no memory.
+    pub fn open(&mut self, text: &[u8]) -> Reach
+        requires closed { self.old.is_open ≡ false }
+        requires unbroken { self.old.is_broken ≡ false }
+        requires text { text.now ≡ front (head_of self.old) (trees_of self.old) }
+        ensures book { self.new ≡ record self.old { sink = self.new.sink; is_open = is_ready result; is_broken = is_failed result } }
+        ensures bytes { SendsAll result (K.sent self.old.sink) (K.sent self.new.sink) text.now }
+        ensures count { K.faults self.new.sink ≡ faults_after_reach result (K.faults self.old.sink) }
+    {
+        match send_all(&mut self.sink, text) {
+            Reach::Ready => {
+                self.is_open = true;
+                Reach::Ready
+            }
+            Reach::Failed => {
+                self.is_broken = true;
+                Reach::Failed
+            }
+        }
+    }
+
+    /// Whether a write of the policy text has failed. The other clauses say what always holds of a book.
+    pub fn broken(&self) -> bool
+        ensures value { result ≡ self.now.is_broken }
+        ensures legal { IsLegalBook self.now }
+        ensures numbered { IsNumbered self.now }
+        ensures written { IsWritten K.sent K.faults self.now }
+    {
+        let _count = self.journal.count();
+        let _next = self.seat.next_session();
+        self.is_broken
+    }
+
+    /// A pass for a new session, which has seen the whole journal. It takes no memory.
+    pub fn enter(&mut self, board: &Board<NalMatter>) -> Pass<NalMatter>
+        requires opened { self.old.is_open ≡ true }
+        requires board { self.old.board ≡ board.now }
+        requires room { self.old.next < 2 ^ 64 - 1 }
+        ensures pass { result ≡ record { board = board.now; session = self.old.next; seen = self.old.entries; trail = [] } }
+        ensures unused { All (λ entry. entry.session ≢ self.old.next) self.old.entries }
+        ensures book { self.new ≡ record self.old { next = self.old.next + 1 } }
+    {
+        board.enter(&mut self.seat)
+    }
+
+    /// The number of the principal with this name and this secret. None exactly where nobody has both.
+    pub fn admit(&self, name: &Name, secret: &Secret) -> Option<u32>
+        ensures number { result ≡ admitted (head_of self.now).principals name.now secret.now }
+        ensures within { IfSome result (λ p. p < length (head_of self.now).principals) }
+    {
+        self.journal.principal_of(name, secret)
+    }
+
+    /// Lets a pass see the whole journal. It takes no memory.
+    pub fn meet(&mut self, board: &Board<NalMatter>, pass: Pass<NalMatter>) -> Pass<NalMatter>
+        requires opened { self.old.is_open ≡ true }
+        requires board { self.old.board ≡ board.now }
+        requires pass { pass.board ≡ board.now }
+        ensures pass { result ≡ met_in self.old pass }
+        ensures met { IsMetIn self.old pass }
+        ensures book { self.new ≡ self.old }
+    {
+        board.meet(&mut self.seat, pass)
+    }
+
+    /// Meets each of the passes, in order; but all are held before the first is given back. So for each register there is one
+    /// list of steps, by sessions of the board alone, of which each pass's trail has the steps of its session. It takes no
+    /// memory.
+    pub fn settle(
+        &mut self,
+        board: &Board<NalMatter>,
+        passes: Vec<Pass<NalMatter>>,
+    ) -> Vec<Pass<NalMatter>>
+        requires opened { self.old.is_open ≡ true }
+        requires board { self.old.board ≡ board.now }
+        requires passes { All (λ pass. pass.board ≡ board.now) passes.items }
+        ensures passes { result.items ≡ all_met board.now self.old.entries passes.items }
+        ensures met { All (IsMetIn self.old) passes.items }
+        ensures registers { (object : ℕ) → object < 4096 → OneList self.old.board.origin.first self.old.next (λ steps. All (λ pass. IsPart (register_word object) steps pass.session pass.trail) result.items) }
+        ensures book { self.new ≡ self.old }
+    {
+        board.settle(&mut self.seat, passes)
+    }
+
+    /// The journal and the sink, once the book is done with.
+    pub fn into_parts(self) -> (Journal, K)
+        ensures head { result.0.head ≡ head_of self }
+        ensures entries { result.0.entries ≡ self.entries }
+        ensures sink { result.1 ≡ self.sink }
+        ensures legal { IsLegalBook self }
+        ensures numbered { IsNumbered self }
+        ensures written { IsWritten K.sent K.faults self }
+    {
+        let _broken = self.broken();
+        let Book { journal, sink, .. } = self;
+        (journal, sink)
+    }
+}

@@ -1,0 +1,131 @@
+//! What stands under the lock.
+ghost use Rattle.std.specs.Prelude.{◌≡◌, ◌<◌, true, length, IfSome, Some};
+ghost use Rattle.policy_history.specs.Events.{admitted};
+ghost use Rattle.policy_book.specs.Books.{IsMetIn, IsNamed, entry_of, met_in, trees_of};
+ghost use Rattle.policy_book.specs.Snaps.{IsSnap};
+ghost use Rattle.policy_book.specs.Writes.{IsAnsweredBy, IsLineFor};
+
+use crate::book::Book;
+use crate::matter::NalMatter;
+use crate::naming::BookNaming;
+use crate::snapping::Snapped;
+use crate::writing::Written;
+use nal_term::{Name, Secret};
+use nx_io::Sink;
+use policy_history::Event;
+use std::alloc::Global;
+use std::marker::{Model, PhantomData};
+use verdict_words::{Board, Pass};
+
+/// An open book under a lock. Its type says which board the book is of, what its sink had sent when it was made, and that no
+/// pass is made any more; so whoever takes the lock knows that much of what is there.
+#[derive(Drop)]
+pub struct Shelf<K: Sink, N: BookNaming> {
+    book: Book<K>,
+    of: PhantomData<N>,
+}
+
+impl<K: Sink, N: BookNaming> Model for Shelf<K, N> {
+    ghost use Rattle.std.specs.Prelude.{◌≡◌, true};
+    ghost use Rattle.std.specs.Coded.{codes};
+    ghost use Rattle.nal_term.specs.contracts.terms.Term as t;
+    ghost use Rattle.nal_term.specs.contracts.formulas.Formula as f;
+    ghost use Rattle.policy_book.specs.Books.{BookValue, IsNamed};
+
+    ghost Value = { BookValue K };
+
+    ghost coded = { Prim.hlevel (codes, t.the_row.coded, f.the_row.coded) };
+
+    ghost view = { λ s. s.book };
+
+    ghost invariant = { λ s. (s.book.is_open ≡ true) × IsNamed N.board N.next N.start N.start_faults s.book };
+}
+
+impl<K: Sink, N: BookNaming> Shelf<K, N> {
+    /// Puts the book that the parameter names on a shelf.
+    pub fn new(book: Book<K>) -> Shelf<K, N>
+        requires opened { book.is_open ≡ true }
+        requires named { IsNamed N.board N.next N.start N.start_faults book }
+        ensures { result ≡ book }
+    {
+        Shelf {
+            book,
+            of: PhantomData,
+        }
+    }
+
+    /// The book.
+    pub fn into_book(self) -> Book<K>
+        ensures book { result ≡ self }
+        ensures opened { result.is_open ≡ true }
+        ensures named { IsNamed N.board N.next N.start N.start_faults result }
+    {
+        let Shelf { book, of: _ } = self;
+        book
+    }
+
+    /// As `Book::admit`.
+    pub fn admit(&self, name: &Name, secret: &Secret) -> Option<u32>
+        ensures number { (board : _) → N.board ≡ Some board → result ≡ admitted board.origin.setting.principals name.now secret.now }
+        ensures within { (board : _) → N.board ≡ Some board → IfSome result (λ p. p < length board.origin.setting.principals) }
+    {
+        self.book.admit(name, secret)
+    }
+
+    /// As `Book::write`.
+    pub fn write(
+        &mut self,
+        board: &Board<NalMatter>,
+        pass: Pass<NalMatter>,
+        principal: u32,
+        event: Event,
+        line: &[u8],
+    ) -> (Pass<NalMatter>, Written)
+        requires board { N.board ≡ Some board.now }
+        requires pass { pass.board ≡ board.now }
+        requires principal { principal < length board.now.origin.setting.principals }
+        requires line { IsLineFor board.now.origin.setting (entry_of pass.session principal event) line.now }
+        ensures answered { IsAnsweredBy K.sent K.faults self.old self.new pass result.0 principal event line.now result.1 }
+        ensures pass { (result.0.board ≡ pass.board) × (result.0.session ≡ pass.session) }
+        ensures board { self.old.board ≡ board.now }
+        ensures named { IsNamed N.board N.next N.start N.start_faults self.old }
+    {
+        self.book.write(board, pass, principal, event, line)
+    }
+
+    /// As `Book::snap`.
+    pub fn snap(
+        &mut self,
+        alloc: Global,
+        board: &Board<NalMatter>,
+        pass: Pass<NalMatter>,
+        principal: u32,
+        op: &Name,
+        object: &Name,
+    ) -> (Pass<NalMatter>, Snapped)
+        requires board { N.board ≡ Some board.now }
+        requires pass { pass.board ≡ board.now }
+        requires principal { principal < length board.now.origin.setting.principals }
+        ensures snapped { IsSnap board.now.origin.setting (trees_of self.old) principal op.now object.now result.1 }
+        ensures pass { result.0 ≡ met_in self.old pass }
+        ensures met { IsMetIn self.old pass }
+        ensures book { self.new ≡ self.old }
+        ensures board { self.old.board ≡ board.now }
+        ensures named { IsNamed N.board N.next N.start N.start_faults self.old }
+    {
+        self.book.snap(alloc, board, pass, principal, op, object)
+    }
+
+    /// As `Book::meet`.
+    pub fn meet(&mut self, board: &Board<NalMatter>, pass: Pass<NalMatter>) -> Pass<NalMatter>
+        requires board { N.board ≡ Some board.now }
+        requires pass { pass.board ≡ board.now }
+        ensures pass { result ≡ met_in self.old pass }
+        ensures met { IsMetIn self.old pass }
+        ensures book { self.new ≡ self.old }
+        ensures board { self.old.board ≡ board.now }
+        ensures named { IsNamed N.board N.next N.start N.start_faults self.old }
+    {
+        self.book.meet(board, pass)
+    }
+}

@@ -1,0 +1,15 @@
+use Rattle.std.proofs.Common.{◌≡◌, ◌≤◌, ◌*◌, false, length}
+use Rattle.nx_io.specs.Links.{KeepsOrigin}
+use Rattle.session_core.specs.Inner.Sittings.{IsSitting}
+use Rattle.session_core.proofs.sitting.serve_sitting.Given as goal
+
+abbrev pub invariant-loop : goal.invariant-loop
+invariant-loop g l = record {
+  ready : g.S.Sitting.ready l.sitting l.book l.panel;
+  serving : IsSitting (g.S.Sitting.told l.fn.sitting l.fn.book l.fn.panel l.sitting l.book l.panel) (g.L.Link.taken l.link) (g.L.Link.sent l.link) l.counter;
+  reader : l.reader ≡ length (g.L.Link.taken l.link);
+  few : l.reader ≤ 33796 * l.counter;
+  over : g.L.Link.over l.link ≡ false;
+  origin : KeepsOrigin (g.L.Link.place l.fn.link) (g.L.Link.place l.link) (g.L.Link.toward l.fn.link) (g.L.Link.toward l.link);
+  link : g.L.Link.faults l.link ≡ g.L.Link.faults l.fn.link;
+}

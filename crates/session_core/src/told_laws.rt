@@ -1,0 +1,42 @@
+//! The laws of what a session over a shared board is told.
+ghost use Rattle.session_core.specs.ToldLaws.{OnlyAllowedRuns, OnlyDoneAdds, ToldStaysTold};
+ghost use Rattle.session_core.specs.ToldRows.{AllowedAndKept, AllowedAndOtherSaid, AllowedAndThenDeleted, AllowedThenDenied, AskedEachTime, ChangesAreSeen, DeletedStillAllowed, DoneWithoutEntry, FirstCallHits, OtherRegionLeaves, SameRegionRaises, WrongLineAndThenCleared, WrongLineKept, YesUsedTwice};
+
+/// What a session was told over its history it was told over every longer one too. The call does nothing.
+#[tactic(auto, using(crate::proofs::ToldLaws::told_stays_told))]
+pub fn what_was_told_stays_told()
+    ensures { ToldStaysTold }
+{}
+
+/// No request steps on a register but one that is replied `Allowed`, and none makes an entry but one that is replied `Done`.
+/// The call does nothing.
+#[tactic(auto, using(crate::proofs::ToldLaws::only_allowed_runs, crate::proofs::ToldLaws::only_done_adds))]
+pub fn only_allowed_calls_run_and_only_changes_add()
+    ensures runs { OnlyAllowedRuns }
+    ensures adds { OnlyDoneAdds }
+{}
+
+/// Sessions of one principal are told so, from their hello on: what is kept, what is looked up, and what is refused. The call does
+/// nothing.
+#[tactic(auto)]
+pub fn worked_sessions_are_told()
+    ensures kept { AllowedAndKept }
+    ensures deleted { AllowedAndThenDeleted }
+    ensures other { AllowedAndOtherSaid }
+    ensures wrong { WrongLineKept }
+    ensures cleared { WrongLineAndThenCleared }
+    ensures far { OtherRegionLeaves }
+    ensures near { SameRegionRaises }
+    ensures asked { AskedEachTime }
+    ensures seen { ChangesAreSeen }
+{}
+
+/// What such a session is never told, whatever was asked and whatever steps it made. The call does nothing.
+#[tactic(auto)]
+pub fn wrong_answers_are_never_told()
+    ensures done { DoneWithoutEntry }
+    ensures first { FirstCallHits }
+    ensures denied { AllowedThenDenied }
+    ensures allowed { DeletedStillAllowed }
+    ensures twice { YesUsedTwice }
+{}
