@@ -13,3 +13,4 @@ mod WorkedObjects
 mod ToldRefusals
 mod WorkedAsks
 mod WorkedSeen
+mod WorkedGreetings

@@ -98,8 +98,8 @@ numbered (NotBound k) = omega arith
 numbered (AuthorityNo k) = omega arith
 
 -- no goal is set
-pub unset_goal : (x : LineTree) (labels : List FormulaTree) (bound : List (TermTree × ℕ)) → IsVerdict (case None x labels bound) [] (Denied GoalUnset)
-unset_goal x labels bound = (refl, λ other less has. let least = numbered other in absurd (omega (arith, less, least)))
+pub unset_goal : (c : CaseTree) → c.goal ≡ None → IsVerdict c [] (Denied GoalUnset)
+unset_goal c none = (none, λ other less has. let least = numbered other in absurd (omega (arith, less, least)))
 
 module _ (x : LineTree) (goal : FormulaTree) (labels : List FormulaTree) (bound : List (TermTree × ℕ)) where
   abbrev here : CaseTree

@@ -1,5 +1,5 @@
 -- What a session over a shared board is told: over a longer history, and where there is no step and no entry.
-use Rattle.std.proofs.Common.{◌≡◌, ◌≢◌, ◌≤◌, ◌<◌, ◌+◌, ◌⊎◌, inl, inr, ℕ, zero, suc, List, [], ◌∷◌, ◌++◌, take, length, Bool, true, false, true≢false, Option, Some, None, refl, sym, ap, subst, arith, ◌∙◌}
+use Rattle.std.proofs.Common.{◌≡◌, ◌≤◌, ◌+◌, ◌⊎◌, inl, inr, ℕ, zero, suc, List, [], ◌∷◌, ◌++◌, take, length, Bool, false, true≢false, Option, Some, refl, sym, ap, subst, arith}
 use Rattle.std.specs.Prelude.{slice_get, Err, Ok}
 use Rattle.std.specs.List.{list_any}
 use Rattle.std.proofs.lemmas.List.{take-append-le, length-append}
@@ -7,10 +7,7 @@ use Rattle.std.proofs.lemmas.Option.{slice_get_within}
 use Rattle.guard_core.specs.Judging.{verdict_of}
 use Rattle.nal_rules.specs.Verdicts.{CaseTree}
 use Rattle.nal_rules.specs.declared.verdicts.Verdict.{Verdict}
-use Rattle.nal_rules.specs.declared.verdicts.Verdict.TheVariants.{Allowed as AllowedVerdict, Denied as DeniedVerdict}
 use Rattle.policy_history.specs.declared.heads.Head.{Head}
-use Rattle.policy_history.specs.declared.events.Due.{Due}
-use Rattle.policy_history.specs.declared.events.Refusal.{Refusal}
 use Rattle.policy_history.specs.Events.{EventTree, EntryTree}
 use Rattle.policy_history.specs.States.{State}
 use Rattle.policy_history.specs.Judged.{IsRight}

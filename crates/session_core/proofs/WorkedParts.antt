@@ -103,7 +103,7 @@ truth_wrong =
     (λ other less a. let is = ap fault_number (truth_fault alice_says_ok other a).0 in omega (arith, less, is))
 
 pub goal_unset : IsVerdict (one_line None (line TrueI verum) []) [] (DeniedVerdict GoalUnset)
-goal_unset = unset_goal (line TrueI verum) [] []
+goal_unset = unset_goal (one_line None (line TrueI verum) []) refl
 
 pub truth_allowed : IsVerdict (one_line (Some verum) (line TrueI verum) []) [] AllowedVerdict
 truth_allowed = allowed_line (line TrueI verum) verum [] [] (λ e. cc e) [] truth_right (λ label. absurd (cc label))

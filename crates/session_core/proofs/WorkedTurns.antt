@@ -1,5 +1,5 @@
 -- Turns of a session whose history and states are known: changes, and calls that ask nobody.
-use Rattle.std.proofs.Common.{◌≡◌, ◌≤◌, ◌<◌, ◌+◌, ℕ, suc, List, [], ◌∷◌, ◌++◌, take, length, true, Option, Some, None, refl, sym, ap, subst, arith, ◌∙◌, get_or, add-one, append_assoc, inr}
+use Rattle.std.proofs.Common.{◌≡◌, ◌≤◌, ◌<◌, ◌+◌, ℕ, suc, List, [], ◌∷◌, ◌++◌, take, length, true, Option, Some, None, refl, sym, ap, subst, arith, ◌∙◌, get_or, add-one, append_assoc, inr, false}
 use Rattle.std.specs.Prelude.{Ok, Err, slice_get, filter, map}
 use Rattle.std.specs.List.{flat_map}
 use Rattle.std.proofs.lemmas.Bool.{lt-ltb}
@@ -15,6 +15,7 @@ use Rattle.proof_store.specs.Cases.{number_of as case_number}
 use Rattle.policy_history.specs.declared.heads.Head.{Head}
 use Rattle.policy_history.specs.declared.events.Due.{Due}
 use Rattle.policy_history.specs.declared.events.Refusal.{Refusal}
+use Rattle.policy_history.specs.declared.events.Refusal.TheVariants.{NotRecorded}
 use Rattle.policy_history.specs.Events.{EventTree, EntryTree, name_of}
 use Rattle.policy_history.specs.Judged.{IsRightIn, case_at}
 use Rattle.policy_history.specs.Laws.{refusal_number}
@@ -102,6 +103,20 @@ module _ (h : Head) (es : List EntryTree) (s p : ℕ) (known_principal : p < len
       → decision h st s p e ≡ Err refusal → Answers h es s (at n known) request (refused_turn n known refusal)
   is_refused n known st request e refusal asks is within decided =
       told.change p e refl asks (told.refused n refusal (omega arith, within) (subst (λ (x : State). decision h x s p e ≡ Err refusal) (sym is) decided) refl)
+
+  pub is_unrecorded : (n : ℕ) (known : List Triple) (st : State) (request : Request) (e : EventTree) (due : Due) → IsEventOf request e → IsAt n st → n ≤ length es
+      → decision h st s p e ≡ Ok due → Answers h es s (at n known) request (refused_turn n known NotRecorded)
+  is_unrecorded n known st request e due asks is within decided =
+      told.change p e refl asks (told.not_recorded n due (omega arith, within) (subst (λ (x : State). decision h x s p e ≡ Ok due) (sym is) decided) refl)
+
+  -- a call of what no object has the name of
+  pub is_nameless : (from n : ℕ) (known : List Triple) (st : State) (op object : List ℕ) (arg : ℕ) → from ≤ n → IsAt n st → n ≤ length es → knows known op object ≡ false
+      → number_of st.objects object ≡ None → Answers h es s (at from known) (Call op object arg) (stepped (at n known) (Refused n 8) [] (Met n ∷ []))
+  is_nameless from n known st op object arg late is within unknown none =
+      let turn : Turn = stepped (at n known) (Refused n 8) [] (Met n ∷ []) in
+      let judges : Judges h st (at from known) p op object arg n [] turn = told.no_object none refl in
+      told.call p op object arg refl refl
+      (told.snapped from n [] (told.unknown unknown refl refl) (late, within) (subst (λ (x : State). Judges h x (at from known) p op object arg n [] turn) (sym is) judges))
 
   -- a call whose case is judged in this state with these answers, where nothing is known of it yet or the look made no hit
   pub is_asked_from : (from mid n : ℕ) (known : List Triple) (st : State) (op object : List ℕ) (arg k value : ℕ) (finding : Finding) (asks : List Ask) (looked kept ran : List Item) → mid ≤ n → IsAt n st

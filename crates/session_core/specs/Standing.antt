@@ -1,5 +1,5 @@
 -- How far a session over a shared board is, and what it knows of cases.
-use Rattle.std.specs.Prelude.{◌≡◌, ◌<◌, ◌≤◌, ℕ, List, [], ◌∷◌, ◌++◌, length, Bool, true, false, ◌&&◌, nat_lt, if◌then◌else◌, Option, Some, None, codes}
+use Rattle.std.specs.Prelude.{ℕ, List, [], ◌∷◌, ◌++◌, length, Bool, ◌&&◌, nat_lt, if◌then◌else◌, Option, Some, None, codes}
 use Rattle.std.specs.List.{list_any}
 use Rattle.nal_term.specs.TreeKeys.{same_bytes}
 use Rattle.verdict_words.specs.declared.views.RegisterStep.{RegisterStep}

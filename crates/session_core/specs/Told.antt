@@ -24,7 +24,7 @@ use Rattle.guard_core.specs.Judging.{IsJudged, IsBrokenOff, verdict_of}
 use Rattle.session_wire.specs.declared.requests.Request.{Request}
 use Rattle.session_wire.specs.declared.requests.Request.TheVariants.{Hello, Call}
 use Rattle.session_wire.specs.declared.replies.Reply.{Reply}
-use Rattle.session_wire.specs.declared.replies.Reply.TheVariants.{Welcome, Done, Allowed, Denied, Refused, Down, NoMemory}
+use Rattle.session_wire.specs.declared.replies.Reply.TheVariants.{Done, Allowed, Denied, Refused, Down, NoMemory}
 use Rattle.journal_text.specs.RequestEvents.{IsEventOf}
 use Rattle.verdict_words.specs.declared.places.CasePlace.{CasePlace}
 use Rattle.verdict_words.specs.declared.places.Held.{Held}
@@ -62,9 +62,9 @@ verdict_reply n hit value (DeniedVerdict cause) = Denied n (cause_numbers cause)
 
 -- Whether a verdict is kept: exactly where the case is known and the verdict rests on goal, proof and labels alone. It is kept
 -- under the number of the case, at the length at which it was judged
-pub data Keeps (knows : Bool) (n : ℕ) (number : Option ℕ) (c : CaseTree) (verdict : Verdict) (steps : List Item) : Type 0 where
-  kept : (k : ℕ) (held : Held) → knows ≡ true → number ≡ Some k → IsLasting c verdict → StandsFor verdict held → steps ≡ Filled k n held ∷ [] → Keeps knows n number c verdict steps
-  not_kept : ¬ ((knows ≡ true) × IsLasting c verdict) → steps ≡ [] → Keeps knows n number c verdict steps
+pub data Keeps (is_known : Bool) (n : ℕ) (number : Option ℕ) (c : CaseTree) (verdict : Verdict) (steps : List Item) : Type 0 where
+  kept : (k : ℕ) (held : Held) → is_known ≡ true → number ≡ Some k → IsLasting c verdict → StandsFor verdict held → steps ≡ Filled k n held ∷ [] → Keeps is_known n number c verdict steps
+  not_kept : ¬ ((is_known ≡ true) × IsLasting c verdict) → steps ≡ [] → Keeps is_known n number c verdict steps
 
 -- Whether a call steps on the register of its object: exactly where it is allowed and its operation makes a step. Its value
 -- is what the step answered, and 0 where there is none

@@ -1,5 +1,5 @@
 -- Laws of what a session over a shared board is told.
-use Rattle.std.specs.Prelude.{◌≡◌, ◌≢◌, ◌⊎◌, ℕ, List, [], ◌++◌, Bool, true, false}
+use Rattle.std.specs.Prelude.{◌≡◌, ◌⊎◌, ℕ, List, [], ◌++◌, Bool, true, false}
 use Rattle.std.specs.List.{list_any}
 use Rattle.policy_history.specs.declared.heads.Head.{Head}
 use Rattle.policy_history.specs.Events.{EntryTree}
@@ -8,7 +8,7 @@ use Rattle.session_wire.specs.declared.requests.Request.{Request}
 use Rattle.session_wire.specs.declared.replies.Reply.{Reply}
 use Rattle.session_wire.specs.declared.replies.Reply.TheVariants.{Allowed, Done}
 use Rattle.verdict_words.specs.declared.views.Item.{Item}
-use Rattle.verdict_words.specs.declared.views.Item.TheVariants.{Loaded, Met, Filled, Ran}
+use Rattle.verdict_words.specs.declared.views.Item.TheVariants.{Ran}
 use Rattle.session_core.specs.Standing.{Standing}
 use Rattle.session_core.specs.Told.{Answers, IsTold, Turn}
 

@@ -281,6 +281,29 @@ later_steps =
 abbrev pub ChangesAreSeen : Type 0
 ChangesAreSeen = IsTold head deleted_entries 2 0 later_requests later_replies [] (Met 0 ∷ later_steps) (behind_call 5)
 
+-- ---- Who is greeted, and who is not: each reply is at what the session has seen by then
+
+abbrev pub greeted_requests : List Request
+greeted_requests = NewObject f ∷ Hello (codes "alice") (codes "xx") ∷ hello ∷ hello ∷ Call read (codes "g") 0 ∷ hello ∷ []
+
+abbrev pub greeted_replies : List Reply
+greeted_replies = Refused 0 1 ∷ Refused 0 3 ∷ Welcome 2 0 ∷ Refused 0 2 ∷ Refused 4 8 ∷ Refused 4 2 ∷ []
+
+abbrev pub GreetedOnce : Type 0
+GreetedOnce = IsTold head allowed_entries 2 0 greeted_requests greeted_replies [] (Met 0 ∷ Met 4 ∷ []) (record { who = Some 0; low = 4; known = [] })
+
+-- ---- A change that could not be recorded. No goal is set then, and a call that has no case number is neither known nor kept
+
+abbrev pub unrecorded_requests : List Request
+unrecorded_requests = hello ∷ NewObject f ∷ SetGoal read f (formula_text verum) ∷ NewObject f ∷ call ∷ call ∷ []
+
+abbrev pub unrecorded_replies : List Reply
+unrecorded_replies = Welcome 1 0 ∷ Done 1 0 ∷ Refused 1 20 ∷ Refused 1 9 ∷ Denied 1 1 0 0 ∷ Denied 1 1 0 0 ∷ []
+
+abbrev pub NotRecordedIsRefused : Type 0
+NotRecordedIsRefused =
+    IsTold head (entry 1 make_f ∷ []) 1 0 unrecorded_requests unrecorded_replies [] (Met 0 ∷ Met 0 ∷ Met 1 ∷ Met 1 ∷ Met 1 ∷ Met 1 ∷ Met 1 ∷ []) (record { who = Some 0; low = 1; known = [] })
+
 -- ---- An authority is asked at each call, and nothing is kept
 
 abbrev pub asking_head : Head

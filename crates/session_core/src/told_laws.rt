@@ -1,6 +1,6 @@
 //! The laws of what a session over a shared board is told.
 ghost use Rattle.session_core.specs.ToldLaws.{OnlyAllowedRuns, OnlyDoneAdds, ToldStaysTold};
-ghost use Rattle.session_core.specs.ToldRows.{AllowedAndKept, AllowedAndOtherSaid, AllowedAndThenDeleted, AllowedThenDenied, AskedEachTime, ChangesAreSeen, DeletedStillAllowed, DoneWithoutEntry, FirstCallHits, OtherRegionLeaves, SameRegionRaises, WrongLineAndThenCleared, WrongLineKept, YesUsedTwice};
+ghost use Rattle.session_core.specs.ToldRows.{AllowedAndKept, AllowedAndOtherSaid, AllowedAndThenDeleted, AllowedThenDenied, AskedEachTime, ChangesAreSeen, DeletedStillAllowed, DoneWithoutEntry, FirstCallHits, GreetedOnce, NotRecordedIsRefused, OtherRegionLeaves, SameRegionRaises, WrongLineAndThenCleared, WrongLineKept, YesUsedTwice};
 
 /// What a session was told over its history it was told over every longer one too. The call does nothing.
 #[tactic(auto, using(crate::proofs::ToldLaws::told_stays_told))]
@@ -29,6 +29,8 @@ pub fn worked_sessions_are_told()
     ensures near { SameRegionRaises }
     ensures asked { AskedEachTime }
     ensures seen { ChangesAreSeen }
+    ensures greeted { GreetedOnce }
+    ensures unrecorded { NotRecordedIsRefused }
 {}
 
 /// What such a session is never told, whatever was asked and whatever steps it made. The call does nothing.

@@ -8,13 +8,9 @@ use Rattle.guard_core.specs.Judging.{asks_after}
 use Rattle.session_wire.specs.declared.requests.Request.{Request}
 use Rattle.session_wire.specs.declared.replies.Reply.{Reply}
 use Rattle.session_wire.specs.declared.replies.Reply.TheVariants.{Bad}
-use Rattle.session_wire.specs.declared.frame_reader.Framed.{Framed}
-use Rattle.session_wire.specs.declared.frame_reader.Framed.TheVariants as framed
-use Rattle.session_wire.specs.Frames.{reply_frame, reply_frames}
-use Rattle.session_wire.specs.Beginnings.{Spells}
+use Rattle.session_wire.specs.Frames.{reply_frame}
 use Rattle.session_core.specs.declared.ends.SessionEnd.{SessionEnd}
-use Rattle.session_core.specs.declared.ends.SessionEnd.TheVariants.{Closed, Torn, BadFrame, ReadFault, WriteFault}
-use Rattle.session_core.specs.Answers.{HasOutcome, faults_after_reply, outcome_of}
+use Rattle.session_core.specs.declared.ends.SessionEnd.TheVariants.{BadFrame, WriteFault}
 use Rattle.session_core.specs.Ends.{askings_of, at_first}
 use Rattle.session_core.specs.Sessions.{Told1, faults_after_replies}
 

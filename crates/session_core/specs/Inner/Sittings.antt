@@ -1,5 +1,5 @@
 -- A session over a link between two of its turns, and one turn, whoever answers its requests.
-use Rattle.std.specs.Prelude.{◌≡◌, ◌⊎◌, ℕ, List, [], ◌∷◌, ◌++◌, length, Option, Some}
+use Rattle.std.specs.Prelude.{◌≡◌, ℕ, List, [], ◌∷◌, ◌++◌, length, Option, Some}
 use Rattle.session_wire.specs.declared.requests.Request.{Request}
 use Rattle.session_wire.specs.declared.replies.Reply.{Reply}
 use Rattle.session_wire.specs.declared.frame_reader.Framed.{Framed}

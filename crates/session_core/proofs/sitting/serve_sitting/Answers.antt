@@ -1,9 +1,8 @@
-use Rattle.std.proofs.Common.{◌+◌, List, [], Some, None, length, refl, sym, ap, subst, ◌∙◌, arith, ℕ, Option}
+use Rattle.std.proofs.Common.{◌+◌, List, [], Some, None, length, refl, sym, ap, subst, ◌∙◌, arith, ℕ}
 use Rattle.std.proofs.lemmas.List.{length-append}
 use Rattle.nx_io.specs.Streams.{gained}
 use Rattle.session_wire.specs.Beginnings.{Spells}
 use Rattle.session_wire.proofs.ForCallers.{spells_none}
-use Rattle.session_core.specs.declared.ends.SessionEnd.{SessionEnd}
 use Rattle.session_core.proofs.Sittings.{last_sat, no_last_sat, sat}
 use Rattle.session_core.proofs.sitting.serve_sitting.Goals as goal
 

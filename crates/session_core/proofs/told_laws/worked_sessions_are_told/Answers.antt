@@ -3,6 +3,7 @@ use Rattle.session_core.proofs.WorkedDenials.{wrong_line_kept, wrong_line_and_th
 use Rattle.session_core.proofs.WorkedObjects.{other_region_leaves, same_region_raises}
 use Rattle.session_core.proofs.WorkedAsks.{asked_each_time}
 use Rattle.session_core.proofs.WorkedSeen.{changes_are_seen}
+use Rattle.session_core.proofs.WorkedGreetings.{greeted_once, not_recorded_is_refused}
 use Rattle.session_core.proofs.told_laws.worked_sessions_are_told.Goals as goal
 
 -- src/told_laws.rt:22:1
@@ -40,3 +41,11 @@ returns-clause-asked c = asked_each_time
 -- src/told_laws.rt:22:1
 pub returns-clause-seen : goal.returns-clause-seen
 returns-clause-seen c = changes_are_seen
+
+-- src/told_laws.rt:22:1
+pub returns-clause-greeted : goal.returns-clause-greeted
+returns-clause-greeted c = greeted_once
+
+-- src/told_laws.rt:22:1
+pub returns-clause-unrecorded : goal.returns-clause-unrecorded
+returns-clause-unrecorded c = not_recorded_is_refused
