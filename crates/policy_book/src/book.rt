@@ -16,8 +16,7 @@ use nx_io::{Reach, Sink, send_all};
 use policy_history::Journal;
 use std::alloc::{AllocError, Global};
 use std::marker::Model;
-use std::snapshot::Snapshot;
-use verdict_words::{Board, BookSeat, Pass};
+use verdict_words::{Board, BookSeat, Mark, Pass};
 
 /// The journal of a policy, the seat of its board, and the sink of its text. Contracts see the board, the entries, the
 /// number of the next session, the sink with what it had sent when the book was made, whether the book is open, and whether a
@@ -27,7 +26,7 @@ pub struct Book<K: Sink> {
     pub(crate) journal: Journal,
     pub(crate) seat: BookSeat<NalMatter>,
     pub(crate) sink: K,
-    pub(crate) start: Snapshot<K>,
+    pub(crate) start: Mark<K>,
     pub(crate) is_open: bool,
     pub(crate) is_broken: bool,
 }
@@ -66,7 +65,7 @@ impl<K: Sink> Book<K> {
         let next = journal.greatest_session() + 1;
         match Board::make(alloc, journal.head(), journal.entries(), next) {
             Ok((board, seat)) => {
-                let start = Snapshot::of(&sink);
+                let start = Mark::of(&sink);
                 let book = Book {
                     journal,
                     seat,

@@ -9,6 +9,8 @@ mod matter;
 mod naming;
 mod shelf;
 mod snapping;
+#[cfg(test)]
+mod tests;
 mod verdicts;
 mod writing;
 

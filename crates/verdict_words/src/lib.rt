@@ -25,6 +25,7 @@ mod tests;
 mod views;
 
 pub use board::Board;
+pub use mark::Mark;
 pub use matter::Matter;
 pub use naming::Naming;
 pub use pass::Pass;
