@@ -14,3 +14,10 @@ mod ToldRefusals
 mod WorkedAsks
 mod WorkedSeen
 mod WorkedGreetings
+mod Knowing
+mod Boarding
+mod BoardHistories
+mod BoardCalls
+mod BoardSnaps
+mod BoardTurns
+mod BoardGoing

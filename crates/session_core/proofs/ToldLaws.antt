@@ -45,7 +45,7 @@ looks_on {h} {es} more {before} {p} {op} {object} {n} {place} looks = record {
   place_is = subst (λ (st : State). IsPlaceIn st p op object place) (state_same h es more n looks.seen.1) looks.place_is;
 }
 
-misses_on : {h : Head} {es : List EntryTree} (more : List EntryTree) {before : Standing} {p : ℕ} {op object : List ℕ} {low : ℕ} {steps : List Item}
+pub misses_on : {h : Head} {es : List EntryTree} (more : List EntryTree) {before : Standing} {p : ℕ} {op object : List ℕ} {low : ℕ} {steps : List Item}
     → Misses h es before p op object low steps → Misses h (es ++ more) before p op object low steps
 misses_on more (told.unknown known low_is none) = told.unknown known low_is none
 misses_on more (told.missed place slot of_object of_store looks no_hit steps_are) = told.missed place slot of_object of_store (looks_on more looks) no_hit steps_are

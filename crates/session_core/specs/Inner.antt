@@ -2,3 +2,5 @@
 pub mod Serving
 pub mod Steps
 pub mod Sittings
+pub mod Knowing
+pub mod Boarding

@@ -8,6 +8,7 @@ use Rattle.session_wire.specs.declared.replies.Reply.{Reply}
 use Rattle.verdict_words.specs.declared.views.Item.{Item}
 use Rattle.session_core.specs.declared.ends.SessionEnd.{SessionEnd}
 use Rattle.session_core.specs.Ends.{HasEnded}
+use Rattle.session_core.specs.Sessions.{faults_after_replies}
 use Rattle.session_core.specs.Standing.{Standing}
 use Rattle.session_core.specs.Told.{IsTold}
 
@@ -30,6 +31,11 @@ pub record IsServedSo (h : Head) (low : ℕ) (report : Reported) (asks : List As
   pub ended : HasEnded report.end report.taken report.sent requests replies
   pub told : IsTold h report.seen report.session low requests replies asks (take (length report.trail - later) report.trail) last
   pub who_is : last.who ≡ report.who
+
+-- The same, and the panel failed as often as an authority was down by the replies
+pub record IsServedOver (h : Head) (low : ℕ) (report : Reported) (asks : List Ask) (faults faults_now : ℕ) : Type 0 where
+  pub served : IsServedSo h low report asks 0
+  pub downs : faults_now ≡ faults_after_replies served.replies faults
 
 -- Each of the sessions was told over what its own pass has seen, and the asks of all stand in the order of the sessions.
 pub data Served (h : Head) (low later : ℕ) : List Reported → List Ask → Type 0 where

@@ -2,7 +2,11 @@
 #![tactic(auto)]
 
 mod answers;
+mod board_calls;
+mod board_serving;
+mod board_session;
 mod ends;
+mod known;
 mod lines;
 mod reaching;
 mod serving;
@@ -10,6 +14,7 @@ mod sitting;
 mod told_laws;
 
 pub use answers::Session;
+pub use board_serving::{Report, serve_link};
 pub use ends::SessionEnd;
 pub use lines::{Asking, answer_all};
 pub use reaching::reach_all;

@@ -1,0 +1,282 @@
+-- The turns of a session over a shared board that are no call's: hellos, changes, and what is given up.
+use Rattle.std.proofs.Common.{◌≡◌, ◌≢◌, ◌+◌, ◌<◌, ◌⊎◌, inl, inr, ℕ, List, [], ◌∷◌, ◌++◌, length, option_map, Option, Some, None, refl, sym, ap, ◌∙◌, subst, arith, append_assoc}
+use Rattle.std.specs.Prelude.{slice_get, Result, Ok, Err, IsOk}
+use Rattle.std.proofs.lemmas.List.{append-nil, length-append, map-append}
+use Rattle.policy_history.specs.declared.events.Due.{Due}
+use Rattle.policy_history.specs.declared.events.Entry.{Entry}
+use Rattle.policy_history.specs.declared.events.Event.{Event}
+use Rattle.policy_history.specs.declared.events.Refusal.{Refusal}
+use Rattle.policy_history.specs.declared.events.Refusal.TheVariants.{NotRecorded}
+use Rattle.policy_history.specs.declared.heads.Head.{Head}
+use Rattle.policy_history.specs.declared.heads.Principal.{Principal}
+use Rattle.policy_history.specs.PolicyLines.{entry_line}
+use Rattle.policy_history.specs.PolicyTexts.{IsSpelledWhole}
+use Rattle.nal_term.specs.TreeKeys.{same_bytes, same_bytes-Decides}
+use Rattle.std.proofs.Common.{◌&&◌, get_or, unwrap_or}
+use Rattle.std.proofs.lemmas.List.Elements.{All-nil}
+use Rattle.std.proofs.lemmas.List.Quantifiers.{position-Some}
+use Rattle.std.proofs.lemmas.Option.{slice_get-get_or}
+use Rattle.policy_history.specs.Events.{EntryTree, EventTree, admitted, entry_tree, event_tree, name_of}
+use Rattle.policy_history.specs.Laws.{refusal_number}
+use Rattle.policy_history.specs.Machine.{replay}
+use Rattle.policy_history.specs.Values.{decision, entry_trees}
+use Rattle.authority_ask.specs.Panels.{Told as Ask}
+use Rattle.session_wire.specs.declared.requests.Request.{Request}
+use Rattle.session_wire.specs.declared.requests.Request.TheVariants.{Call, Hello}
+use Rattle.session_wire.specs.declared.replies.Reply.{Reply}
+use Rattle.session_wire.specs.declared.replies.Reply.TheVariants.{NoMemory, Refused as RefusedReply, Done as DoneReply, Welcome}
+use Rattle.journal_text.specs.RequestEvents.{IsEventOf}
+use Rattle.verdict_words.specs.declared.views.Item.TheVariants.{Met}
+use Rattle.verdict_words.specs.Histories.{IsPrefix, own}
+use Rattle.verdict_words.specs.Rule.{last_met}
+use Rattle.verdict_words.specs.Values.{Identity, PassValue, met_seen}
+use Rattle.verdict_words.proofs.ForCallers.{last_met_now, prefix_length, prefix_grows, prefix_whole}
+use Rattle.policy_book.specs.Books.{BookValue, IsMetIn, decided, met_in, session_of}
+use Rattle.policy_book.specs.Writes.{IsAnsweredBy, IsLineFor, IsUnrecorded, added_by}
+use Rattle.policy_book.specs.declared.writing.Written.{Written}
+use Rattle.policy_book.specs.declared.writing.Written.TheVariants as written
+use Rattle.policy_book.proofs.ForCallers.{own_written}
+use Rattle.session_core.specs.Answers.{greeted}
+use Rattle.session_core.specs.Told as told
+use Rattle.session_core.specs.Told.{Answers, IsSeen, Turn, plain, state_at, stepped}
+use Rattle.session_core.specs.declared.board_session.Admitted.{Admitted}
+use Rattle.session_core.specs.declared.board_session.BoardSession.{BoardSession}
+use Rattle.session_core.specs.Inner.Boarding.{AreKnown, IsKnownRow, IsReady, IsTurn, head_of, own_in, reply_of, standing, trees_of, who_of}
+use Rattle.session_core.specs.Inner.Knowing.{KnownRow}
+use Rattle.session_core.specs.Inner.Steps.{IsHello}
+use Rattle.session_core.proofs.BoardHistories.{both_same, first_trees, known_stay, own_trees, trees_count, trees_prefix}
+
+-- ---- Only a reply
+
+-- a turn that leaves the session as it was
+still_turn : (s : BoardSession) (request : Request) (reply : Reply) → Answers (head_of s) (trees_of s) s.pass.session (standing s) request (plain (standing s) reply) → IsTurn s s [] request reply
+still_turn s request reply answers = record {
+  turn = plain (standing s) reply;
+  answers = answers;
+  reply_is = refl;
+  asks_are = refl;
+  trail = sym (append-nil s.pass.trail);
+  own_is = sym (append-nil (own_in s.pass));
+  after = refl;
+  seen = prefix_whole s.pass.seen;
+  session_is = refl;
+  board_is = refl;
+}
+
+pub given_up_any : (s : BoardSession) (request : Request) → IsTurn s s [] request NoMemory
+given_up_any s request = still_turn s request NoMemory (told.given_up refl)
+
+pub early_any : (s : BoardSession) (request : Request) (at : ℕ) → who_of s ≡ None → ((name secret : List ℕ) → request ≢ Hello name secret) → at ≡ length s.pass.seen → IsTurn s s [] request (RefusedReply at 1)
+early_any s request at nobody other at_is =
+    subst (λ (n : ℕ). IsTurn s s [] request (RefusedReply n 1)) (sym at_is) (still_turn s request (RefusedReply (length s.pass.seen) 1) (told.early nobody other refl))
+
+not_hello : (op object : List ℕ) (arg : ℕ) (name secret : List ℕ) → Call op object arg ≢ Hello name secret
+not_hello op object arg name secret same = cc same
+
+pub early_call : (s : BoardSession) (op object : List ℕ) (arg at : ℕ) (asks : List Ask) → who_of s ≡ None → at ≡ length s.pass.seen → asks ≡ [] → IsTurn s s asks (Call op object arg) (RefusedReply at 1)
+early_call s op object arg at asks nobody at_is none =
+    subst (λ (xs : List Ask). IsTurn s s xs (Call op object arg) (RefusedReply at 1)) (sym none) (early_any s (Call op object arg) at nobody (not_hello op object arg) at_is)
+
+no_such : (request : Request) → ¬ IsHello request → (name secret : List ℕ) → request ≢ Hello name secret
+no_such request other name secret same = other (subst IsHello (sym same) tt)
+
+pub early_change : (s : BoardSession) (request : Request) (at : ℕ) → who_of s ≡ None → ¬ IsHello request → at ≡ length s.pass.seen → IsTurn s s [] request (RefusedReply at 1)
+early_change s request at nobody other at_is = early_any s request at nobody (no_such request other) at_is
+
+-- ---- Hellos
+
+module _ (s : BoardSession) (name secret : List ℕ) where
+  -- what a session whose who is this is greeted
+  hello_turn : (who : Option ℕ) (got : Option ℕ) → who_of s ≡ who → admitted (head_of s).principals name secret ≡ got
+      → Answers (head_of s) (trees_of s) s.pass.session (standing s) (Hello name secret)
+      (plain (record (standing s) { who = (greeted (length s.pass.seen) s.pass.session who got).who }) (greeted (length s.pass.seen) s.pass.session who got).reply)
+  hello_turn who got who_is got_is = told.hello name secret (greeted (length s.pass.seen) s.pass.session who got) refl (λ i. greeted (length s.pass.seen) s.pass.session (sym who_is i) (sym got_is i)) refl
+
+  pub again_turn : (p : ℕ) (at : ℕ) → who_of s ≡ Some p → at ≡ length s.pass.seen → IsTurn s s [] (Hello name secret) (RefusedReply at 2)
+  again_turn p at who_is at_is =
+      subst (λ (n : ℕ). IsTurn s s [] (Hello name secret) (RefusedReply n 2)) (sym at_is)
+      (still_turn s (Hello name secret) (RefusedReply (length s.pass.seen) 2)
+      (subst (λ (w : Option ℕ). Answers (head_of s) (trees_of s) s.pass.session (standing s) (Hello name secret) (plain (record (standing s) { who = w }) (RefusedReply (length s.pass.seen) 2))) (sym who_is)
+      (hello_turn (Some p) (admitted (head_of s).principals name secret) who_is refl)))
+
+  pub unknown_turn : (at : ℕ) → who_of s ≡ None → admitted (head_of s).principals name secret ≡ None → at ≡ length s.pass.seen → IsTurn s s [] (Hello name secret) (RefusedReply at 3)
+  unknown_turn at who_is none at_is =
+      subst (λ (n : ℕ). IsTurn s s [] (Hello name secret) (RefusedReply n 3)) (sym at_is)
+      (still_turn s (Hello name secret) (RefusedReply (length s.pass.seen) 3)
+      (subst (λ (w : Option ℕ). Answers (head_of s) (trees_of s) s.pass.session (standing s) (Hello name secret) (plain (record (standing s) { who = w }) (RefusedReply (length s.pass.seen) 3))) (sym who_is)
+      (hello_turn None None who_is none)))
+
+  pub welcome_turn : (p at session : ℕ) (a : Admitted) → who_of s ≡ None → admitted (head_of s).principals name secret ≡ Some p → a.number ≡ p → at ≡ length s.pass.seen → session ≡ s.pass.session
+      → IsTurn s (record s { admitted = Some a }) [] (Hello name secret) (Welcome session at)
+  welcome_turn p at session a who_is found_is number at_is session_is = record {
+    turn = plain (record (standing s) { who = Some p }) (Welcome s.pass.session (length s.pass.seen));
+    answers = hello_turn None (Some p) who_is found_is;
+    reply_is = λ i. Welcome (sym session_is i) (sym at_is i);
+    asks_are = refl;
+    trail = sym (append-nil s.pass.trail);
+    own_is = sym (append-nil (own_in s.pass));
+    after = λ i. record (standing s) { who = Some (sym number i) };
+    seen = prefix_whole s.pass.seen;
+    session_is = refl;
+    board_is = refl;
+  }
+
+-- ---- Changes
+
+slice_get_end : (xs : List EntryTree) (x : EntryTree) → slice_get (xs ++ x ∷ []) (length xs) ≡ Some x
+slice_get_end [] x = refl
+slice_get_end (y ∷ xs) x = slice_get_end xs x
+
+ok_due : (r : Result Due Refusal) → IsOk r → (due : Due) × (r ≡ Ok due)
+ok_due (Ok due) ok = (due, refl)
+ok_due (Err refusal) ok = absurd (cc ok)
+
+module _ {K : Type 0} (sent : K → List ℕ) (faults : K → ℕ) (old new : BookValue K) (s : BoardSession) (q : PassValue Entry Head) (p : ℕ) (event : Event) (line : List ℕ) (request : Request)
+    (board_is : old.board ≡ s.pass.board) (who : who_of s ≡ Some p) (is_event : IsEventOf request (event_tree event)) where
+  -- a change that is decided where the history ends so
+  decided_at : (later : List Entry) → IsPrefix old.entries later → decided old s.pass.session p event ≡ decision (head_of s) (state_at (head_of s) (entry_trees later) (length old.entries)) s.pass.session p (event_tree event)
+  decided_at later prefix =
+      ap (λ (b : Identity Entry Head). decision b.origin.setting (replay b.origin.setting (entry_trees old.entries)) s.pass.session p (event_tree event)) board_is
+      ∙ ap (λ (es : List EntryTree). decision (head_of s) (replay (head_of s) es) s.pass.session p (event_tree event)) (sym (first_trees old.entries later (length old.entries) refl prefix))
+
+  seen_at : (later : List Entry) → IsPrefix old.entries later → IsMetIn old s.pass → IsSeen (entry_trees later) (length s.pass.seen) (length old.entries)
+  seen_at later prefix met =
+      let long = prefix_length old.entries later prefix in
+      let count = trees_count later in
+      (prefix_length s.pass.seen old.entries met.seen, omega (arith, long, count))
+
+  own_now : (answer : Written) → IsAnsweredBy sent faults old new s.pass q p event line answer → q.session ≡ s.pass.session
+      → own_in q ≡ own_in s.pass ++ entry_trees (added_by answer (record { session = s.pass.session; principal = p; event = event }))
+  own_now answer answered session =
+      own_trees q ∙ ap (λ (n : ℕ). entry_trees (own session_of (met_seen q) n)) session ∙ ap entry_trees (own_written sent faults old new s.pass q p event line answer answered)
+      ∙ map-append entry_tree (own session_of (met_seen s.pass) s.pass.session) (added_by answer (record { session = s.pass.session; principal = p; event = event }))
+      ∙ ap (λ (es : List EntryTree). es ++ entry_trees (added_by answer (record { session = s.pass.session; principal = p; event = event }))) (sym (own_trees s.pass))
+
+  -- a refusal
+  refused_by : (refusal : Refusal) (own_is : own_in q ≡ own_in s.pass ++ []) → q ≡ met_in old s.pass → IsMetIn old s.pass
+      → told.Changes (head_of s) (entry_trees old.entries) s.pass.session (standing s) p (event_tree event) (stepped (record (standing s) { low = length old.entries }) (RefusedReply (length old.entries) (refusal_number refusal)) [] (Met (length old.entries) ∷ []))
+      → IsTurn s (record s { pass = q }) [] request (RefusedReply (length old.entries) (refusal_number refusal))
+  refused_by refusal own_is is met changes =
+      let seen : old.entries ≡ q.seen = sym (ap (λ (x : PassValue Entry Head). x.seen) is) in
+      let turn : Turn = stepped (record (standing s) { low = length old.entries }) (RefusedReply (length old.entries) (refusal_number refusal)) [] (Met (length old.entries) ∷ []) in
+      record {
+        turn = turn;
+        answers = told.change p (event_tree event) who is_event (subst (λ (es : List Entry). told.Changes (head_of s) (entry_trees es) s.pass.session (standing s) p (event_tree event) turn) seen changes);
+        reply_is = refl;
+        asks_are = refl;
+        trail = ap (λ (x : PassValue Entry Head). x.trail) is;
+        own_is = own_is;
+        after = ap (λ (es : List Entry). record (standing s) { low = length es }) seen;
+        seen = subst (λ (es : List Entry). IsPrefix s.pass.seen es) seen met.seen;
+        session_is = ap (λ (x : PassValue Entry Head). x.session) is;
+        board_is = ap (λ (x : PassValue Entry Head). x.board) is ∙ board_is;
+      }
+
+  pub written_turn : (answer : Written) → IsAnsweredBy sent faults old new s.pass q p event line answer → IsTurn s (record s { pass = q }) [] request (reply_of answer)
+  written_turn (written.Done at number) d =
+      let e : Entry = record { session = s.pass.session; principal = p; event = event } in
+      let later : List Entry = old.entries ++ e ∷ [] in
+      let prefix : IsPrefix old.entries later = (e ∷ [], refl) in
+      let entries : new.entries ≡ later = ap (λ (b : BookValue K). b.entries) d.book in
+      let seen : q.seen ≡ later = ap (λ (x : PassValue Entry Head). x.seen) d.pass_is ∙ entries in
+      let count : length later ≡ length old.entries + 1 = length-append old.entries (e ∷ []) in
+      let due : Due = record { number = number; bytes = d.accepted.0 } in
+      let session : q.session ≡ s.pass.session = ap (λ (x : PassValue Entry Head). x.session) d.pass_is in
+      let trees : entry_trees later ≡ entry_trees old.entries ++ entry_tree e ∷ [] = map-append entry_tree old.entries (e ∷ []) in
+      let got : slice_get (entry_trees later) (length old.entries) ≡ Some (entry_tree e) =
+      (λ i. slice_get (trees i) (sym (trees_count old.entries) i)) ∙ slice_get_end (entry_trees old.entries) (entry_tree e) in
+      let turn : Turn = record {
+        reply = DoneReply (length old.entries + 1) number;
+        asks = [];
+        steps = Met (length old.entries) ∷ Met (length old.entries + 1) ∷ [];
+        added = entry_tree e ∷ [];
+        after = record (standing s) { low = length old.entries + 1 };
+      } in
+      record {
+        turn = turn;
+        answers = subst (λ (es : List Entry). Answers (head_of s) (entry_trees es) s.pass.session (standing s) request turn) (sym seen)
+            (told.change p (event_tree event) who is_event
+            (told.done (length old.entries) due (seen_at later prefix d.met) (sym (decided_at later prefix) ∙ d.accepted.1) got refl));
+        reply_is = ap (λ (n : ℕ). DoneReply n number) (sym d.at_is);
+        asks_are = refl;
+        trail = ap (λ (x : PassValue Entry Head). x.trail) d.pass_is
+            ∙ ap (λ (n : ℕ). (s.pass.trail ++ Met (length old.entries) ∷ []) ++ Met n ∷ []) (ap length entries ∙ count)
+            ∙ append_assoc s.pass.trail (Met (length old.entries) ∷ []) (Met (length old.entries + 1) ∷ []);
+        own_is = own_now (written.Done at number) d session;
+        after = ap (λ (n : ℕ). record (standing s) { low = n }) (sym (ap length seen ∙ count));
+        seen = subst (λ (es : List Entry). IsPrefix s.pass.seen es) (sym seen) (prefix_grows s.pass.seen old.entries (e ∷ []) d.met.seen);
+        session_is = session;
+        board_is = ap (λ (x : PassValue Entry Head). x.board) d.pass_is ∙ ap (λ (b : BookValue K). b.board) d.book ∙ board_is;
+      }
+  written_turn (written.Refused at refusal) r =
+      let session : q.session ≡ s.pass.session = ap (λ (x : PassValue Entry Head). x.session) r.pass_is in
+      subst (λ (n : ℕ). IsTurn s (record s { pass = q }) [] request (RefusedReply n (refusal_number refusal))) (sym r.at_is)
+      (refused_by refusal (own_now (written.Refused at refusal) r session) r.pass_is r.met (refusal_of r.why))
+    where
+      refusal_of : ((decided old s.pass.session p event ≡ Err refusal) × (new ≡ old)) ⊎ ((refusal ≡ NotRecorded) × IsUnrecorded sent faults old new s.pass q p event line)
+          → told.Changes (head_of s) (entry_trees old.entries) s.pass.session (standing s) p (event_tree event) (stepped (record (standing s) { low = length old.entries }) (RefusedReply (length old.entries) (refusal_number refusal)) [] (Met (length old.entries) ∷ []))
+      refusal_of (inl why) = told.refused (length old.entries) refusal (seen_at old.entries (prefix_whole old.entries) r.met) (sym (decided_at old.entries (prefix_whole old.entries)) ∙ why.0) refl
+      refusal_of (inr why) =
+          let due = ok_due (decided old s.pass.session p event) why.1.accepted in
+          told.not_recorded (length old.entries) due.0 (seen_at old.entries (prefix_whole old.entries) r.met) (sym (decided_at old.entries (prefix_whole old.entries)) ∙ due.1)
+          (ap (λ (x : Refusal). stepped (record (standing s) { low = length old.entries }) (RefusedReply (length old.entries) (refusal_number x)) [] (Met (length old.entries) ∷ [])) why.0)
+  written_turn written.NoMemory m = subst (λ (x : PassValue Entry Head). IsTurn s (record s { pass = x }) [] request NoMemory) (sym m.pass_is) (given_up_any s request)
+
+  met_ready : (board : Identity Entry Head) → IsReady board s → q.board ≡ s.pass.board → IsPrefix s.pass.seen q.seen → last_met q.trail ≡ length q.seen → IsReady board (record s { pass = q })
+  met_ready board ready same prefix last = record {
+    board_is = same ∙ ready.board_is;
+    met = omega (arith, last);
+    who = ready.who;
+    known = known_stay board.origin.setting (trees_of s) (entry_trees q.seen) (who_of s) s.known.rows (trees_prefix s.pass.seen q.seen prefix) ready.known;
+  }
+
+  pub written_ready : (board : Identity Entry Head) → IsReady board s → (answer : Written) → IsAnsweredBy sent faults old new s.pass q p event line answer → IsReady board (record s { pass = q })
+  written_ready board ready (written.Done at number) d =
+      let turn = written_turn (written.Done at number) d in
+      met_ready board ready turn.board_is turn.seen (ap (λ (x : PassValue Entry Head). last_met x.trail) d.pass_is ∙ last_met_now (s.pass.trail ++ Met (length old.entries) ∷ []) (length new.entries)
+      ∙ sym (ap (λ (x : PassValue Entry Head). length x.seen) d.pass_is))
+  written_ready board ready (written.Refused at refusal) r =
+      let turn = written_turn (written.Refused at refusal) r in
+      met_ready board ready turn.board_is turn.seen (ap (λ (x : PassValue Entry Head). last_met x.trail) r.pass_is ∙ last_met_now s.pass.trail (length old.entries)
+      ∙ sym (ap (λ (x : PassValue Entry Head). length x.seen) r.pass_is))
+  written_ready board ready written.NoMemory m = subst (λ (x : PassValue Entry Head). IsReady board (record s { pass = x })) (sym m.pass_is) ready
+
+-- ---- Who is admitted
+
+module _ (principals : List Principal) (name secret : List ℕ) where
+  pub named_so : (p : ℕ) → admitted principals name secret ≡ Some p → name_of principals p ≡ name
+  named_so p found =
+      let none : Principal = record { name = []; secret = [] } in
+      let at = position-Some (λ (x : Principal). same_bytes name x.name && same_bytes secret x.secret) principals p none found in
+      let same = both_same (same_bytes name (get_or principals p none).name) (same_bytes secret (get_or principals p none).secret) at.1 in
+      ap (λ (o : Option Principal). unwrap_or (option_map (λ (x : Principal). x.name) o) []) (slice_get-get_or principals p none at.0) ∙ sym ((same_bytes-Decides name (get_or principals p none).name).0 same.0)
+
+no_rows : (h : Head) (es : List EntryTree) (p : ℕ) (who : Option ℕ) (rows : List KnownRow) → who ≡ None → AreKnown h es who rows → AreKnown h es (Some p) rows
+no_rows h es p who rows nobody known =
+    let none : rows ≡ [] = subst (λ (w : Option ℕ). AreKnown h es w rows) nobody known in
+    subst (λ (xs : List KnownRow). AreKnown h es (Some p) xs) (sym none) (All-nil (IsKnownRow h es p))
+
+pub welcome_ready : (board : Identity Entry Head) (s : BoardSession) (a : Admitted) (name secret : List ℕ) → IsReady board s → who_of s ≡ None → a.number < length board.origin.setting.principals → a.name ≡ name
+    → admitted board.origin.setting.principals name secret ≡ Some a.number → IsReady board (record s { admitted = Some a })
+welcome_ready board s a name secret ready nobody below name_is found = record {
+  board_is = ready.board_is;
+  met = ready.met;
+  who = (below, name_is ∙ sym (named_so board.origin.setting.principals name secret a.number found));
+  known = no_rows board.origin.setting (trees_of s) a.number (who_of s) s.known.rows nobody ready.known;
+}
+
+-- who is found by a session's head
+pub found_here : (board : Identity Entry Head) (s : BoardSession) (name secret : List ℕ) (found : Option ℕ) (got : Option ℕ) → IsReady board s → found ≡ admitted board.origin.setting.principals name secret → found ≡ got
+    → admitted (head_of s).principals name secret ≡ got
+found_here board s name secret found got ready is got_is = ap (λ (b : Identity Entry Head). admitted b.origin.setting.principals name secret) ready.board_is ∙ sym is ∙ got_is
+
+-- the line of a change
+pub line_for : (h : Head) (session p : ℕ) (name : List ℕ) (e : EventTree) (line : List ℕ) → name ≡ name_of h.principals p → (IsSpelledWhole e → line ≡ entry_line session name e) → (¬ IsSpelledWhole e → line ≡ [])
+    → IsLineFor h (record { session = session; principal = p; event = e }) line
+line_for h session p name e line name_is spelled none = (λ whole. spelled whole ∙ ap (λ (x : List ℕ). entry_line session x e) name_is, none)
+
+pub nobody_of : (s : BoardSession) → s.admitted ≡ None → who_of s ≡ None
+nobody_of s none = ap (λ (a : Option Admitted). option_map (λ (x : Admitted). x.number) a) none
+
+pub somebody_of : (s : BoardSession) (a : Admitted) → s.admitted ≡ Some a → who_of s ≡ Some a.number
+somebody_of s a some = ap (λ (o : Option Admitted). option_map (λ (x : Admitted). x.number) o) some

@@ -1,0 +1,22 @@
+use Rattle.std.proofs.Common.{sym, ◌∙◌}
+use Rattle.session_core.proofs.BoardTurns.{early_change, given_up_any, nobody_of, somebody_of, written_ready, written_turn}
+use Rattle.session_core.proofs.board_session.BoardSession.change.Goals as goal
+
+pub returns-in_default-clause-turn : goal.returns-in_default-clause-turn
+returns-in_default-clause-turn g c = early_change c.args.self c.args.request.now _ (nobody_of c.args.self c.in_default.is) c.requires.no_hello c.at-at.ensures.length
+
+pub returns-in_default-event_of-clause-turn : goal.returns-in_default-event_of-clause-turn
+returns-in_default-event_of-clause-turn g c = given_up_any c.args.self _
+
+pub returns-in_default-policy_line-clause-turn : goal.returns-in_default-policy_line-clause-turn
+returns-in_default-policy_line-clause-turn g c = given_up_any c.args.self _
+
+pub returns-clause-turn : goal.returns-clause-turn
+returns-clause-turn g c =
+    rw c.written_reply.ensures (written_turn g.K.Sink.sent g.K.Sink.faults c.deref_mut.result.now c.write-pass.new.self c.args.self c.write-pass.result.0 c.in-Some.who.number c.in-Ok-Some.event _ c.args.request.now
+    (c.write-pass.ensures.board ∙ sym c.requires.ready.board_is) (somebody_of c.args.self _ c.in-Some.is) (rw c.in-Ok-Some.field-0-is at c.in-Ok-Some.ensures.event) c.write-pass.result.1 c.write-pass.ensures.answered)
+
+pub returns-clause-ready : goal.returns-clause-ready
+returns-clause-ready g c =
+    written_ready g.K.Sink.sent g.K.Sink.faults c.deref_mut.result.now c.write-pass.new.self c.args.self c.write-pass.result.0 c.in-Some.who.number c.in-Ok-Some.event _ c.args.request.now
+    (c.write-pass.ensures.board ∙ sym c.requires.ready.board_is) (somebody_of c.args.self _ c.in-Some.is) (rw c.in-Ok-Some.field-0-is at c.in-Ok-Some.ensures.event) c.args.board.now c.requires.ready c.write-pass.result.1 c.write-pass.ensures.answered

@@ -1,0 +1,244 @@
+//! A session over a link and the shared board.
+ghost use Rattle.std.specs.Prelude.{◌≡◌, ◌≢◌, ◌≤◌, [], false, true, length, All, Some};
+ghost use Rattle.nx_io.specs.Links.{KeepsOrigin};
+ghost use Rattle.nx_io.specs.Streams.{Grows, MayRise, gained};
+ghost use Rattle.guard_core.specs.Judging.{asks_after};
+ghost use Rattle.policy_history.specs.Values.{entry_trees};
+ghost use Rattle.verdict_words.specs.Histories.{IsPrefix};
+ghost use Rattle.session_core.specs.Ends.{faults_after_end, is_over};
+ghost use Rattle.session_core.specs.Served.{IsServedOver};
+ghost use Rattle.session_core.specs.Inner.Boarding.{HasGone, IsReady};
+ghost use Rattle.session_core.specs.Inner.Sittings.{HasSat};
+
+use crate::board_session::BoardSession;
+use crate::ends::SessionEnd;
+use crate::known::Known;
+use crate::sitting::{Sitting, serve_sitting};
+use authority_ask::Panel;
+use nx_io::{Gate, Link, Place, Sink};
+use policy_book::{BookNaming, NalMatter, Shelf};
+use session_wire::{FrameReader, Reply, Request};
+use std::alloc::{AllocError, Global};
+use std::net::{Net, TcpListener, TcpStream};
+use std::rt::Clock;
+use std::sync::{Mutex, Wait};
+use verdict_words::{Board, Pass};
+
+/// What is reported of a session over the shared board.
+#[derive(Drop)]
+pub struct Report<L> {
+    pub session: u64,
+    /// Who was admitted in it, if anybody was.
+    pub principal: Option<u32>,
+    pub link: L,
+    pub pass: Pass<NalMatter>,
+    pub end: SessionEnd,
+}
+
+/// A session, with what it shares with others.
+#[derive(Drop)]
+pub struct Sharing<'a, K: Sink, N: BookNaming, G: Gate> {
+    pub session: BoardSession,
+    pub board: &'a Board<NalMatter>,
+    pub book: &'a Mutex<Shelf<K, N>>,
+    pub gate: &'a G,
+}
+
+impl<
+    'a,
+    K: Sink,
+    N: BookNaming,
+    G: Gate,
+    P: Panel,
+    R: Net<Listener = TcpListener, Stream = TcpStream> + Clock + Wait,
+> Sitting<R, (), P> for Sharing<'a, K, N, G> {
+    ghost use Rattle.session_core.specs.Inner.Boarding.{IsReady, HasGone};
+    ghost use Rattle.std.specs.Prelude.{◌≡◌, Some};
+
+    ghost ready = { λ s book panel. (N.board ≡ Some s.board.now) × IsReady s.board.now s.session };
+
+    ghost told = { λ first book_first panel_first s book panel requests replies. HasGone first.session s.session (record {
+      said = P.said panel_first;
+      asks = P.asks panel_first;
+      reached = P.reached panel_first;
+      faults = P.faults panel_first;
+    }) (record {
+      said = P.said panel;
+      asks = P.asks panel;
+      reached = P.reached panel;
+      faults = P.faults panel;
+    }) requests replies };
+
+    fn answer(
+        self,
+        rt: &R,
+        alloc: Global,
+        request: &Request,
+        _book: &mut (),
+        panel: &mut P,
+    ) -> (Self, Reply) {
+        let Sharing {
+            session,
+            board,
+            book,
+            gate,
+        } = self;
+        let (session, reply) = session.answer(rt, alloc, board, book, gate, request, panel);
+        let sharing = Sharing {
+            session,
+            board,
+            book,
+            gate,
+        };
+        (sharing, reply)
+    }
+
+    fn give_up(self) -> Self {
+        self
+    }
+
+    fn replied(&self, rt: &R) {
+        let session = self.session.pass.session();
+        let principal = self.session.principal();
+        self.gate.at(rt, Place::Answered { session, principal });
+    }
+}
+
+/// Serves one session over a link and the shared board, and closes the link. Frames are taken and answered one after another,
+/// and each reply is sent before a byte of the next frame is taken. A call on a case that the session knows looks for its
+/// verdict without the lock; the lock is held for a snapshot or a change alone. `docs/LOGIC.md`, "Sessions over a board",
+/// states each answer.
+///
+/// The ends are those of `serve_on`. The report has the number and the principal of the session, how it ended, and its link
+/// and pass.
+pub fn serve_link<
+    L: Link,
+    P: Panel,
+    K: Sink,
+    N: BookNaming,
+    G: Gate,
+    R: Net<Listener = TcpListener, Stream = TcpStream> + Clock + Wait,
+>(
+    rt: &R,
+    alloc: Global,
+    board: &Board<NalMatter>,
+    book: &Mutex<Shelf<K, N>>,
+    pass: Pass<NalMatter>,
+    link: L,
+    panel: &mut P,
+    gate: &G,
+) -> Report<L>
+    requires named { N.board ≡ Some board.now }
+    requires board { pass.board ≡ board.now }
+    requires trail { pass.trail ≡ [] }
+    requires unused { All (λ entry. entry.session ≢ pass.session) pass.seen }
+    requires taken { L.taken link ≡ [] }
+    requires sent { L.sent link ≡ [] }
+    requires over { L.over link ≡ false }
+    requires closed { L.closed link ≡ false }
+    ensures told { IsServedOver board.now.origin.setting (length board.now.origin.opening) (record {
+      session = result.session;
+      end = result.end;
+      who = result.principal;
+      taken = L.taken result.link;
+      sent = L.sent result.link;
+      seen = entry_trees result.pass.seen;
+      trail = result.pass.trail;
+    }) (gained (P.said panel.old) (P.said panel.new)) (P.faults panel.old) (P.faults panel.new) }
+    ensures session { (result.session ≡ pass.session) × (result.pass.session ≡ pass.session) }
+    ensures board { result.pass.board ≡ board.now }
+    ensures seen { IsPrefix pass.seen result.pass.seen }
+    ensures over { L.over result.link ≡ is_over result.end }
+    ensures closed { L.closed result.link ≡ true }
+    ensures origin { KeepsOrigin (L.place link) (L.place result.link) (L.toward link) (L.toward result.link) }
+    ensures link_later { L.faults link ≤ L.faults result.link }
+    ensures link_count { MayRise (faults_after_end result.end (L.faults link)) (L.faults result.link) }
+    ensures said { Grows (P.said panel.old) (P.said panel.new) }
+    ensures asks { P.asks panel.new ≡ asks_after (gained (P.said panel.old) (P.said panel.new)) (P.asks panel.old) }
+    ensures reached { P.reached panel.new ≡ P.reached panel.old }
+    ensures later { P.faults panel.old ≤ P.faults panel.new }
+{
+    let mut link = link;
+    let pass = book.lock(rt).meet(board, pass);
+    let _at = pass.at();
+    let number = pass.session();
+    let session = BoardSession {
+        pass,
+        admitted: None,
+        known: Known::new(alloc),
+    };
+    let (session, end) = sit(rt, alloc, board, book, gate, session, &mut link, panel);
+    link.close();
+    let principal = session.principal();
+    Report {
+        session: number,
+        principal,
+        link,
+        pass: session.pass,
+        end,
+    }
+}
+
+/// Takes and answers the frames of a session, in which nothing was told yet.
+fn sit<
+    L: Link,
+    P: Panel,
+    K: Sink,
+    N: BookNaming,
+    G: Gate,
+    R: Net<Listener = TcpListener, Stream = TcpStream> + Clock + Wait,
+>(
+    rt: &R,
+    alloc: Global,
+    board: &Board<NalMatter>,
+    book: &Mutex<Shelf<K, N>>,
+    gate: &G,
+    session: BoardSession,
+    link: &mut L,
+    panel: &mut P,
+) -> (BoardSession, SessionEnd)
+    requires named { N.board ≡ Some board.now }
+    requires ready { IsReady board.now session }
+    requires taken { L.taken link.old ≡ [] }
+    requires sent { L.sent link.old ≡ [] }
+    requires over { L.over link.old ≡ false }
+    ensures ready { IsReady board.now result.0 }
+    ensures sat { HasSat (λ requests replies. HasGone session result.0 (record {
+      said = P.said panel.old;
+      asks = P.asks panel.old;
+      reached = P.reached panel.old;
+      faults = P.faults panel.old;
+    }) (record {
+      said = P.said panel.new;
+      asks = P.asks panel.new;
+      reached = P.reached panel.new;
+      faults = P.faults panel.new;
+    }) requests replies) result.1 (L.taken link.new) (L.sent link.new) }
+    ensures over { L.over link.new ≡ is_over result.1 }
+    ensures origin { KeepsOrigin (L.place link.old) (L.place link.new) (L.toward link.old) (L.toward link.new) }
+    ensures link_later { L.faults link.old ≤ L.faults link.new }
+    ensures link_count { L.faults link.new ≡ faults_after_end result.1 (L.faults link.old) }
+{
+    match FrameReader::new(alloc) {
+        Ok(mut reader) => {
+            let sharing = Sharing {
+                session,
+                board,
+                book,
+                gate,
+            };
+            let (sharing, end) = serve_sitting(
+                rt,
+                alloc,
+                sharing,
+                &mut reader,
+                link,
+                &mut (),
+                panel,
+            );
+            let Sharing { session, .. } = sharing;
+            (session, end)
+        }
+        Err(AllocError) => (session, SessionEnd::Memory),
+    }
+}
