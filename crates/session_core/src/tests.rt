@@ -13,9 +13,6 @@ use std::test::Fail;
 
 const POLICY: &[u8] = b"nexus 1\nprincipal alice pa\nend\n";
 
-// One of two principals, for a label that is given away.
-const SHARED: &[u8] = b"nexus 1\nprincipal fs pf\nprincipal bob pb\nend\n";
-
 // A hello, an object, a goal, a label, a proof by it, and two calls.
 fn requests() -> &'static [u8] {
     b"\0\0\0\x0c\x01\0\x05alice\0\x02pa\
@@ -78,13 +75,8 @@ fn serve_over<R: Net<Listener = TcpListener, Stream = TcpStream> + Clock>(
     left: &[u8],
     case: &Case,
 ) -> Result<String, AllocError> {
-    let mut journal = journal_of(alloc, POLICY)?;
-    told_over(rt, alloc, &mut journal, left, case)
-}
-
-fn journal_of(alloc: Global, policy: &[u8]) -> Result<Journal, AllocError> {
-    match read_policy(alloc, policy) {
-        Ok(journal) => Ok(journal),
+    match read_policy(alloc, POLICY) {
+        Ok(mut journal) => told_over(rt, alloc, &mut journal, left, case),
         Err(_) => Err(AllocError),
     }
 }
@@ -243,130 +235,5 @@ fn a_session_is_spent_by_its_last_request(rt: HostRuntime) -> Result<(), Fail> {
     };
     let told = serve_over(&rt, alloc, left.as_slice(), &case)?;
     assert_eq!(rt; told.as_str(), "Spent 22020096 false true");
-    Ok(())
-}
-
-// Requests of one session, most of which are refused, and what each is told: an object, a goal that is set and cleared, and names that nobody has.
-fn refused_requests() -> &'static [u8] {
-    b"\0\0\0\x0c\x01\0\x05alice\0\x02pa\
-    \0\0\0\x12\x0c\0\x04read\0\x01f\0\0\0\0\0\0\0\0\
-    \0\0\0\x04\x05\0\x01f\
-    \0\0\0\x12\x0c\0\x04read\0\x01f\0\0\0\0\0\0\0\0\
-    \0\0\0\x10\x06\0\x04read\0\x01f\0\x04true\
-    \0\0\0\x12\x0c\0\x04read\0\x01f\0\0\0\0\0\0\0\0\
-    \0\0\0\x0a\x07\0\x04read\0\x01f\
-    \0\0\0\x0a\x07\0\x04read\0\x01f\
-    \0\0\0\x0a\x09\0\x04read\0\x01f\
-    \0\0\0\x08\x0b\0\x05alice\
-    \0\0\0\x10\x0a\0\x05alice\0\0\0\0\0\0\0\x03\
-    \0\0\0\x0a\x02\0\x03bob\0\x02ok\
-    \0\0\0\x0e\x03\0\0\0\0\0\0\0\x01\0\x03bob"
-}
-
-// Their replies.
-fn refused_replies() -> &'static [u8] {
-    b"\0\0\0\x11A\0\0\0\0\0\0\0\x01\0\0\0\0\0\0\0\0\
-    \0\0\0\x11E\0\0\0\0\0\0\0\0\0\0\0\0\0\0\0\x08\
-    \0\0\0\x11B\0\0\0\0\0\0\0\x01\0\0\0\0\0\0\0\0\
-    \0\0\0!D\0\0\0\0\0\0\0\x01\0\0\0\0\0\0\0\x01\0\0\0\0\0\0\0\0\0\0\0\0\0\0\0\0\
-    \0\0\0\x11B\0\0\0\0\0\0\0\x02\0\0\0\0\0\0\0\0\
-    \0\0\0!D\0\0\0\0\0\0\0\x02\0\0\0\0\0\0\0\x02\0\0\0\0\0\0\0\0\0\0\0\0\0\0\0\0\
-    \0\0\0\x11B\0\0\0\0\0\0\0\x03\0\0\0\0\0\0\0\0\
-    \0\0\0\x11E\0\0\0\0\0\0\0\x03\0\0\0\0\0\0\0\x0b\
-    \0\0\0\x11E\0\0\0\0\0\0\0\x03\0\0\0\0\0\0\0\x0c\
-    \0\0\0\x11E\0\0\0\0\0\0\0\x03\0\0\0\0\0\0\0\x0d\
-    \0\0\0\x11E\0\0\0\0\0\0\0\x03\0\0\0\0\0\0\0\x0e\
-    \0\0\0\x11E\0\0\0\0\0\0\0\x03\0\0\0\0\0\0\0\x05\
-    \0\0\0\x11E\0\0\0\0\0\0\0\x03\0\0\0\0\0\0\0\x04"
-}
-
-// A second session over the same journal: a request before its hello, a wrong secret, its hello, and another.
-fn greeted_requests() -> &'static [u8] {
-    b"\0\0\0\x04\x05\0\x01g\
-    \0\0\0\x0c\x01\0\x05alice\0\x02xx\
-    \0\0\0\x0c\x01\0\x05alice\0\x02pa\
-    \0\0\0\x0c\x01\0\x05alice\0\x02pa"
-}
-
-// Their replies.
-fn greeted_replies() -> &'static [u8] {
-    b"\0\0\0\x11E\0\0\0\0\0\0\0\x03\0\0\0\0\0\0\0\x01\
-    \0\0\0\x11E\0\0\0\0\0\0\0\x03\0\0\0\0\0\0\0\x03\
-    \0\0\0\x11A\0\0\0\0\0\0\0\x02\0\0\0\0\0\0\0\x03\
-    \0\0\0\x11E\0\0\0\0\0\0\0\x03\0\0\0\0\0\0\0\x02"
-}
-
-// An object, a goal that speaks of the caller, and a label that is given away.
-fn given_requests() -> &'static [u8] {
-    b"\0\0\0\x09\x01\0\x02fs\0\x02pf\
-    \0\0\0\x04\x05\0\x01f\
-    \0\0\0!\x06\0\x04read\0\x01f\0\x15fs says may(?subject)\
-    \0\0\0\x0f\x02\0\x02fs\0\x08may(bob)\
-    \0\0\0\x0e\x03\0\0\0\0\0\0\0\x03\0\x03bob"
-}
-
-// Their replies.
-fn given_replies() -> &'static [u8] {
-    b"\0\0\0\x11A\0\0\0\0\0\0\0\x01\0\0\0\0\0\0\0\0\
-    \0\0\0\x11B\0\0\0\0\0\0\0\x01\0\0\0\0\0\0\0\0\
-    \0\0\0\x11B\0\0\0\0\0\0\0\x02\0\0\0\0\0\0\0\0\
-    \0\0\0\x11B\0\0\0\0\0\0\0\x03\0\0\0\0\0\0\0\x03\
-    \0\0\0\x11B\0\0\0\0\0\0\0\x04\0\0\0\0\0\0\0\0"
-}
-
-// The label serves its new holder.
-fn used_requests() -> &'static [u8] {
-    b"\0\0\0\x0a\x01\0\x03bob\0\x02pb\
-    \0\0\06\x08\0\x04read\0\x01f\0*proof 1 ; 1 label : fs says may(bob) ; end\
-    \0\0\0\x12\x0c\0\x04read\0\x01f\0\0\0\0\0\0\0\0"
-}
-
-// Their replies.
-fn used_replies() -> &'static [u8] {
-    b"\0\0\0\x11A\0\0\0\0\0\0\0\x02\0\0\0\0\0\0\0\x04\
-    \0\0\0\x11B\0\0\0\0\0\0\0\x05\0\0\0\0\0\0\0\0\
-    \0\0\0\x19C\0\0\0\0\0\0\0\x05\0\0\0\0\0\0\0\0\0\0\0\0\0\0\0\0"
-}
-
-// It serves its giver no more: the goal speaks of whoever calls.
-fn tried_requests() -> &'static [u8] {
-    b"\0\0\0\x09\x01\0\x02fs\0\x02pf\
-    \0\0\06\x08\0\x04read\0\x01f\0*proof 1 ; 1 label : fs says may(bob) ; end\
-    \0\0\0\x12\x0c\0\x04read\0\x01f\0\0\0\0\0\0\0\0"
-}
-
-// Their replies.
-fn tried_replies() -> &'static [u8] {
-    b"\0\0\0\x11A\0\0\0\0\0\0\0\x03\0\0\0\0\0\0\0\x05\
-    \0\0\0\x11B\0\0\0\0\0\0\0\x06\0\0\0\0\0\0\0\x01\
-    \0\0\0!D\0\0\0\0\0\0\0\x06\0\0\0\0\0\0\0\x03\0\0\0\0\0\0\0\x01\0\0\0\0\0\0\0\x0c"
-}
-
-#[test]
-fn sessions_are_answered_one_after_another(rt: HostRuntime) -> Result<(), Fail> {
-    let alloc = rt.alloc();
-    let mut journal = journal_of(alloc, POLICY)?;
-    for (asked, replies, told) in [
-        (
-            refused_requests(),
-            refused_replies(),
-            "Closed 305 true true",
-        ),
-        (greeted_requests(), greeted_replies(), "Closed 84 true true"),
-    ] {
-        let case = Case { replies, ..whole() };
-        let told_now = told_over(&rt, alloc, &mut journal, asked, &case)?;
-        assert_eq!(rt; told_now.as_str(), told);
-    }
-    let mut journal = journal_of(alloc, SHARED)?;
-    for (asked, replies, told) in [
-        (given_requests(), given_replies(), "Closed 105 true true"),
-        (used_requests(), used_replies(), "Closed 71 true true"),
-        (tried_requests(), tried_replies(), "Closed 79 true true"),
-    ] {
-        let case = Case { replies, ..whole() };
-        let told_now = told_over(&rt, alloc, &mut journal, asked, &case)?;
-        assert_eq!(rt; told_now.as_str(), told);
-    }
     Ok(())
 }
