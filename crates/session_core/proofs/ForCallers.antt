@@ -1,9 +1,9 @@
 -- Laws of what sessions are told, which the proofs of other crates may cite.
-use Rattle.std.proofs.Common.{◌≡◌, ℕ, List, [], ◌∷◌, ◌++◌, refl, sym, ◌∙◌, ap, subst, append_assoc}
+use Rattle.std.proofs.Common.{◌≡◌, ℕ, List, [], ◌∷◌, ◌++◌, Option, refl, sym, ◌∙◌, ap, subst, append_assoc}
 use Rattle.std.proofs.lemmas.List.{append-nil}
 use Rattle.policy_history.specs.declared.heads.Head.{Head}
-use Rattle.nx_io.specs.Streams.{gained, Grows}
-use Rattle.nx_io.proofs.ForCallers.{gained-by, grows-by}
+use Rattle.nx_io.specs.Streams.{Gave, gained, Grows, prepended}
+use Rattle.nx_io.proofs.ForCallers.{gained-by, gave-by, grows-by, prepended-prepended}
 use Rattle.authority_ask.specs.Panels.{Told}
 use Rattle.guard_core.specs.Judging.{asks_after}
 use Rattle.session_wire.specs.declared.replies.Reply.{Reply}
@@ -55,6 +55,15 @@ gained-on a b c first second =
 pub grows-on : {A : Type 0} (a b c : List A) → Grows a b → Grows b c → Grows a c
 grows-on a b c first second =
     grows-by a c (gained a b ++ gained b c) (second ∙ ap (λ xs. xs ++ gained b c) first ∙ append_assoc a (gained a b) (gained b c))
+
+-- what a source gave, where it gave twice
+pub gave-on : (left left_then left_now : Option (List ℕ)) (given given_then given_now : List ℕ) → Gave left left_then given given_then → Gave left_then left_now given_then given_now
+    → Gave left left_now given given_now
+gave-on left left_then left_now given given_then given_now first second =
+    let a = gained given given_then in
+    let b = gained given_then given_now in
+    gave-by left left_now given given_now (a ++ b) (first.taken ∙ ap (prepended a) second.taken ∙ prepended-prepended left_now a b)
+    (second.grows ∙ ap (λ xs. xs ++ b) first.grows ∙ append_assoc given a b)
 
 -- how often was asked, where a panel was asked twice in a row
 pub asks-on : (a b c : List Told) (m n k : ℕ) → Grows a b → Grows b c → n ≡ asks_after (gained a b) m → k ≡ asks_after (gained b c) n → k ≡ asks_after (gained a c) m

@@ -1,7 +1,7 @@
 //! A session over a link and the shared board.
 ghost use Rattle.std.specs.Prelude.{◌≡◌, ◌≢◌, ◌≤◌, [], false, true, length, All, Some};
 ghost use Rattle.nx_io.specs.Links.{KeepsOrigin};
-ghost use Rattle.nx_io.specs.Streams.{Grows, MayRise, gained};
+ghost use Rattle.nx_io.specs.Streams.{Gave, Grows, MayRise, gained};
 ghost use Rattle.guard_core.specs.Judging.{asks_after};
 ghost use Rattle.policy_history.specs.Values.{entry_trees};
 ghost use Rattle.verdict_words.specs.Histories.{IsPrefix};
@@ -148,6 +148,7 @@ pub fn serve_link<
     ensures session { (result.session ≡ pass.session) × (result.pass.session ≡ pass.session) }
     ensures board { result.pass.board ≡ board.now }
     ensures seen { IsPrefix pass.seen result.pass.seen }
+    ensures bytes { Gave (L.left link) (L.left result.link) (L.taken link) (L.taken result.link) }
     ensures over { L.over result.link ≡ is_over result.end }
     ensures closed { L.closed result.link ≡ true }
     ensures origin { KeepsOrigin (L.place link) (L.place result.link) (L.toward link) (L.toward result.link) }
@@ -214,6 +215,7 @@ fn sit<
       reached = P.reached panel.new;
       faults = P.faults panel.new;
     }) requests replies) result.1 (L.taken link.new) (L.sent link.new) }
+    ensures bytes { Gave (L.left link.old) (L.left link.new) (L.taken link.old) (L.taken link.new) }
     ensures over { L.over link.new ≡ is_over result.1 }
     ensures origin { KeepsOrigin (L.place link.old) (L.place link.new) (L.toward link.old) (L.toward link.new) }
     ensures link_later { L.faults link.old ≤ L.faults link.new }

@@ -1,7 +1,7 @@
 //! A session over a link that is alone over a journal.
 ghost use Rattle.std.specs.Prelude.{◌≡◌, ◌≤◌, ◌<◌, [], false, true};
 ghost use Rattle.nx_io.specs.Links.{KeepsOrigin};
-ghost use Rattle.nx_io.specs.Streams.{Grows, MayRise, gained};
+ghost use Rattle.nx_io.specs.Streams.{Gave, Grows, MayRise, gained};
 ghost use Rattle.guard_core.specs.Judging.{asks_after};
 ghost use Rattle.policy_history.specs.Values.{entry_trees, greatest_of};
 ghost use Rattle.session_core.specs.Ends.{IsServed, faults_after_end, is_over};
@@ -87,6 +87,7 @@ pub fn serve_on<L: Link, P: Panel, R: Net<Listener = TcpListener, Stream = TcpSt
     requires closed { L.closed link.old ≡ false }
     ensures served { IsServed result journal.old.head session (entry_trees journal.old.entries) (entry_trees journal.new.entries) (L.taken link.new) (L.sent link.new)
         (gained (P.said panel.old) (P.said panel.new)) (P.faults panel.old) (P.faults panel.new) }
+    ensures bytes { Gave (L.left link.old) (L.left link.new) (L.taken link.old) (L.taken link.new) }
     ensures over { L.over link.new ≡ is_over result }
     ensures closed { L.closed link.new ≡ true }
     ensures origin { KeepsOrigin (L.place link.old) (L.place link.new) (L.toward link.old) (L.toward link.new) }

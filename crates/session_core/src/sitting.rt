@@ -1,6 +1,7 @@
 //! A session over a link: frames are taken and answered one after another, whoever answers them.
 ghost use Rattle.std.specs.Prelude.{◌≡◌, ◌≤◌, [], false, length};
 ghost use Rattle.nx_io.specs.Links.{KeepsComing, KeepsOrigin};
+ghost use Rattle.nx_io.specs.Streams.{Gave};
 ghost use Rattle.session_core.specs.Ends.{faults_after_end, is_over};
 ghost use Rattle.session_core.specs.Inner.Serving.{IsSent, faults_after_sending};
 ghost use Rattle.session_core.specs.Inner.Sittings.{HasSat, IsTurnOf, TellsMore};
@@ -66,6 +67,7 @@ pub fn serve_sitting<R, B, P, S: Sitting<R, B, P> + Drop, L: Link>(
     requires told { S.told sitting book.old panel.old sitting book.old panel.old [] [] }
     ensures ready { S.ready result.0 book.new panel.new }
     ensures served { HasSat (S.told sitting book.old panel.old result.0 book.new panel.new) result.1 (L.taken link.new) (L.sent link.new) }
+    ensures bytes { Gave (L.left link.old) (L.left link.new) (L.taken link.old) (L.taken link.new) }
     ensures over { L.over link.new ≡ is_over result.1 }
     ensures origin { KeepsOrigin (L.place link.old) (L.place link.new) (L.toward link.old) (L.toward link.new) }
     ensures link_later { L.faults link.old ≤ L.faults link.new }

@@ -1,8 +1,10 @@
 use Rattle.std.proofs.Common.{◌+◌, List, [], Some, None, length, refl, sym, ap, subst, ◌∙◌, arith, ℕ}
 use Rattle.std.proofs.lemmas.List.{length-append}
 use Rattle.nx_io.specs.Streams.{gained}
+use Rattle.nx_io.proofs.ForCallers.{gave-nothing}
 use Rattle.session_wire.specs.Beginnings.{Spells}
 use Rattle.session_wire.proofs.ForCallers.{spells_none}
+use Rattle.session_core.proofs.ForCallers.{gave-on}
 use Rattle.session_core.proofs.Sittings.{last_sat, no_last_sat, sat}
 use Rattle.session_core.proofs.sitting.serve_sitting.Goals as goal
 
@@ -19,6 +21,7 @@ loop-init g c = record {
   };
   reader = rw c.requires.taken c.requires.reader;
   few = omega (arith, c.requires.reader);
+  bytes = gave-nothing _ _;
   over = c.requires.over;
   origin = record { place_is = refl; toward_is = refl };
   link = refl;
@@ -33,6 +36,10 @@ returns-in-Some-clause-served g c =
     (sat c.next-framed.result (g.S.Sitting.told c.args.sitting c.args.book.now c.args.panel.now c.loop.sitting c.loop.book c.loop.panel) (g.S.Sitting.told c.args.sitting c.args.book.now c.args.panel.now c.serve_framed-next.result.0 c.serve_framed-next.new.book c.serve_framed-next.new.panel) c.loop.counter
     (g.L.Link.taken c.loop.link) (g.L.Link.taken c.next-framed.new.link) (g.L.Link.sent c.loop.link) (g.L.Link.sent c.serve_framed-next.new.link) (Some c.in-Some.end)
     inv.serving (omega arith) turn c.next-framed.ensures.bytes.grows frame)
+
+pub returns-in-Some-clause-bytes : goal.returns-in-Some-clause-bytes
+returns-in-Some-clause-bytes g c =
+    rw (c.serve_framed-next.ensures.coming.left_is, c.serve_framed-next.ensures.coming.taken_is) (gave-on _ _ _ _ _ _ c.loop.invariant.bytes c.next-framed.ensures.bytes)
 
 pub returns-in-Some-clause-over : goal.returns-in-Some-clause-over
 returns-in-Some-clause-over g c =
@@ -68,6 +75,7 @@ loop-preserved g c =
       reader = rw c.serve_framed-next.ensures.coming.taken_is (c.next-framed.ensures.size ∙ ap (λ (n : ℕ). n + length (gained (g.L.Link.taken c.loop.link) (g.L.Link.taken c.next-framed.new.link))) inv.reader
           ∙ sym (length-append (g.L.Link.taken c.loop.link) (gained (g.L.Link.taken c.loop.link) (g.L.Link.taken c.next-framed.new.link))) ∙ ap (λ (xs : List ℕ). length xs) (sym c.next-framed.ensures.bytes.grows));
       few = omega (arith, inv.few, c.next-framed.ensures.few);
+      bytes = rw (c.serve_framed-next.ensures.coming.left_is, c.serve_framed-next.ensures.coming.taken_is) (gave-on _ _ _ _ _ _ inv.bytes c.next-framed.ensures.bytes);
       over = c.serve_framed-next.ensures.coming.over_is ∙ over ∙ kept.0;
       origin = record {
         place_is = c.serve_framed-next.ensures.origin.place_is ∙ c.next-framed.ensures.origin.place_is ∙ inv.origin.place_is;
