@@ -1,0 +1,14 @@
+pub mod Lookups
+pub mod LineFacts
+pub mod Plans
+pub mod Refusing
+pub mod Sameness
+pub mod Starting
+pub mod Judged
+pub mod Keeping
+pub mod Acts
+pub mod Stepping
+pub mod Running
+pub mod Linking
+pub mod Justifying
+pub mod Ending
