@@ -1,0 +1,5 @@
+pub mod Deciding
+pub mod Labels
+pub mod Lists
+pub mod Rules
+pub mod Unreached

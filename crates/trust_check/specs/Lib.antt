@@ -1,0 +1,4 @@
+pub mod Valuation
+pub mod Unquantified
+pub mod Reach
+pub mod Inner
