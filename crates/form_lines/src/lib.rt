@@ -1,0 +1,6 @@
+//! What the inputs of several commands have in common: the lines that they begin with, and how lines are read one by one.
+#![tactic(auto)]
+
+mod statements;
+
+pub use statements::{LineError, formula, goal, goal_for_subject, with_statement};

@@ -1,0 +1,4 @@
+pub mod Words
+pub mod TrustForm
+pub mod Answers
+pub mod Inner
