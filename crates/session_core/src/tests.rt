@@ -13,6 +13,9 @@ use std::test::Fail;
 
 const POLICY: &[u8] = b"nexus 1\nprincipal alice pa\nend\n";
 
+// One of two principals, for a label that is given away.
+const SHARED: &[u8] = b"nexus 1\nprincipal fs pf\nprincipal bob pb\nend\n";
+
 // A hello, an object, a goal, a label, a proof by it, and two calls.
 fn requests() -> &'static [u8] {
     b"\0\0\0\x0c\x01\0\x05alice\0\x02pa\
@@ -75,8 +78,13 @@ fn serve_over<R: Net<Listener = TcpListener, Stream = TcpStream> + Clock>(
     left: &[u8],
     case: &Case,
 ) -> Result<String, AllocError> {
-    match read_policy(alloc, POLICY) {
-        Ok(mut journal) => told_over(rt, alloc, &mut journal, left, case),
+    let mut journal = journal_of(alloc, POLICY)?;
+    told_over(rt, alloc, &mut journal, left, case)
+}
+
+fn journal_of(alloc: Global, policy: &[u8]) -> Result<Journal, AllocError> {
+    match read_policy(alloc, policy) {
+        Ok(journal) => Ok(journal),
         Err(_) => Err(AllocError),
     }
 }
@@ -235,5 +243,185 @@ fn a_session_is_spent_by_its_last_request(rt: HostRuntime) -> Result<(), Fail> {
     };
     let told = serve_over(&rt, alloc, left.as_slice(), &case)?;
     assert_eq!(rt; told.as_str(), "Spent 22020096 false true");
+    Ok(())
+}
+
+// Requests of one session, most of which are refused: an object, a goal that is set and cleared, and names that nobody has.
+fn refused_requests() -> &'static [u8] {
+    b"\0\0\0\x0c\x01\0\x05alice\0\x02pa\
+    \0\0\0\x12\x0c\0\x04read\0\x01f\0\0\0\0\0\0\0\0\
+    \0\0\0\x04\x05\0\x01f\
+    \0\0\0\x12\x0c\0\x04read\0\x01f\0\0\0\0\0\0\0\0\
+    \0\0\0\x10\x06\0\x04read\0\x01f\0\x04true\
+    \0\0\0\x12\x0c\0\x04read\0\x01f\0\0\0\0\0\0\0\0\
+    \0\0\0\x0a\x07\0\x04read\0\x01f\
+    \0\0\0\x0a\x07\0\x04read\0\x01f\
+    \0\0\0\x0a\x09\0\x04read\0\x01f\
+    \0\0\0\x08\x0b\0\x05alice\
+    \0\0\0\x10\x0a\0\x05alice\0\0\0\0\0\0\0\x03\
+    \0\0\0\x0a\x02\0\x03bob\0\x02ok\
+    \0\0\0\x0e\x03\0\0\0\0\0\0\0\x01\0\x03bob"
+}
+
+// Their replies.
+fn refused_replies() -> &'static [u8] {
+    b"\0\0\0\x11A\0\0\0\0\0\0\0\x01\0\0\0\0\0\0\0\0\
+    \0\0\0\x11E\0\0\0\0\0\0\0\0\0\0\0\0\0\0\0\x08\
+    \0\0\0\x11B\0\0\0\0\0\0\0\x01\0\0\0\0\0\0\0\0\
+    \0\0\0!D\0\0\0\0\0\0\0\x01\0\0\0\0\0\0\0\x01\0\0\0\0\0\0\0\0\0\0\0\0\0\0\0\0\
+    \0\0\0\x11B\0\0\0\0\0\0\0\x02\0\0\0\0\0\0\0\0\
+    \0\0\0!D\0\0\0\0\0\0\0\x02\0\0\0\0\0\0\0\x02\0\0\0\0\0\0\0\0\0\0\0\0\0\0\0\0\
+    \0\0\0\x11B\0\0\0\0\0\0\0\x03\0\0\0\0\0\0\0\0\
+    \0\0\0\x11E\0\0\0\0\0\0\0\x03\0\0\0\0\0\0\0\x0b\
+    \0\0\0\x11E\0\0\0\0\0\0\0\x03\0\0\0\0\0\0\0\x0c\
+    \0\0\0\x11E\0\0\0\0\0\0\0\x03\0\0\0\0\0\0\0\x0d\
+    \0\0\0\x11E\0\0\0\0\0\0\0\x03\0\0\0\0\0\0\0\x0e\
+    \0\0\0\x11E\0\0\0\0\0\0\0\x03\0\0\0\0\0\0\0\x05\
+    \0\0\0\x11E\0\0\0\0\0\0\0\x03\0\0\0\0\0\0\0\x04"
+}
+
+// A second session over the same journal: a request before its hello, a wrong secret, its hello, and another.
+fn greeted_requests() -> &'static [u8] {
+    b"\0\0\0\x04\x05\0\x01g\
+    \0\0\0\x0c\x01\0\x05alice\0\x02xx\
+    \0\0\0\x0c\x01\0\x05alice\0\x02pa\
+    \0\0\0\x0c\x01\0\x05alice\0\x02pa"
+}
+
+// Their replies.
+fn greeted_replies() -> &'static [u8] {
+    b"\0\0\0\x11E\0\0\0\0\0\0\0\x03\0\0\0\0\0\0\0\x01\
+    \0\0\0\x11E\0\0\0\0\0\0\0\x03\0\0\0\0\0\0\0\x03\
+    \0\0\0\x11A\0\0\0\0\0\0\0\x02\0\0\0\0\0\0\0\x03\
+    \0\0\0\x11E\0\0\0\0\0\0\0\x03\0\0\0\0\0\0\0\x02"
+}
+
+// An object, a goal that speaks of the caller, and a label that is given away.
+fn given_requests() -> &'static [u8] {
+    b"\0\0\0\x09\x01\0\x02fs\0\x02pf\
+    \0\0\0\x04\x05\0\x01f\
+    \0\0\0!\x06\0\x04read\0\x01f\0\x15fs says may(?subject)\
+    \0\0\0\x0f\x02\0\x02fs\0\x08may(bob)\
+    \0\0\0\x0e\x03\0\0\0\0\0\0\0\x03\0\x03bob"
+}
+
+// Their replies.
+fn given_replies() -> &'static [u8] {
+    b"\0\0\0\x11A\0\0\0\0\0\0\0\x01\0\0\0\0\0\0\0\0\
+    \0\0\0\x11B\0\0\0\0\0\0\0\x01\0\0\0\0\0\0\0\0\
+    \0\0\0\x11B\0\0\0\0\0\0\0\x02\0\0\0\0\0\0\0\0\
+    \0\0\0\x11B\0\0\0\0\0\0\0\x03\0\0\0\0\0\0\0\x03\
+    \0\0\0\x11B\0\0\0\0\0\0\0\x04\0\0\0\0\0\0\0\0"
+}
+
+// The label serves its new holder.
+fn used_requests() -> &'static [u8] {
+    b"\0\0\0\x0a\x01\0\x03bob\0\x02pb\
+    \0\0\06\x08\0\x04read\0\x01f\0*proof 1 ; 1 label : fs says may(bob) ; end\
+    \0\0\0\x12\x0c\0\x04read\0\x01f\0\0\0\0\0\0\0\0"
+}
+
+// Their replies.
+fn used_replies() -> &'static [u8] {
+    b"\0\0\0\x11A\0\0\0\0\0\0\0\x02\0\0\0\0\0\0\0\x04\
+    \0\0\0\x11B\0\0\0\0\0\0\0\x05\0\0\0\0\0\0\0\0\
+    \0\0\0\x19C\0\0\0\0\0\0\0\x05\0\0\0\0\0\0\0\0\0\0\0\0\0\0\0\0"
+}
+
+// It serves its giver no more: the goal speaks of whoever calls.
+fn tried_requests() -> &'static [u8] {
+    b"\0\0\0\x09\x01\0\x02fs\0\x02pf\
+    \0\0\06\x08\0\x04read\0\x01f\0*proof 1 ; 1 label : fs says may(bob) ; end\
+    \0\0\0\x12\x0c\0\x04read\0\x01f\0\0\0\0\0\0\0\0"
+}
+
+// Their replies.
+fn tried_replies() -> &'static [u8] {
+    b"\0\0\0\x11A\0\0\0\0\0\0\0\x03\0\0\0\0\0\0\0\x05\
+    \0\0\0\x11B\0\0\0\0\0\0\0\x06\0\0\0\0\0\0\0\x01\
+    \0\0\0!D\0\0\0\0\0\0\0\x06\0\0\0\0\0\0\0\x03\0\0\0\0\0\0\0\x01\0\0\0\0\0\0\0\x0c"
+}
+
+// What a session is asked and told, and what comes of it.
+#[derive(Clone, Copy)]
+struct Talk {
+    asked: &'static [u8],
+    replies: &'static [u8],
+    told: &'static str,
+}
+
+// Whether the next session of the journal is told so.
+fn is_told<R: Net<Listener = TcpListener, Stream = TcpStream> + Clock>(
+    rt: &R,
+    alloc: Global,
+    journal: &mut Journal,
+    talk: &Talk,
+) -> bool {
+    let case = Case {
+        replies: talk.replies,
+        ..whole()
+    };
+    match told_over(rt, alloc, journal, talk.asked, &case) {
+        Ok(told) => told.as_str() == talk.told,
+        Err(AllocError) => false,
+    }
+}
+
+// Whether the sessions, one after another over the journal, are told so.
+fn are_told<R: Net<Listener = TcpListener, Stream = TcpStream> + Clock>(
+    rt: &R,
+    alloc: Global,
+    journal: Journal,
+    talks: &[Talk],
+) -> bool {
+    let mut journal = journal;
+    let mut all = true;
+    for talk in talks {
+        let told = is_told(rt, alloc, &mut journal, talk);
+        all = all & told;
+    }
+    all
+}
+
+#[test]
+fn what_cannot_be_done_is_refused(rt: HostRuntime) -> Result<(), Fail> {
+    let talks = [
+        Talk {
+            asked: refused_requests(),
+            replies: refused_replies(),
+            told: "Closed 305 true true",
+        },
+        Talk {
+            asked: greeted_requests(),
+            replies: greeted_replies(),
+            told: "Closed 84 true true",
+        },
+    ];
+    let journal = journal_of(rt.alloc(), POLICY)?;
+    assert!(rt; are_told(&rt, rt.alloc(), journal, &talks));
+    Ok(())
+}
+
+#[test]
+fn a_label_serves_whoever_holds_it(rt: HostRuntime) -> Result<(), Fail> {
+    let talks = [
+        Talk {
+            asked: given_requests(),
+            replies: given_replies(),
+            told: "Closed 105 true true",
+        },
+        Talk {
+            asked: used_requests(),
+            replies: used_replies(),
+            told: "Closed 71 true true",
+        },
+        Talk {
+            asked: tried_requests(),
+            replies: tried_replies(),
+            told: "Closed 79 true true",
+        },
+    ];
+    let journal = journal_of(rt.alloc(), SHARED)?;
+    assert!(rt; are_told(&rt, rt.alloc(), journal, &talks));
     Ok(())
 }
