@@ -1,5 +1,3 @@
-pub mod Lookups
-pub mod LineFacts
 pub mod Plans
 pub mod Refusing
 pub mod Sameness

@@ -10,7 +10,6 @@ mod moves;
 mod same;
 mod stages;
 mod steps;
-mod supports;
 #[cfg(test)]
 mod tests;
 mod verdicts;

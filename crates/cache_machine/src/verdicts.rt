@@ -6,9 +6,8 @@ ghost use Rattle.nal_rules.specs.Asking.{case_tree};
 ghost use Rattle.nal_rules.specs.Faults.{line_at};
 ghost use Rattle.nal_rules.specs.Verdicts.{IsAnsweredNo, IsLowest, IsVerdict};
 
-use crate::supports::{missing_label, unbound_line};
 use nal_rules::{Case, Cause, Verdict};
-use proof_check::{CheckError, check};
+use proof_check::{CheckError, check, missing_label, unbound_line};
 use proof_lines::{Proof, Rule};
 use std::alloc::Global;
 

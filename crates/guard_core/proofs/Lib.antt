@@ -1,4 +1,2 @@
-pub mod Lookups
-pub mod LineFacts
 pub mod Asks
 pub mod Judged

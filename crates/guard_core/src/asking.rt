@@ -10,9 +10,9 @@ ghost use Rattle.guard_core.specs.Inner.Stages.{AreAskable, HaveAnswered};
 ghost use Rattle.guard_core.specs.Judging.{IsAskedAt, asks_after, faults_after_judging};
 
 use crate::findings::{Finding, GuardError};
-use crate::supports::{port_of, question};
 use authority_ask::{Ask, Panel};
 use nal_rules::{Binding, Cause};
+use proof_check::{port_of, question};
 use proof_lines::Proof;
 use std::net::{Net, TcpListener, TcpStream};
 use std::rt::Clock;

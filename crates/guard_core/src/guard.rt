@@ -6,10 +6,9 @@ ghost use Rattle.guard_core.specs.Judging.{IsBrokenOff, IsJudged, asks_after, fa
 
 use crate::asking::ask_lines;
 use crate::findings::{Finding, GuardError};
-use crate::supports::{missing_label, unbound_line};
 use authority_ask::Panel;
 use nal_rules::{Case, Cause};
-use proof_check::{CheckError, check};
+use proof_check::{CheckError, check, missing_label, unbound_line};
 use std::alloc::Global;
 use std::net::{Net, TcpListener, TcpStream};
 use std::rt::Clock;

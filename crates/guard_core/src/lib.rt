@@ -4,7 +4,6 @@
 mod asking;
 mod findings;
 mod guard;
-mod supports;
 
 pub use findings::{Finding, GuardError};
 pub use guard::judge;

@@ -14,3 +14,5 @@ pub mod Counted
 pub mod Decided
 pub mod Faultless
 pub mod AllowedCases
+pub mod Lookups
+pub mod LineFacts

@@ -20,9 +20,11 @@ mod same;
 mod scope;
 mod statement_forms;
 mod substitutions;
+mod supports;
 #[cfg(test)]
 mod tests;
 
 pub use checks::{CheckError, Checked, check, check_counted};
 pub use laws::{allowed_cases_derive, faultless_proofs_derive};
 pub use lists::LineList;
+pub use supports::{missing_label, port_of, question, unbound_line};

@@ -13,7 +13,7 @@ use Rattle.proof_lines.specs.Lines.{LineTree, line_tree, line_trees}
 use Rattle.nal_rules.specs.Faults.{line_at}
 use Rattle.nal_rules.specs.Asking.{port_in}
 use Rattle.nal_rules.specs.Verdicts.{IsAskOf, IsMissingLabel, IsUnbound}
-use Rattle.guard_core.proofs.Lookups.{no_port, some_port}
+use Rattle.proof_check.proofs.Lookups.{no_port, some_port}
 
 get_line : (ls : List Line) (i : ℕ) (l : Line) → Some l ≡ slice_get ls i → slice_get (line_trees ls) i ≡ Some (line_tree l)
 get_line [] i l e = absurd (cc e)
@@ -24,6 +24,16 @@ get_line (x ∷ ls) (suc i) l e = get_line ls i l e
 pub read_line : (ls : List Line) (k : ℕ) (l : Line) → (k ≡ 0 → Some l ≡ None) → (0 < k → Some l ≡ slice_get ls (k - 1)) → line_at (line_trees ls) k ≡ Some (line_tree l)
 read_line ls zero l z v = absurd (cc (z refl))
 read_line ls (suc k) l z v = let s : suc k - 1 ≡ k = omega arith in get_line ls k l (rw s at (v (omega arith)))
+
+-- a number at which none was read
+pub no_line : (ls : List Line) (k : ℕ) (l : LineTree) → (0 < k → None ≡ slice_get ls (k - 1)) → line_at (line_trees ls) k ≡ Some l → ⊥
+no_line ls zero l v e = cc e
+no_line ls (suc k) l v e = let s : suc k - 1 ≡ k = omega arith in gone ls k (rw s at (v (omega arith))) e
+  where
+    gone : (ls : List Line) (i : ℕ) → None ≡ slice_get ls i → slice_get (line_trees ls) i ≡ Some l → ⊥
+    gone [] i n e = cc e
+    gone (x ∷ ls) zero n e = cc n
+    gone (x ∷ ls) (suc i) n e = gone ls i n e
 
 pub same_line : {o : Option LineTree} {l m : LineTree} → o ≡ Some l → o ≡ Some m → m ≡ l
 same_line e f = cc

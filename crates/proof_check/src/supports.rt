@@ -1,4 +1,5 @@
-// The labels and the bindings that a proof's lines need.
+//! What the lines of a proof rest on: labels that are held, and bindings of the principals that are asked. `docs/LOGIC.md`,
+//! "Verdicts", says which line is told.
 ghost use Rattle.std.specs.Prelude.{◌≡◌, ◌↔◌, ℕ, IfNone, IfSome, IsTrue, Contains, MatchOption, map};
 ghost use Rattle.nal_term.specs.Trees.{FormulaTree, TermTree, formula_tree, term_tree};
 ghost use Rattle.proof_lines.specs.Lines.{line_trees};

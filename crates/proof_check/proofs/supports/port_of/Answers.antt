@@ -3,8 +3,8 @@ use Rattle.std.proofs.lemmas.List.{at_drop_more}
 use Rattle.nal_term.specs.Trees.{term_tree}
 use Rattle.nal_rules.specs.Asking.{binding_tree, port_in}
 use Rattle.nal_rules.specs.declared.cases.Binding.{Binding}
-use Rattle.guard_core.proofs.Lookups.{port_here, port_later, told_same}
-use Rattle.guard_core.proofs.supports.port_of.Goals as goal
+use Rattle.proof_check.proofs.Lookups.{port_here, port_later, told_same}
+use Rattle.proof_check.proofs.supports.port_of.Goals as goal
 
 -- A binding of another principal is passed over.
 pub loop-binding-preserved : goal.loop-binding-preserved

@@ -2,8 +2,8 @@ use Rattle.std.proofs.Common.{arith, map}
 use Rattle.nal_rules.specs.Asking.{binding_tree}
 use Rattle.proof_lines.specs.Lines.{line_trees}
 use Rattle.nal_rules.specs.Verdicts.{IsUnbound}
-use Rattle.guard_core.proofs.LineFacts.{one_more, within}
-use Rattle.guard_core.proofs.supports.unbound_line.Goals as goal
+use Rattle.proof_check.proofs.LineFacts.{one_more, within}
+use Rattle.proof_check.proofs.supports.unbound_line.Goals as goal
 
 pub loop-number-preserved : goal.loop-number-preserved
 loop-number-preserved c =

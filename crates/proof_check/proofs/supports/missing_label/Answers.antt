@@ -2,8 +2,8 @@ use Rattle.std.proofs.Common.{arith, map}
 use Rattle.nal_term.specs.Trees.{formula_tree}
 use Rattle.proof_lines.specs.Lines.{line_trees}
 use Rattle.nal_rules.specs.Verdicts.{IsMissingLabel}
-use Rattle.cache_machine.proofs.LineFacts.{one_more, within}
-use Rattle.cache_machine.proofs.supports.missing_label.Goals as goal
+use Rattle.proof_check.proofs.LineFacts.{one_more, within}
+use Rattle.proof_check.proofs.supports.missing_label.Goals as goal
 
 pub loop-number-preserved : goal.loop-number-preserved
 loop-number-preserved c =

@@ -1,7 +1,7 @@
 use Rattle.std.proofs.Common.{map}
 use Rattle.nal_term.specs.Trees.{formula_tree}
-use Rattle.guard_core.proofs.LineFacts.{label_line, not_label}
-use Rattle.guard_core.proofs.supports.is_missing_label.Goals as goal
+use Rattle.proof_check.proofs.LineFacts.{label_line, not_label}
+use Rattle.proof_check.proofs.supports.is_missing_label.Goals as goal
 
 pub returns-in-Label : goal.returns-in-Label
 returns-in-Label c =

@@ -1,7 +1,7 @@
 use Rattle.std.proofs.Common.{ap, ◌∙◌}
-use Rattle.nal_term.specs.Trees.{formula_tree, term_tree}
-use Rattle.cache_machine.proofs.LineFacts.{ask_read, no_ask, no_says}
-use Rattle.cache_machine.proofs.supports.question.Goals as goal
+use Rattle.nal_term.specs.Trees.{formula_tree, says, term_tree}
+use Rattle.proof_check.proofs.LineFacts.{ask_read, no_ask, no_says}
+use Rattle.proof_check.proofs.supports.question.Goals as goal
 
 pub returns-in-Says-clause-asked : goal.returns-in-Says-clause-asked
 returns-in-Says-clause-asked c =

@@ -2,8 +2,8 @@ use Rattle.std.proofs.Common.{map}
 use Rattle.nal_term.specs.Trees.{formula_tree, term_tree}
 use Rattle.proof_lines.specs.Lines.{line_trees}
 use Rattle.nal_rules.specs.Asking.{binding_tree}
-use Rattle.guard_core.proofs.LineFacts.{not_unbound, unbound_told}
-use Rattle.guard_core.proofs.supports.is_unbound.Goals as goal
+use Rattle.proof_check.proofs.LineFacts.{not_unbound, unbound_told}
+use Rattle.proof_check.proofs.supports.is_unbound.Goals as goal
 
 pub returns-in-Some : goal.returns-in-Some
 returns-in-Some c =

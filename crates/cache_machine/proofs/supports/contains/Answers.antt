@@ -1,5 +1,0 @@
-use Rattle.cache_machine.proofs.Lookups.{not_among}
-use Rattle.cache_machine.proofs.supports.contains.Goals as goal
-
-pub returns : goal.returns
-returns c = not_among c.args.formulas.now c.args.formula.now c.loop-other.other-index c.loop-other-test.false c.loop-other.invariant
