@@ -1,5 +1,5 @@
 #!/usr/bin/env bash
-# Runs each example of `nexus check` and of `nexus script` and compares what it prints, byte for byte, and its exit status;
+# Runs each example of `nexus check`, `nexus script` and `nexus trust` and compares what it prints, byte for byte, and its exit status;
 # then the other ways in which the program ends.
 #
 #   examples/run.sh [PROGRAM]     PROGRAM is ./nexus at the top of the repository where none is given
@@ -14,7 +14,7 @@ trap 'rm -rf "$work"' EXIT
 
 passed=0
 failed=0
-for folder in "$examples"/check/*/ "$examples"/script/*/; do
+for folder in "$examples"/check/*/ "$examples"/script/*/ "$examples"/trust/*/; do
     name=$(basename "$folder")
     command=$(basename "$(dirname "$folder")")
     "$program" "$command" <"$folder/input" >"$work/output"
@@ -74,6 +74,27 @@ expect 'a script without a line' 3 'refused line 1'
 # Nobody listens at this address.
 printf 'nexus 2\nauthority 3 127.0.0.1:1\nend\n' | "$program" script >"$work/output"
 expect 'an authority that cannot be reached' 8 ''
+"$program" trust more <"$examples/trust/safe/input" >"$work/output"
+expect 'a word too many of a question of trust' 2 ''
+: >"$work/output"
+"$program" trust <"$examples/trust/safe/input" >/dev/full
+expect 'an answer that cannot be written' 5 ''
+"$program" trust </dev/null >"$work/output"
+expect 'a question of trust without a line' 3 'refused line 1'
+# A load reads nothing: its input is a folder, which cannot be read.
+"$program" core 0 1 </ >"$work/output"
+expect 'a load of one step' 0 'steps 1 idle 0 writes 0 allowed 0 denied 0 length 4'
+"$program" core 0 >"$work/output"
+expect 'a load without a number of steps' 2 ''
+"$program" core 0 01 >"$work/output"
+expect 'a number with a zero in front' 2 ''
+"$program" core 18446744073709551616 1 >"$work/output"
+expect 'a number of 65 bits' 2 ''
+"$program" core 0 1000001 >"$work/output"
+expect 'a step too many' 2 ''
+: >"$work/output"
+"$program" core 0 1 >/dev/full
+expect 'a load whose line cannot be written' 5 ''
 head -c 67108865 /dev/zero | tr '\0' a >"$work/large"
 "$program" check <"$work/large" >"$work/output"
 expect 'an input of one byte too many' 3 'refused size'

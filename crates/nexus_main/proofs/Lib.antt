@@ -9,3 +9,4 @@ pub mod Only
 pub mod Programs
 pub mod Justified
 mod ScriptEnds
+mod TrustEnds

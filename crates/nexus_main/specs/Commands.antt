@@ -1,7 +1,8 @@
 -- The words by which commands are called.
-use Rattle.std.specs.Prelude.{◌≡◌, ℕ, List, [], ◌∷◌, codes}
+use Rattle.std.specs.Prelude.{◌≡◌, ◌<◌, ◌≤◌, ◌^◌, ℕ, List, [], ◌∷◌, codes}
+use Rattle.std.specs.Fmt.{decimal}
 use Rattle.nexus_main.specs.declared.commands.Command.{Command}
-use Rattle.nexus_main.specs.declared.commands.Command.TheVariants.{Check, Script}
+use Rattle.nexus_main.specs.declared.commands.Command.TheVariants.{Check, Script, Core, Trust}
 
 abbrev pub check_words : List (List ℕ)
 check_words = codes "check" ∷ []
@@ -9,11 +10,34 @@ check_words = codes "check" ∷ []
 abbrev pub script_words : List (List ℕ)
 script_words = codes "script" ∷ []
 
+abbrev pub trust_words : List (List ℕ)
+trust_words = codes "trust" ∷ []
+
+-- a number from which a load is drawn, and how many steps it has
+abbrev pub core_words : ℕ → ℕ → List (List ℕ)
+core_words number steps = codes "core" ∷ decimal number ∷ decimal steps ∷ []
+
+-- how many steps a load has at most
+abbrev pub most_steps : ℕ
+most_steps = 1000000
+
+-- the numbers of `core` are within their bounds
+pub record IsLoad (number steps : ℕ) : Type 0 where
+  pub number_is : number < 2 ^ 64
+  pub steps_are : steps ≤ most_steps
+
 -- the words of a command
 abbrev pub command_words : Command → List (List ℕ)
 command_words Check = check_words
 command_words Script = script_words
+command_words Trust = trust_words
+command_words (Core number steps) = core_words number steps
+
+-- the numbers of a command, if it has some, are within their bounds
+abbrev pub IsWithin : Command → Type 0
+IsWithin (Core number steps) = IsLoad number steps
+IsWithin _ = Unit {0}
 
 -- the words are those of a command
 abbrev pub IsCommand : List (List ℕ) → Type 0
-IsCommand words = (command : Command) × (words ≡ command_words command)
+IsCommand words = (command : Command) × IsWithin command × (words ≡ command_words command)

@@ -4,3 +4,4 @@ pub mod Forms
 pub mod Hashes
 pub mod Support
 pub mod ScriptEnds
+pub mod TrustEnds

@@ -6,3 +6,5 @@ pub mod Outcomes
 pub mod Program
 pub mod Inner
 pub mod Scripts
+pub mod Cores
+pub mod Trusts

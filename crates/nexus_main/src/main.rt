@@ -9,9 +9,11 @@ mod judge;
 #[cfg(test)]
 mod kinds_tests;
 mod laws;
+mod load;
 mod outcomes;
 mod places;
 mod program;
+mod reach;
 mod script;
 #[cfg(test)]
 mod script_tests;

@@ -25,7 +25,7 @@ use std::rt::Clock;
 
 /// Why there is no script to answer.
 #[derive(Clone, Copy, Debug, PartialEq, Eq)]
-enum Unread {
+pub enum Unread {
     /// The input is refused, and this is told of it.
     Refused(Outcome),
     /// The source failed.

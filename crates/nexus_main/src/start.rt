@@ -1,11 +1,13 @@
-ghost use Rattle.std.specs.Prelude.{◌≡◌, ◌≢◌, ◌⊎◌, IsTrue, None};
+ghost use Rattle.std.specs.Prelude.{◌≡◌, ◌≢◌, ◌⊎◌, ℕ, IsTrue, None};
 ghost use Rattle.std.specs.Process.{exit_status};
 ghost use Rattle.nx_io.specs.Streams.{Gave, Grows, gained};
 ghost use Rattle.run_streams.specs.Runs.{sink_run, source_run};
 ghost use Rattle.nexus_main.specs.Arguments.{words_of_call};
-ghost use Rattle.nexus_main.specs.Commands.{IsCommand, check_words, script_words};
+ghost use Rattle.nexus_main.specs.Commands.{IsCommand, IsLoad, check_words, core_words, script_words, trust_words};
+ghost use Rattle.nexus_main.specs.Cores.{RunsCore};
 ghost use Rattle.nexus_main.specs.Program.{RunsCheck};
 ghost use Rattle.nexus_main.specs.Scripts.{RunsScript, panel_run};
+ghost use Rattle.nexus_main.specs.Trusts.{RunsTrust};
 
 use crate::arguments::{Arguments, texts, words_of_call};
 use crate::program::run;
@@ -55,6 +57,12 @@ where
         (panel_run (P.said panel) (P.said result.panel) (P.asks panel) (P.asks result.panel) (P.reached panel) (P.reached result.panel)
         (P.faults panel) (P.faults result.panel))
         result.journal (exit_status result.code) }
+    ensures trust { words_of_call (gained (A.told arguments.old) (A.told arguments.new)) ≡ trust_words → RunsTrust
+        (source_run (S.left input.old) (S.given input.old) (S.given input.new) (S.over input.new) (S.faults input.old) (S.faults input.new))
+        (sink_run (K.sent output.old) (K.sent output.new) (K.faults output.old) (K.faults output.new))
+        (exit_status result.code) }
+    ensures core { (number steps : ℕ) → words_of_call (gained (A.told arguments.old) (A.told arguments.new)) ≡ core_words number steps → IsLoad number steps
+        → RunsCore number steps (sink_run (K.sent output.old) (K.sent output.new) (K.faults output.old) (K.faults output.new)) (exit_status result.code) × (input.new ≡ input.old) }
     ensures other_panel { words_of_call (gained (A.told arguments.old) (A.told arguments.new)) ≢ script_words
         → (result.panel ≡ panel) × (result.journal ≡ None) }
 {

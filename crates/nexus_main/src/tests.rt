@@ -156,17 +156,131 @@ fn faults_end_the_program(rt: HostRuntime) -> Result<(), AllocError> {
     Ok(())
 }
 
+// What an owner assumes, and a goal of which nothing can come.
+const SAFE: &str =
+    "nexus trust 1\nsubject bob\nlabel fs says may(bob)\nlabel fs says ntp speaksfor fs on TimeNow\nuntrusted ntp\nloose TimeNow\nfact may(bob)\ngoal fs says may(eve)\nend\n";
+
+#[test]
+fn questions_of_trust_are_answered(rt: HostRuntime) -> Result<(), AllocError> {
+    let alloc = rt.alloc();
+    let cases = [
+        Case {
+            input: SAFE,
+            written: "safe\n",
+            status: 0,
+        },
+        Case {
+            input: "nexus trust 1\nsubject bob\nlabel fs says ntp speaksfor fs\nuntrusted ntp\ngoal fs says may(eve)\nend\n",
+            written: "label 1\n",
+            status: 1,
+        },
+        Case {
+            input: "nexus trust 1\nsubject bob\nuntrusted ntp\ngoal ntp says may(?subject)\nend\n",
+            written: "goal\n",
+            status: 1,
+        },
+        Case {
+            input: "nexus trust 1\nsubject bob\nfact may(?x)\ngoal fs says may(eve)\nend\n",
+            written: "refused line 3\n",
+            status: 3,
+        },
+    ];
+    for case in cases {
+        let mut source = MemSource::new(alloc, case.input.as_bytes(), 7, &[])?;
+        let mut sink = MemSink::new(alloc, 64, 3, &[])?;
+        assert_eq!(rt;
+            status_of(&rt, alloc, &["trust"], &mut source, &mut sink)?,
+            case.status
+        );
+        assert!(rt; sink.sent() == case.written.as_bytes());
+        assert!(rt; source.left().is_empty());
+    }
+    Ok(())
+}
+
+#[test]
+fn faults_end_a_question_of_trust(rt: HostRuntime) -> Result<(), AllocError> {
+    let alloc = rt.alloc();
+    let mut source = MemSource::new(alloc, SAFE.as_bytes(), 7, &[2])?;
+    let mut sink = MemSink::new(alloc, 64, 1, &[])?;
+    assert_eq!(rt;
+        status_of(&rt, alloc, &["trust"], &mut source, &mut sink)?,
+        4
+    );
+    assert!(rt; sink.sent().is_empty());
+    let mut source = MemSource::new(alloc, SAFE.as_bytes(), 7, &[])?;
+    let mut sink = MemSink::new(alloc, 64, 1, &[3])?;
+    assert_eq!(rt;
+        status_of(&rt, alloc, &["trust"], &mut source, &mut sink)?,
+        5
+    );
+    assert!(rt; sink.sent() == "sa".as_bytes());
+    Ok(())
+}
+
+// A load, and its line. That of a thousand steps was worked out by a program written apart from this one.
+#[derive(Clone, Copy)]
+struct LoadCase {
+    words: &'static [&'static str],
+    written: &'static str,
+}
+
+#[test]
+fn loads_are_taken(rt: HostRuntime) -> Result<(), AllocError> {
+    let alloc = rt.alloc();
+    let cases = [
+        LoadCase {
+            words: &["core", "0", "1"],
+            written: "steps 1 idle 0 writes 0 allowed 0 denied 0 length 4\n",
+        },
+        LoadCase {
+            words: &["core", "18446744073709551615", "0"],
+            written: "steps 0 idle 0 writes 0 allowed 0 denied 0 length 4\n",
+        },
+        LoadCase {
+            words: &["core", "7", "1000"],
+            written: "steps 1000 idle 869 writes 12 allowed 10 denied 11 length 16\n",
+        },
+    ];
+    let mut source = MemSource::new(alloc, ALLOWED.as_bytes(), 7, &[])?;
+    for case in cases {
+        let mut sink = MemSink::new(alloc, 64, 3, &[])?;
+        assert_eq!(rt;
+            status_of(&rt, alloc, case.words, &mut source, &mut sink)?,
+            0
+        );
+        assert!(rt; sink.sent() == case.written.as_bytes());
+    }
+    let mut sink = MemSink::new(alloc, 64, 1, &[5])?;
+    assert_eq!(rt;
+        status_of(&rt, alloc, &["core", "0", "1"], &mut source, &mut sink)?,
+        5
+    );
+    assert!(rt; sink.sent() == "step".as_bytes());
+    assert!(rt; source.left() == ALLOWED.as_bytes());
+    Ok(())
+}
+
 #[test]
 fn other_words_are_not_run(rt: HostRuntime) -> Result<(), AllocError> {
     let alloc = rt.alloc();
     let mut source = MemSource::new(alloc, ALLOWED.as_bytes(), 7, &[])?;
     let mut sink = MemSink::new(alloc, 64, 1, &[])?;
-    let calls: [&'static [&'static str]; 5] = [
+    let calls: [&'static [&'static str]; 14] = [
         &[],
         &["chec"],
         &["check", "check"],
         &["script", "script"],
         &["check", "script"],
+        &["trust", "trust"],
+        &["check", "0", "1"],
+        &["core"],
+        &["core", "0"],
+        &["core", "0", "01"],
+        &["core", "0", "1000001"],
+        &["core", "18446744073709551616", "1"],
+        &["core", "0", "1", "2"],
+        &["core", "0", ""],
     ];
     for words in calls {
         assert_eq!(rt; status_of(&rt, alloc, words, &mut source, &mut sink)?, 2);
