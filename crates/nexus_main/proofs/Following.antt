@@ -4,7 +4,8 @@ use Rattle.std.proofs.lemmas.Bool.Decides.{Decides-eqb}
 use Rattle.nal_term.specs.Names.{IsName}
 use Rattle.nal_term.specs.Trees.{FormulaTree}
 use Rattle.nal_term.specs.declared.formulas.Formula.{Formula}
-use Rattle.nexus_main.specs.CheckForm.{Stage, header_due, subject_due, labels_due, yes_due, proof_due, IsStatement, IsGoal, Follows, header, subject, label, first_yes, next_yes, goal, goal_after_yes}
+use Rattle.form_lines.specs.Statements.{IsGoal, IsStatement}
+use Rattle.nexus_main.specs.CheckForm.{Stage, header_due, subject_due, labels_due, yes_due, proof_due, Follows, header, subject, label, first_yes, next_yes, goal, goal_after_yes}
 use Rattle.nexus_main.specs.Inner.Forms.{formula_trees}
 
 -- the header alone follows at the beginning

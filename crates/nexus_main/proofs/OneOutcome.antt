@@ -5,7 +5,8 @@ use Rattle.proof_lines.specs.Lines.{LineTree}
 use Rattle.nal_rules.specs.declared.verdicts.Verdict.{Verdict}
 use Rattle.nexus_main.specs.declared.outcomes.Outcome.TheVariants.{Told, Refused, TooLarge}
 use Rattle.text_lines.specs.Lines.{first_line, after_line}
-use Rattle.nexus_main.specs.CheckForm.{CheckForm, Stage, labels_due, yes_due, proof_due, IsStatement, IsGoal, Follows, header, subject, label, first_yes, next_yes, goal, goal_after_yes, Reaches, IsCheckForm, IsStuck, IsBeforeProof, IsLineOfError, IsLineOfSegment, IsWrongAt, before_proof, in_proof}
+use Rattle.form_lines.specs.Statements.{IsGoal, IsStatement}
+use Rattle.nexus_main.specs.CheckForm.{CheckForm, Stage, labels_due, yes_due, proof_due, Follows, header, subject, label, first_yes, next_yes, goal, goal_after_yes, Reaches, IsCheckForm, IsStuck, IsBeforeProof, IsLineOfError, IsLineOfSegment, IsWrongAt, before_proof, in_proof}
 use Rattle.nexus_main.specs.Outcomes.{AreAnswers, none, answer, case_of, IsVerdictOn}
 use Rattle.nal_parse.specs.Grammar.{IsFormulaText}
 use Rattle.proof_text.specs.ProofText.{IsProofText, IsRefused}

@@ -232,18 +232,6 @@ within ls (suc k) l e =
     let s = length-map ls line_tree in
     omega (arith, h, s)
 
--- a goal that cannot be formed is unset
-pub unset : (form : CheckForm) → formula_with (codes "subject") (tree.name form.subject) form.goal ≡ None → IsVerdictOn form (Denied GoalUnset)
-unset form e = let a = answers_of form.yes (filter is_ask form.proof) in (a.0, a.1, (e, λ other h. absurd (above_one other h)))
-  where
-    above_one : (other : Cause) → cause_number other < 1 → ⊥
-    above_one GoalUnset h = omega (arith, h)
-    above_one NoProof h = omega (arith, h)
-    above_one (FaultyLine k f) h = omega (arith, h)
-    above_one (LabelMissing k) h = omega (arith, h)
-    above_one (NotBound k) h = omega (arith, h)
-    above_one (AuthorityNo k) h = omega (arith, h)
-
 -- a proof with no line is no proof
 pub empty_proof : (form : CheckForm) (g : FormulaTree) → formula_with (codes "subject") (tree.name form.subject) form.goal ≡ Some g → form.proof ≡ []
     → IsVerdictOn form (Denied NoProof)

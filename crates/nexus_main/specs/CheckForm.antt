@@ -1,15 +1,14 @@
 -- The input of `check`: which line may follow which.
 use Rattle.std.specs.Prelude.{◌≡◌, ◌≢◌, ◌<◌, ◌≤◌, ◌+◌, ◌⊎◌, ℕ, List, [], ◌∷◌, ◌++◌, length, codes}
 use Rattle.nal_term.specs.Names.{IsName}
-use Rattle.nal_term.specs.Trees.{TermTree, FormulaTree, says}
-use Rattle.nal_term.specs.Free.{IsClosed, IsClosedBut}
-use Rattle.nal_parse.specs.Grammar.{IsFormulaText}
+use Rattle.nal_term.specs.Trees.{FormulaTree}
 use Rattle.proof_lines.specs.Lines.{LineTree}
 use Rattle.proof_text.specs.ProofText.{IsProofText, IsRefused, segments}
 use Rattle.proof_text.specs.Places.{line_feeds_before, end_segment_of}
 use Rattle.proof_text.specs.declared.read.ProofError.{ProofError}
 use Rattle.proof_text.specs.declared.read.ProofError.TheVariants.{BadHeader, BadLine, BadNumber, TooManyLines, TooLong, Formula, NoEnd, After, Memory}
 use Rattle.text_lines.specs.Lines.{first_line, after_line, line_count}
+use Rattle.form_lines.specs.Statements.{IsGoal, IsStatement}
 
 -- what an input of `check` holds
 pub record CheckForm : Type 0 where
@@ -26,17 +25,6 @@ pub data Stage : Type 0 where
   labels_due : List ℕ → List FormulaTree → Stage
   yes_due : List ℕ → List FormulaTree → List FormulaTree → Stage
   proof_due : List ℕ → List FormulaTree → List FormulaTree → FormulaTree → Stage
-
--- the text of a label or of a yes formula: a closed formula `P says S`
-pub record IsStatement (text : List ℕ) (f : FormulaTree) : Type 0 where
-  pub spelled : IsFormulaText text f
-  pub closed : IsClosed f
-  pub said : (p : TermTree) × (s : FormulaTree) × (f ≡ says p s)
-
--- the text of a goal: a formula whose only free variable is `?subject`
-pub record IsGoal (text : List ℕ) (f : FormulaTree) : Type 0 where
-  pub spelled : IsFormulaText text f
-  pub closed : IsClosedBut (codes "subject") f
 
 -- `Follows stage line next`: the line may stand at this stage, and leads to the next
 pub data Follows : Stage → List ℕ → Stage → Type 0 where

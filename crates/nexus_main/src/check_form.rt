@@ -1,5 +1,6 @@
 use crate::places::line_of_error;
-use crate::stages::{LineError, Progress};
+use crate::stages::Progress;
+use form_lines::LineError;
 use nal_term::{Formula, Name};
 use proof_lines::Proof;
 use proof_text::{ProofError, read_proof};

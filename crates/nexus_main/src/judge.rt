@@ -1,7 +1,5 @@
-ghost use Rattle.std.specs.Prelude.{◌≡◌, ◌↔◌, ◌<◌, ◌≤◌, IfOk, Some, None, codes, IsTrue, Contains, MatchOption, map, ℕ};
+ghost use Rattle.std.specs.Prelude.{◌≡◌, ◌↔◌, ◌<◌, ◌≤◌, IfOk, IsTrue, Contains, MatchOption, map, ℕ};
 ghost use Rattle.nal_term.specs.Trees.{formula_tree};
-ghost use Rattle.nal_term.specs.Trees as tree;
-ghost use Rattle.nal_subst.specs.Substitution.{formula_with};
 ghost use Rattle.proof_lines.specs.Lines.{line_trees};
 ghost use Rattle.nal_rules.specs.Verdicts.{IsLowest, IsMissingLabel};
 ghost use Rattle.nexus_main.specs.Inner.Hashes.{hash_of};
@@ -10,11 +8,10 @@ ghost use Rattle.nexus_main.specs.Outcomes.{IsJustifiedIfAllowed, IsVerdictOn};
 ghost use Rattle.nexus_main.specs.Inner.Support.{IsSupportVerdict, IsUnanswered};
 
 use crate::check_form::Input;
-use crate::statements::subject_variable;
+use form_lines::goal_for_subject;
 use keyed_hash::SipHasher;
 use nal_rules::{Cause, Verdict};
-use nal_subst::{SubstError, substitute};
-use nal_term::{Formula, Term, equal};
+use nal_term::{Formula, equal};
 use proof_check::{CheckError, check};
 use proof_lines::{Proof, Rule};
 use std::alloc::{AllocError, Global};
@@ -121,31 +118,13 @@ pub fn judge(alloc: Global, input: &Input) -> Result<Verdict, AllocError>
     ensures verdict { IfOk result (λ verdict. IsVerdictOn (form_of input.now) verdict) }
     ensures justified { IfOk result (λ verdict. IsJustifiedIfAllowed (form_of input.now) verdict) }
 {
-    let goal = match goal_for_subject(alloc, input) {
-        Ok(goal) => goal,
-        Err(SubstError::Capture) => return Ok(Verdict::Denied(Cause::GoalUnset)),
-        Err(SubstError::Memory) => return Err(AllocError),
-    };
+    let goal = goal_for_subject(alloc, &input.goal, &input.subject)?;
     match check(alloc, &input.proof, &goal) {
         Ok(_) => support_verdict(alloc, input),
         Err(CheckError::Empty) => Ok(Verdict::Denied(Cause::NoProof)),
         Err(CheckError::Line { line, fault }) => Ok(Verdict::Denied(Cause::Line { line, fault })),
         Err(CheckError::Memory) => Err(AllocError),
     }
-}
-
-/// The goal with the subject's name in place of `?subject`.
-fn goal_for_subject(alloc: Global, input: &Input) -> Result<Formula, SubstError>
-    ensures ok { IfOk result (λ g. formula_with (codes "subject") (tree.name (input.now).subject) (formula_tree (input.now).goal) ≡ Some (formula_tree g)) }
-    ensures capture { result ≡ Err SubstError.Capture → formula_with (codes "subject") (tree.name (input.now).subject) (formula_tree (input.now).goal) ≡ None }
-{
-    let Some(variable) = subject_variable(alloc) else {
-        return Err(SubstError::Memory);
-    };
-    let Ok(subject) = input.subject.copy(alloc) else {
-        return Err(SubstError::Memory);
-    };
-    substitute(alloc, &input.goal, &variable, &Term::Name(subject))
 }
 
 /// As `missing_label`, with the hashes that it wants.

@@ -19,7 +19,6 @@ mod script;
 mod script_tests;
 mod stages;
 mod start;
-mod statements;
 mod telling;
 #[cfg(test)]
 mod tests;

@@ -1,6 +1,6 @@
 ghost use Rattle.std.specs.Prelude.{◌≡◌, ◌↔◌, IsTrue, codes};
 
-use crate::statements::{goal, with_statement};
+use form_lines::{LineError, goal, with_statement};
 use nal_term::{Formula, Name, NameError};
 use std::alloc::Global;
 use text_lines::after_word;
@@ -17,15 +17,6 @@ pub enum Progress {
     YesDue(Name, Vec<Formula>, Vec<Formula>),
     /// The subject, the labels, the yes formulas and the goal.
     ProofDue(Name, Vec<Formula>, Vec<Formula>, Formula),
-}
-
-/// Why a line was not read.
-#[derive(Clone, Copy, Debug, PartialEq, Eq)]
-pub enum LineError {
-    /// No such line may stand there.
-    Wrong,
-    /// There was no memory for what it holds.
-    Memory,
 }
 
 /// How many labels, and how many yes formulas, an input may have.

@@ -1,6 +1,0 @@
-use Rattle.std.proofs.Common.{refl, ap}
-use Rattle.nal_term.specs.Trees.{formula_tree}
-use Rattle.nexus_main.proofs.statements.is_said.Goals as goal
-
-pub returns-in-Says : goal.returns-in-Says
-returns-in-Says c = (λ t. (_, _, ap formula_tree c.in-Says.is), λ s. refl)
