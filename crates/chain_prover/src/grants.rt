@@ -1,0 +1,99 @@
+//! What labels let principals state.
+ghost use Rattle.std.specs.Prelude.{◌≡◌, ◌↔◌, Contains, IsTrue, MatchOption, map};
+ghost use Rattle.nal_term.specs.Trees.{TermTree, formula_tree, term_tree, says};
+ghost use Rattle.nal_rules.specs.Scope.{IsInScope, IsNameOf};
+ghost use Rattle.chain_prover.specs.Chains.{Step, next};
+ghost use Rattle.chain_prover.specs.Inner.Paths.{Grants, grant_step};
+
+use nal_term::{Formula, Scope, Term, equal, equal_terms};
+
+/// By a label another principal speaks for the one that says it.
+#[derive(Clone, Copy)]
+pub struct Grant<'a> {
+    /// Who speaks.
+    pub speaker: &'a Term,
+    /// The names on which alone it speaks, if not on all.
+    pub scope: Option<&'a Scope>,
+}
+
+/// What the label lets another principal state for this one. None exactly where the statement does not go on to the
+/// principal by the label.
+pub fn grant_of<'a>(label: &'a Formula, principal: &Term, statement: &Formula) -> Option<Grant<'a>>
+    ensures { MatchOption result
+        ((x : TermTree) (s : Step) → next x s ≡ term_tree principal.now → ¬ Grants (formula_tree statement.now) (formula_tree label.now) x s)
+        (λ g. Grants (formula_tree statement.now) (formula_tree label.now) (term_tree g.speaker.now) (grant_step (term_tree principal.now) g.scope)) }
+{
+    match label {
+        Formula::Says(owner, delegation) if equal_terms(owner, principal) => {
+            granted(delegation, principal, statement)
+        }
+        _ => None,
+    }
+}
+
+/// What the delegation lets a principal state for this one, who says it.
+fn granted<'a>(delegation: &'a Formula, principal: &Term, statement: &Formula) -> Option<Grant<'a>>
+    ensures { MatchOption result
+        ((x : TermTree) (s : Step) → next x s ≡ term_tree principal.now → ¬ Grants (formula_tree statement.now) (says (term_tree principal.now) (formula_tree delegation.now)) x s)
+        (λ g. Grants (formula_tree statement.now) (says (term_tree principal.now) (formula_tree delegation.now)) (term_tree g.speaker.now) (grant_step (term_tree principal.now) g.scope)) }
+{
+    match delegation {
+        Formula::SpeaksFor(speaker, other) if equal_terms(other, principal) => Some(Grant {
+            speaker,
+            scope: None,
+        }),
+        Formula::SpeaksForOn(speaker, other, scope)
+            if equal_terms(other, principal) && is_in_scope(scope, statement) => {
+            Some(Grant {
+                speaker,
+                scope: Some(scope),
+            })
+        }
+        _ => None,
+    }
+}
+
+/// Whether the formula is in the scope: each atom in it by its predicate, each comparison by a side, and nothing else
+/// but conjunctions, disjunctions and implications of these.
+fn is_in_scope(scope: &Scope, f: &Formula) -> bool
+    ensures { IsTrue result ↔ IsInScope scope.now (formula_tree f.now) }
+{
+    match f {
+        Formula::Atom(predicate, _) => scope.holds(predicate),
+        Formula::Test(_, t, u) => is_name_of(scope, t) || is_name_of(scope, u),
+        Formula::And(g, h) | Formula::Or(g, h) | Formula::Implies(g, h) => {
+            is_in_scope(scope, g) && is_in_scope(scope, h)
+        }
+        _ => false,
+    }
+}
+
+fn is_name_of(scope: &Scope, term: &Term) -> bool
+    ensures { IsTrue result ↔ IsNameOf scope.now (term_tree term.now) }
+{
+    match term {
+        Term::Name(name) => scope.holds(name),
+        _ => false,
+    }
+}
+
+/// Whether a label is that the principal says the statement.
+pub fn is_said(labels: &[Formula], principal: &Term, statement: &Formula) -> bool
+    ensures { IsTrue result ↔ Contains (map formula_tree labels.now) (says (term_tree principal.now) (formula_tree statement.now)) }
+{
+    for label in labels {
+        if is_said_by(label, principal, statement) {
+            return true;
+        }
+    }
+    false
+}
+
+fn is_said_by(label: &Formula, principal: &Term, statement: &Formula) -> bool
+    ensures { IsTrue result ↔ (formula_tree label.now ≡ says (term_tree principal.now) (formula_tree statement.now)) }
+{
+    match label {
+        Formula::Says(owner, said) => equal_terms(owner, principal) && equal(said, statement),
+        _ => false,
+    }
+}

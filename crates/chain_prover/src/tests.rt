@@ -1,0 +1,4 @@
+mod cases;
+mod chains;
+mod formulas;
+mod limits;
