@@ -8,7 +8,7 @@ use Rattle.chain_prover.specs.declared.paths.Node.{Node}
 use Rattle.chain_prover.specs.Chains.{Step, delegation, restricted, part, next, IsStep}
 use Rattle.chain_prover.specs.Inner.Paths.{AreExpandedBelow, AreMarked, Extends, Grants, IsExpanded, IsReached, IsReachedWithin, step_count}
 use Rattle.chain_prover.proofs.Growing.{below_after, expanded_after, extends_twice, stands_after, was_there}
-use Rattle.chain_prover.proofs.Labels.{delegation_label, restricted_label}
+use Rattle.chain_prover.proofs.Granting.{delegation_label, restricted_label}
 use Rattle.chain_prover.proofs.Places.{got_right}
 
 -- the node that was added last

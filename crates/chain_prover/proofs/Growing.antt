@@ -8,7 +8,8 @@ use Rattle.chain_prover.specs.declared.paths.Node.{Node}
 use Rattle.chain_prover.specs.declared.paths.Lead.{Lead}
 use Rattle.chain_prover.specs.declared.paths.Lead.TheVariants.{Goal, Grant, Part}
 use Rattle.chain_prover.specs.Chains.{Step, delegation, restricted, part}
-use Rattle.chain_prover.specs.Inner.Paths.{AreExpandedBelow, AreLinked, AreMarked, Extends, Grants, IsExpanded, IsLead, IsReached, IsReachedWithin, step_count}
+use Rattle.chain_prover.specs.Inner.Owners.{size_of}
+use Rattle.chain_prover.specs.Inner.Paths.{AreExpandedBelow, AreLinked, AreMarked, AreSized, Extends, Grants, IsExpanded, IsLead, IsReached, IsReachedWithin, step_count}
 use Rattle.chain_prover.proofs.Places.{got_left, got_right, got_cases, got_one, got_set, got_contained}
 
 reached_left : (before added : List Node) (x : TermTree) (k : ℕ) → IsReached before x k → IsReached (before ++ added) x k
@@ -22,7 +23,7 @@ lead_left labels f b before added x k (Part j) (m, there, whole, lines) = (m, go
 
 module _ (labels : List FormulaTree) (f : FormulaTree) (n : ℕ) where
   pub extends_none : (nodes : List Node) → Extends labels f nodes nodes n
-  extends_none nodes = record { added = []; after_is = sym (append-nil nodes); above = All-nil (λ (m : Node). n < m.lines); linked = λ b h. h }
+  extends_none nodes = record { added = []; after_is = sym (append-nil nodes); above = All-nil (λ (m : Node). n < m.lines); linked = λ b h. h; sized = λ h. h }
 
   pub extends_twice : (before between after : List Node) → Extends labels f before between n → Extends labels f between after n → Extends labels f before after n
   extends_twice before between after d e = record {
@@ -30,15 +31,17 @@ module _ (labels : List FormulaTree) (f : FormulaTree) (n : ℕ) where
     after_is = e.after_is ∙ ap (λ xs. xs ++ e.added) d.after_is ∙ append_assoc before d.added e.added;
     above = All-append (λ (m : Node). n < m.lines) d.added e.added d.above e.above;
     linked = λ b h. e.linked b (d.linked b h);
+    sized = λ h. e.sized (d.sized h);
   }
 
   -- one more node that leads on
-  pub extends_push : (nodes : List Node) (m : Node) → n < m.lines → ((b : TermTree) → IsLead labels f b nodes (term_tree m.principal.now) m.lines m.lead) → Extends labels f nodes (nodes ++ m ∷ []) n
-  extends_push nodes m above leads = record {
+  pub extends_push : (nodes : List Node) (m : Node) → n < m.lines → m.size ≡ size_of (term_tree m.principal.now) → ((b : TermTree) → IsLead labels f b nodes (term_tree m.principal.now) m.lines m.lead) → Extends labels f nodes (nodes ++ m ∷ []) n
+  extends_push nodes m above size leads = record {
     added = m ∷ [];
     after_is = refl;
     above = All-push (λ (m : Node). n < m.lines) [] m (All-nil (λ (m : Node). n < m.lines)) above;
     linked = λ b h i o there. of b h i o (got_cases nodes (m ∷ []) i o there);
+    sized = λ h i o there. sized h i o (got_cases nodes (m ∷ []) i o there);
   }
     where
       of : (b : TermTree) → AreLinked labels f b nodes → (i : ℕ) (o : Node) → (slice_get nodes i ≡ Some o) ⊎ ((j : ℕ) × (i ≡ length nodes + j) × (slice_get (m ∷ []) j ≡ Some o))
@@ -47,6 +50,10 @@ module _ (labels : List FormulaTree) (f : FormulaTree) (n : ℕ) where
       of b h i o (inr (j, at, there)) =
           subst (λ (o : Node). IsLead labels f b (nodes ++ m ∷ []) (term_tree o.principal.now) o.lines o.lead) (got_one m j o there)
           (lead_left labels f b nodes (m ∷ []) (term_tree m.principal.now) m.lines m.lead (leads b))
+
+      sized : AreSized nodes → (i : ℕ) (o : Node) → (slice_get nodes i ≡ Some o) ⊎ ((j : ℕ) × (i ≡ length nodes + j) × (slice_get (m ∷ []) j ≡ Some o)) → o.size ≡ size_of (term_tree o.principal.now)
+      sized h i o (inl there) = h i o there
+      sized h i o (inr (j, at, there)) = subst (λ (o : Node). o.size ≡ size_of (term_tree o.principal.now)) (got_one m j o there) size
 
   module _ (before after : List Node) (e : Extends labels f before after n) where
     pub stands_after : (i : ℕ) (m : Node) → slice_get before i ≡ Some m → slice_get after i ≡ Some m

@@ -1,5 +1,6 @@
 pub mod Places
-pub mod Labels
+pub mod Granting
+pub mod Sizes
 pub mod Growing
 pub mod Expanding
 pub mod Least

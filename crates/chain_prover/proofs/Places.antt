@@ -1,5 +1,5 @@
 -- What stands at a place of a list that was made longer, or written to.
-use Rattle.std.proofs.Common.{◌≡◌, ◌+◌, ◌⊎◌, inl, inr, ℕ, zero, suc, List, [], ◌∷◌, ◌++◌, Some, length, set, refl, ap, arith}
+use Rattle.std.proofs.Common.{◌<◌, ◌≡◌, ◌+◌, ◌⊎◌, inl, inr, ℕ, zero, suc, List, [], ◌∷◌, ◌++◌, Some, length, set, refl, ap, arith}
 use Rattle.std.specs.List.{Contains, slice_get}
 use Rattle.std.proofs.lemmas.Option.{slice_get_within, get_or_from_slice_get, slice_get-get_or, same_Some}
 
@@ -49,3 +49,9 @@ module _ {X : Type 0} where
   -- what is contained in a list stands in it
   pub contained_got : (xs : List X) (x : X) → Contains xs x → (i : ℕ) × (slice_get xs i ≡ Some x)
   contained_got xs x (i, within, read) = (i, rw read at (slice_get-get_or xs i x within))
+
+  -- something stands at each place of a list
+  pub some_at : (xs : List X) (i : ℕ) → i < length xs → (x : X) × (slice_get xs i ≡ Some x)
+  some_at [] i within = absurd (omega (arith, within))
+  some_at (y ∷ xs) zero within = (y, refl)
+  some_at (y ∷ xs) (suc i) within = some_at xs i (omega (arith, within))

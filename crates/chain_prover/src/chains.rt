@@ -7,6 +7,7 @@ ghost use Rattle.chain_prover.specs.Answers.{HasNoChain, IsShortest};
 ghost use Rattle.chain_prover.specs.Chains.{IsChainProof};
 
 use crate::answers::ChainError;
+use crate::labels::Labels;
 use crate::lines::proof_of;
 use crate::search::shortest_path;
 use nal_term::Formula;
@@ -35,7 +36,8 @@ pub fn find_chain(
     let Formula::Says(principal, statement) = goal else {
         return Err(ChainError::NotSays);
     };
-    let Some(path) = shortest_path(alloc, labels.as_slice(), statement, principal)? else {
+    let labels = Labels::of(alloc, labels.as_slice())?;
+    let Some(path) = shortest_path(alloc, &labels, statement, principal)? else {
         return Ok(None);
     };
     Ok(Some(proof_of(alloc, &path, statement)?))

@@ -1,5 +1,5 @@
 //! What labels let principals state.
-ghost use Rattle.std.specs.Prelude.{◌≡◌, ◌↔◌, Contains, IsTrue, MatchOption, map};
+ghost use Rattle.std.specs.Prelude.{◌≡◌, ◌↔◌, IsTrue, MatchOption};
 ghost use Rattle.nal_term.specs.Trees.{TermTree, formula_tree, term_tree, says};
 ghost use Rattle.nal_rules.specs.Scope.{IsInScope, IsNameOf};
 ghost use Rattle.chain_prover.specs.Chains.{Step, next};
@@ -77,19 +77,8 @@ fn is_name_of(scope: &Scope, term: &Term) -> bool
     }
 }
 
-/// Whether a label is that the principal says the statement.
-pub fn is_said(labels: &[Formula], principal: &Term, statement: &Formula) -> bool
-    ensures { IsTrue result ↔ Contains (map formula_tree labels.now) (says (term_tree principal.now) (formula_tree statement.now)) }
-{
-    for label in labels {
-        if is_said_by(label, principal, statement) {
-            return true;
-        }
-    }
-    false
-}
-
-fn is_said_by(label: &Formula, principal: &Term, statement: &Formula) -> bool
+/// Whether the label is that the principal says the statement.
+pub fn is_said_by(label: &Formula, principal: &Term, statement: &Formula) -> bool
     ensures { IsTrue result ↔ (formula_tree label.now ≡ says (term_tree principal.now) (formula_tree statement.now)) }
 {
     match label {

@@ -4,6 +4,7 @@
 mod answers;
 mod chains;
 mod grants;
+mod labels;
 mod lines;
 mod paths;
 mod search;

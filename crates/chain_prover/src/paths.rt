@@ -20,6 +20,8 @@ pub enum Lead<'a> {
 #[derive(Clone, Copy)]
 pub struct Node<'a> {
     pub principal: &'a Term,
+    /// The size of the principal.
+    pub size: u64,
     /// How many lines the steps from here have in a proof.
     pub lines: u64,
     pub lead: Lead<'a>,

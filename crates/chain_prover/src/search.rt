@@ -2,14 +2,16 @@
 //!
 //! The nodes with the fewest lines are expanded first, so the first one whose principal states it by a label has the
 //! fewest lines of all. A label makes at most one node: the first has the fewest lines.
-ghost use Rattle.std.specs.Prelude.{◌≡◌, ◌<◌, ◌+◌, IfOk, MatchOption, OnOk, length, map, slice_get, ℕ, List, Some};
+ghost use Rattle.std.specs.Prelude.{◌≡◌, ◌<◌, ◌+◌, ◌-◌, ◌^◌, IfOk, MatchOption, OnOk, length, map, min, slice_get, ℕ, List, Some};
+ghost use Rattle.nal_term.specs.Size.{term_node_count};
 ghost use Rattle.nal_term.specs.Trees.{FormulaTree, TermTree, formula_tree, subprincipal, term_tree};
 ghost use Rattle.chain_prover.specs.Chains.{IsStep, Step, next};
-ghost use Rattle.chain_prover.specs.Inner.Paths.{AreExpandedBelow, AreLinked, AreMarked, Extends, Grants, IsFound, IsReached, IsReachedWithin, IsShortestPath, NeedsMore, step_count};
+ghost use Rattle.chain_prover.specs.Inner.Owners.{size_of};
+ghost use Rattle.chain_prover.specs.Inner.Paths.{AreExpandedBelow, AreLinked, AreMarked, AreSized, Extends, Grants, IsFound, IsReached, IsReachedWithin, IsShortestPath, NeedsMore, step_count};
 
-use crate::grants::{grant_of, is_said};
+use crate::labels::Labels;
 use crate::paths::{Lead, Node, Path};
-use nal_term::{Formula, Term};
+use nal_term::{Formula, Term, term_size};
 use std::alloc::{AllocError, Global};
 
 /// How many lines the steps of a chain may have, beside the one of its first principal.
@@ -27,7 +29,7 @@ struct Search<'a> {
 /// than 256 lines. An `Err` is want of memory.
 pub fn shortest_path<'a>(
     alloc: Global,
-    labels: &'a [Formula],
+    labels: &Labels<'a>,
     statement: &Formula,
     principal: &'a Term,
 ) -> Result<Option<Path<'a>>, AllocError>
@@ -35,7 +37,7 @@ pub fn shortest_path<'a>(
         (NeedsMore (map formula_tree labels.now) (formula_tree statement.now) (term_tree principal.now) 256)
         (λ path. (n : ℕ) × IsShortestPath (map formula_tree labels.now) (formula_tree statement.now) (term_tree principal.now) path.nodes.items path.first n)) }
 {
-    let mut search = Search::new(alloc, labels, principal)?;
+    let mut search = Search::new(alloc, labels.count(), principal)?;
     for lines in 0..MOST_STEP_LINES + 1 {
         if let Some(first) = search.expand_all(labels, statement, lines)? {
             return Ok(Some(Path {
@@ -49,33 +51,32 @@ pub fn shortest_path<'a>(
 
 impl<'a> Search<'a> {
     /// The goal's principal alone.
-    fn new(
-        alloc: Global,
-        labels: &'a [Formula],
-        principal: &'a Term,
-    ) -> Result<Search<'a>, AllocError>
-        ensures linked { IfOk result (λ search. (f : FormulaTree) → AreLinked (map formula_tree labels.now) f (term_tree principal.now) search.nodes.items) }
+    fn new(alloc: Global, labels: usize, principal: &'a Term) -> Result<Search<'a>, AllocError>
+        ensures linked { IfOk result (λ search. (ls : List FormulaTree) (f : FormulaTree) → AreLinked ls f (term_tree principal.now) search.nodes.items) }
+        ensures sized { IfOk result (λ search. AreSized search.nodes.items) }
         ensures goal { IfOk result (λ search. IsReached search.nodes.items (term_tree principal.now) 0) }
-        ensures marked { IfOk result (λ search. (f : FormulaTree) → AreMarked (map formula_tree labels.now) f search.nodes.items search.used.items 0) }
+        ensures marked { IfOk result (λ search. (ls : List FormulaTree) (f : FormulaTree) → labels ≡ length ls → AreMarked ls f search.nodes.items search.used.items 0) }
     {
         let mut nodes = Vec::new(alloc);
         nodes.push(Node {
             principal,
+            size: term_size(principal),
             lines: 0,
             lead: Lead::Goal,
         })?;
-        let used = vec![in alloc; false; labels.len()]?;
+        let used = vec![in alloc; false; labels]?;
         Ok(Search { nodes, used })
     }
 
     /// Expands each node with so many lines, up to one whose principal states it by a label: its place.
     fn expand_all(
         &mut self,
-        labels: &'a [Formula],
+        labels: &Labels<'a>,
         statement: &Formula,
         lines: u64,
     ) -> Result<Option<usize>, AllocError>
         requires bound { lines < 256 }
+        requires sized { AreSized self.old.nodes.items }
         requires marked { AreMarked (map formula_tree labels.now) (formula_tree statement.now) self.old.nodes.items self.old.used.items lines }
         requires expanded { AreExpandedBelow (map formula_tree labels.now) (formula_tree statement.now) self.old.nodes.items lines }
         ensures extends { OnOk result (Extends (map formula_tree labels.now) (formula_tree statement.now) self.old.nodes.items self.new.nodes.items lines) }
@@ -88,7 +89,7 @@ impl<'a> Search<'a> {
         for place in 0..self.nodes.len() {
             let node = self.nodes[place];
             if node.lines == lines {
-                if is_said(labels, node.principal, statement) {
+                if labels.say(node.principal, node.size, statement) {
                     return Ok(Some(place));
                 }
                 self.expand(labels, statement, node, place)?;
@@ -101,11 +102,12 @@ impl<'a> Search<'a> {
     /// is by a label of which no node was made.
     fn expand(
         &mut self,
-        labels: &'a [Formula],
+        labels: &Labels<'a>,
         statement: &Formula,
         node: Node<'a>,
         place: usize,
     ) -> Result<(), AllocError>
+        requires size { node.size ≡ size_of (term_tree node.principal.now) }
         requires bound { node.lines < 256 }
         requires stands { slice_get self.old.nodes.items place ≡ Some node }
         requires marked { AreMarked (map formula_tree labels.now) (formula_tree statement.now) self.old.nodes.items self.old.used.items node.lines }
@@ -115,7 +117,7 @@ impl<'a> Search<'a> {
             → next x s ≡ term_tree node.entry.principal.now → IsReachedWithin self.new.nodes.items x (node.entry.lines + step_count s)) }
     {
         self.add_whole(node, place)?;
-        for label in 0..labels.len() {
+        for label in 0..labels.count() {
             self.add_speaker(labels, statement, label, node, place)?;
         }
         Ok(())
@@ -123,6 +125,7 @@ impl<'a> Search<'a> {
 
     /// Adds a node for the principal of which that of the node at this place is a subprincipal, if it is one.
     fn add_whole(&mut self, node: Node<'a>, place: usize) -> Result<(), AllocError>
+        requires size { node.size ≡ size_of (term_tree node.principal.now) }
         requires bound { node.lines < 256 }
         requires stands { slice_get self.old.nodes.items place ≡ Some node }
         ensures extends { OnOk result ((labels : List FormulaTree) (f : FormulaTree) → Extends labels f self.old.nodes.items self.new.nodes.items node.entry.lines) }
@@ -133,6 +136,7 @@ impl<'a> Search<'a> {
         if let Term::Sub(whole, _) = node.principal {
             self.nodes.push(Node {
                 principal: whole,
+                size: size_above(node.size, whole),
                 lines: node.lines + 2,
                 lead: Lead::Part { next: place },
             })?;
@@ -144,13 +148,14 @@ impl<'a> Search<'a> {
     /// node was made of the label.
     fn add_speaker(
         &mut self,
-        labels: &'a [Formula],
+        labels: &Labels<'a>,
         statement: &Formula,
         label: usize,
         node: Node<'a>,
         place: usize,
     ) -> Result<(), AllocError>
         requires label { label < length labels.now }
+        requires size { node.size ≡ size_of (term_tree node.principal.now) }
         requires bound { node.lines < 256 }
         requires stands { slice_get self.old.nodes.items place ≡ Some node }
         requires marked { AreMarked (map formula_tree labels.now) (formula_tree statement.now) self.old.nodes.items self.old.used.items node.lines }
@@ -163,9 +168,10 @@ impl<'a> Search<'a> {
         if self.used[label] {
             return Ok(());
         }
-        if let Some(grant) = grant_of(&labels[label], node.principal, statement) {
+        if let Some(grant) = labels.grant(label, node.principal, node.size, statement) {
             self.nodes.push(Node {
                 principal: grant.speaker,
+                size: term_size(grant.speaker),
                 lines: node.lines + 3,
                 lead: Lead::Grant {
                     scope: grant.scope,
@@ -175,5 +181,17 @@ impl<'a> Search<'a> {
             self.used[label] = true;
         }
         Ok(())
+    }
+}
+
+/// The size of the term of which one of the given size is a subprincipal.
+fn size_above(size: u64, whole: &Term) -> u64
+    requires { size ≡ min (1 + term_node_count (term_tree whole.now)) (2 ^ 64 - 1) }
+    ensures { result ≡ size_of (term_tree whole.now) }
+{
+    if size == u64::MAX {
+        term_size(whole)
+    } else {
+        size - 1
     }
 }

@@ -7,6 +7,7 @@ use Rattle.nal_rules.specs.Scope.{IsInScope}
 use Rattle.chain_prover.specs.declared.paths.Node.{Node}
 use Rattle.chain_prover.specs.declared.paths.Lead.{Lead}
 use Rattle.chain_prover.specs.declared.paths.Lead.TheVariants.{Goal, Grant, Part}
+use Rattle.chain_prover.specs.Inner.Owners.{size_of}
 use Rattle.chain_prover.specs.Chains.{Step, delegation, restricted, part, next, Chain, last_of, IsStep, IsChain, chain_lines}
 
 -- the step to the one who grants it, on all or on some names
@@ -44,6 +45,10 @@ IsLead labels f b nodes x k (Part j) = (m : Node) × (slice_get nodes j ≡ Some
 abbrev pub AreLinked : List FormulaTree → FormulaTree → TermTree → List Node → Type 0
 AreLinked labels f b nodes = (i : ℕ) (n : Node) → slice_get nodes i ≡ Some n → IsLead labels f b nodes (term_tree n.principal.now) n.lines n.lead
 
+-- each node has the size of its principal
+abbrev pub AreSized : List Node → Type 0
+AreSized nodes = (i : ℕ) (n : Node) → slice_get nodes i ≡ Some n → n.size ≡ size_of (term_tree n.principal.now)
+
 -- the principal, from which k lines lead on, does not state it by a label, and there are nodes of all from which a step
 -- leads to it
 pub record IsExpanded (labels : List FormulaTree) (f : FormulaTree) (nodes : List Node) (y : TermTree) (k : ℕ) : Type 0 where
@@ -70,6 +75,7 @@ pub record Extends (labels : List FormulaTree) (f : FormulaTree) (before after :
   pub after_is : after ≡ before ++ added
   pub above : All (λ m. n < m.lines) added
   pub linked : (b : TermTree) → AreLinked labels f b before → AreLinked labels f b after
+  pub sized : AreSized before → AreSized after
 
 -- every chain to the principal has more than n lines
 abbrev pub NeedsMore : List FormulaTree → FormulaTree → TermTree → ℕ → Type 0
