@@ -1,0 +1,2 @@
+-- Words that only the contracts of private functions use. No statement about an input rests on them but by what they unfold to.
+pub mod Reading

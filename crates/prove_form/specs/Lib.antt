@@ -1,0 +1,3 @@
+pub mod ProveForm
+pub mod Answers
+pub mod Inner
