@@ -1,4 +1,4 @@
-ghost use Rattle.std.specs.Prelude.{◌≡◌, ◌≢◌, ◌↔◌, All, Contains, IfErr, IfOk, IfSome, List, None, map, ℕ};
+ghost use Rattle.std.specs.Prelude.{◌≡◌, ◌↔◌, All, Contains, IfOk, IfSome, None, map, ℕ};
 ghost use Rattle.nal_term.specs.Free.{IsClosed};
 ghost use Rattle.nal_term.specs.Trees.{formula_tree};
 ghost use Rattle.proof_lines.specs.Lines.{line_trees};

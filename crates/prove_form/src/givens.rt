@@ -1,10 +1,9 @@
 //! What stands in an input of `prove`.
-ghost use Rattle.std.specs.Prelude.{◌≡◌, ◌≢◌, ◌<◌, ◌↔◌, IfErr, IfOk, IsTrue, length, map};
+ghost use Rattle.std.specs.Prelude.{◌≡◌, ◌≢◌, ◌<◌, ◌↔◌, IfErr, IfOk, IsTrue, length};
 ghost use Rattle.nal_term.specs.Names.{IsName};
 ghost use Rattle.nal_term.specs.Trees.{FormulaTree, TermTree, formula_tree, says};
 ghost use Rattle.form_lines.specs.Statements.{IsStatement};
 ghost use Rattle.prove_form.specs.Inner.Reading.{givens_tree};
-ghost use Rattle.prove_form.specs.ProveForm as form;
 ghost use Rattle.prove_form.specs.ProveForm.{IsSaidGoal, subject_alone, with_label};
 
 use form_lines::{LineError, with_statement};
