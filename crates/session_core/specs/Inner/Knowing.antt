@@ -1,9 +1,9 @@
 -- The cases that a session knows, with their places.
-use Rattle.std.specs.Prelude.{◌++◌, ℕ, List, [], ◌∷◌, ◌&&◌, Bool, length, map, nat_lt, Option, Some, None, if◌then◌else◌}
+use Rattle.std.specs.Prelude.{◌++◌, ◌<◌, ℕ, List, [], ◌∷◌, ◌&&◌, Bool, length, map, nat_lt, slice_index_or, Option, Some, None, if◌then◌else◌}
+use Rattle.std.specs.List.{All, IsDistinct}
 use Rattle.nal_term.specs.TreeKeys.{same_bytes}
 use Rattle.verdict_words.specs.declared.places.CasePlace.{CasePlace}
 use Rattle.session_core.specs.Standing.{Triple, knows, most_known}
-use Rattle.session_core.specs.declared.known.KnownCase.{KnownCase}
 
 -- an operation, the name of an object, and the place of the case
 pub record KnownRow : Type 0 where
@@ -16,8 +16,23 @@ pub record KnownValue : Type 0 where
   pub rows : List KnownRow
   pub spare : ℕ
 
-abbrev pub row_of : KnownCase → KnownRow
-row_of c = record { op = c.op; object = c.object; place = c.place }
+-- a case as it is kept: the places of its two names in their lists, and its own
+abbrev pub KnownEntry : Type 0
+KnownEntry = (ℕ × ℕ) × CasePlace
+
+-- the row that an entry stands for, the operations and the objects being these
+abbrev pub row_of : List (List ℕ) → List (List ℕ) → KnownEntry → KnownRow
+row_of ops objects e = record { op = slice_index_or ops e.0.0 []; object = slice_index_or objects e.0.1 []; place = e.1 }
+
+-- both names of an entry are there
+abbrev pub IsNamed : List (List ℕ) → List (List ℕ) → KnownEntry → Type 0
+IsNamed ops objects e = (e.0.0 < length ops) × (e.0.1 < length objects)
+
+-- each name stands once, and both names of each entry are there
+pub record AreHeld (ops objects : List (List ℕ)) (es : List KnownEntry) : Type 0 where
+  pub distinct_ops : IsDistinct same_bytes ops
+  pub distinct_objects : IsDistinct same_bytes objects
+  pub named : All (IsNamed ops objects) es
 
 -- whether the row is of this operation and object
 abbrev pub is_row_of : KnownRow → List ℕ → List ℕ → Bool

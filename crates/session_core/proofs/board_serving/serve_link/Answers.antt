@@ -38,3 +38,6 @@ returns-clause-reached g c = c.sit-session.ensures.sat.told.reached_is
 
 pub returns-clause-later : goal.returns-clause-later
 returns-clause-later g c = c.sit-session.ensures.sat.told.later
+
+pub returns-clause-link_count : goal.returns-clause-link_count
+returns-clause-link_count g c = rw (← c.sit-session.ensures.link_count) c.close.ensures.count
