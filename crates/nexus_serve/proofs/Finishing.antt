@@ -1,0 +1,229 @@
+-- A service that has finished.
+use Rattle.std.proofs.Common.{◌≡◌, ◌≢◌, ◌⊎◌, inl, inr, ◌<◌, ◌≤◌, ◌+◌, ◌*◌, ◌-◌, ℕ, Bool, true, false, List, [], ◌∷◌, ◌++◌, length, take, drop, filter, Option, Some, None, refl, sym, ap, ◌∙◌, subst, arith, append_assoc, append-nil, length-append}
+use Rattle.std.proofs.Math.Seq.{drop-append_seam}
+use Rattle.std.proofs.lemmas.List.{map-append}
+use Rattle.std.proofs.lemmas.List.Elements.{All-append, All-cons, All-head, All-map, All-nil, All-tail, All-weaker, Contains-append_right}
+use Rattle.std.specs.Prelude.{All, Contains, map}
+use Rattle.policy_history.specs.declared.events.Entry.{Entry}
+use Rattle.policy_history.specs.declared.heads.Head.{Head}
+use Rattle.policy_history.specs.Events.{EntryTree}
+use Rattle.policy_history.specs.Values.{entry_trees, greatest_of}
+use Rattle.verdict_words.specs.Histories.{EachFrom, IsPrefix, own}
+use Rattle.verdict_words.specs.Rule.{AreOf, IsPart, Stepped, is_on, last_met}
+use Rattle.verdict_words.specs.Settling.{all_met, met_of}
+use Rattle.verdict_words.specs.Values.{Identity, PassValue, met_seen}
+use Rattle.verdict_words.specs.Words.{register_word}
+use Rattle.verdict_words.specs.declared.views.Item.TheVariants.{Met}
+use Rattle.policy_book.specs.Books.{BookValue, IsMetIn, session_of}
+use Rattle.session_core.specs.ToldLaws.{ToldStaysTold}
+use Rattle.nexus_serve.specs.declared.service.ServeEnd.{ServeEnd}
+use Rattle.nexus_serve.specs.declared.service.ServeEnd.TheVariants.{Done, DoorFault, Memory}
+use Rattle.nexus_serve.specs.Views.{DoorView, PanelView, ReportView}
+use Rattle.nexus_serve.specs.Workers.{HaveWorked, SomeFailed}
+use Rattle.nexus_serve.specs.Services.{HasSeenAll, HaveOneOrder, IsServed, ServedView, Serves, SinkView, done, is_fault, no_memory, sessions_of}
+use Rattle.nexus_serve.specs.Inner.Gathering.{GatheredValue, gathered_all, joined, nothing, pass_of, rest_of, with_unused}
+use Rattle.nexus_serve.specs.Inner.Joining.{IsMetBy, met_report, reports_of, unused_of}
+use Rattle.nexus_serve.specs.Inner.Reporting.{IsLost, IsReported, end_of}
+use Rattle.nexus_serve.specs.Inner.Serving.{AreDone, doors_of, panels_of}
+use Rattle.nexus_serve.specs.Inner.Working.{IsDone, IsUnused, WorkerValue}
+use Rattle.nexus_serve.proofs.Gathering.{doors_gathered, joined_met, panels_gathered, passes_gathered, rests_gathered, some_failed, tells_all, unused_gathered}
+use Rattle.nexus_serve.proofs.Joining.{have_worked, of_reports, works_same}
+use Rattle.nexus_serve.proofs.Lists.{all_both, all_left, all_right}
+use Rattle.nexus_serve.proofs.Seeing.{own_within}
+
+fault_is : (b : Bool) → is_fault (end_of b) ≡ b
+fault_is true = refl
+fault_is false = refl
+
+all_unmap : {X Y : Type 0} (P : Y → Type 0) (f : X → Y) (xs : List X) → All P (map f xs) → All (λ x. P (f x)) xs
+all_unmap P f [] h = All-nil (λ x. P (f x))
+all_unmap P f (x ∷ xs) h = All-cons (λ x. P (f x)) x xs (All-head P (f x) (map f xs) h) (all_unmap P f xs (All-tail P (f x) (map f xs) h))
+
+same_sessions : (board : Identity Entry Head) (es : List Entry) (reports : List ReportView) → sessions_of (map (met_report board es) reports) ≡ sessions_of reports
+same_sessions board es [] = refl
+same_sessions board es (r ∷ rs) = ap (λ l. r.session ∷ l) (same_sessions board es rs)
+
+-- the passes of all workers are as they were made where they were not used
+all_unused : {P : Type 0} (panel : P → PanelView) (board : Identity Entry Head) (first most : ℕ) (hired workers : List (WorkerValue P)) → AreDone panel board first most hired workers → All (IsUnused board) (unused_of workers)
+all_unused panel board first most [] [] stopped = All-nil (IsUnused board)
+all_unused panel board first most (j ∷ js) (w ∷ ws) (hired, stopped, others) = All-append (IsUnused board) w.passes (unused_of ws) stopped.unused (all_unused panel board (first + most) most js ws others)
+all_unused panel board first most [] (w ∷ ws) stopped = absurd stopped
+all_unused panel board first most (j ∷ js) [] stopped = absurd stopped
+
+-- a report's session is that of its pass
+all_same : {P : Type 0} (panel : P → PanelView) (board : Identity Entry Head) (first most : ℕ) (hired workers : List (WorkerValue P)) → AreDone panel board first most hired workers → All (λ (report : ReportView). report.pass.session ≡ report.session) (reports_of workers)
+all_same panel board first most [] [] stopped = All-nil (λ (report : ReportView). report.pass.session ≡ report.session)
+all_same panel board first most (j ∷ js) (w ∷ ws) (hired, stopped, others) = All-append (λ (report : ReportView). report.pass.session ≡ report.session) w.reports (reports_of ws) (works_same stopped.worked.works) (all_same panel board (first + most) most js ws others)
+all_same panel board first most [] (w ∷ ws) stopped = absurd stopped
+all_same panel board first most (j ∷ js) [] stopped = absurd stopped
+
+-- of a list that is a front and a rest, each of the rest has what is known of each behind the front
+all_behind : {E : Type 0} (P : E → Type 0) (low : ℕ) (whole front rest : List E) → whole ≡ front ++ rest → low ≤ length front → EachFrom low whole (λ before e. P e) → All P rest
+all_behind P low whole front [] is long each = All-nil P
+all_behind P low whole front (e ∷ rest) is long each =
+    let grown = length-append front (e ∷ []) in
+    All-cons P e rest (each front e rest is long) (all_behind P low whole (front ++ e ∷ []) rest (is ∙ sym (append_assoc front (e ∷ []) rest)) (omega (arith, long, grown)) each)
+
+module _ {K P : Type 0} (panel : P → PanelView) (stays : ToldStaysTold) (book : BookValue K) (start : SinkView) (served : ServedView P) (most : ℕ) (hired workers : List (WorkerValue P))
+    (are_done : AreDone panel book.board book.board.origin.first most hired workers) (all_numbers : book.next ≡ book.board.origin.first + length workers * most)
+    (reported : IsReported book start (with_unused (gathered_all nothing workers)) served) (first_is : book.board.origin.first ≡ greatest_of (entry_trees book.board.origin.opening) + 1) where
+  abbrev board : Identity Entry Head
+  board = book.board
+
+  abbrev es : List Entry
+  es = book.entries
+
+  abbrev reports : List ReportView
+  reports = reports_of workers
+
+  abbrev unused : List (PassValue Entry Head)
+  unused = unused_of workers
+
+  passes : (with_unused (gathered_all nothing workers)).passes ≡ map pass_of reports ++ unused
+  passes = ap (λ l. l ++ (gathered_all nothing workers).unused) (passes_gathered nothing workers) ∙ ap (λ l. map pass_of reports ++ l) (unused_gathered nothing workers)
+
+  handed : served.reports ≡ map (met_report board es) reports
+  handed =
+      reported.reports ∙ ap (λ l. joined l (all_met book.board es (with_unused (gathered_all nothing workers)).passes)) (rests_gathered nothing workers)
+      ∙ ap (λ l. joined (map rest_of reports) (all_met book.board es l)) passes
+      ∙ ap (joined (map rest_of reports)) (map-append (λ (pass : PassValue Entry Head). met_of board es pass.session pass.trail) (map pass_of reports) unused) ∙ joined_met board es reports (all_met board es unused)
+
+  met : All (IsMetIn book) (map pass_of reports ++ unused)
+  met = subst (All (IsMetIn book)) passes reported.met
+
+  met_reports : All (λ (report : ReportView). IsMetIn book report.pass) reports
+  met_reports = all_unmap (IsMetIn book) pass_of reports (all_left (IsMetIn book) (map pass_of reports) unused met)
+
+  met_by : All (λ (report : ReportView). IsMetBy es report.pass) reports
+  met_by = All-weaker (λ (report : ReportView). IsMetIn book report.pass) (λ (report : ReportView). IsMetBy es report.pass) (λ report is. record { seen = is.seen; own_is = is.own_met }) reports met_reports
+
+  fault : is_fault served.end ≡ (gathered_all nothing workers).has_failed
+  fault = ap is_fault reported.end ∙ fault_is (gathered_all nothing workers).has_failed
+
+  seen_all : (report : ReportView) → IsMetBy es report.pass × (report.pass.session ≡ report.session) → HasSeenAll es (met_report board es report)
+  seen_all report (is, same) = record {
+    before = report.pass.trail;
+    trail = refl;
+    seen = refl;
+    own_is = subst (λ s. own session_of es s ≡ own session_of (take (last_met report.pass.trail) es) s) same (own_within es report.pass.seen (last_met report.pass.trail) report.pass.session is.seen is.own_is);
+  }
+
+  seen : All (HasSeenAll es) (map (met_report board es) reports)
+  seen = All-map (HasSeenAll es) (met_report board es) reports (All-weaker (λ (report : ReportView). IsMetBy es report.pass × (report.pass.session ≡ report.session)) (λ (report : ReportView). HasSeenAll es (met_report board es report)) seen_all reports (all_both (λ (report : ReportView). IsMetBy es report.pass) (λ (report : ReportView). report.pass.session ≡ report.session) reports met_by (all_same panel board board.origin.first most hired workers are_done)))
+
+  -- no entry has the session of a pass that was not used
+  no_entry : (pass : PassValue Entry Head) → IsMetIn book pass × IsUnused board pass → own session_of es pass.session ≡ []
+  no_entry pass (is, un) = is.own_met ∙ ap (λ trail. own session_of (take (last_met trail) pass.seen) pass.session) un.trail
+
+  no_entries : All (λ (pass : PassValue Entry Head). own session_of es pass.session ≡ []) unused
+  no_entries = All-weaker (λ (pass : PassValue Entry Head). IsMetIn book pass × IsUnused board pass) (λ (pass : PassValue Entry Head). own session_of es pass.session ≡ []) no_entry unused (all_both (IsMetIn book) (IsUnused board) unused (all_right (IsMetIn book) (map pass_of reports) unused met) (all_unused panel board board.origin.first most hired workers are_done))
+
+  abbrev more : List Entry
+  more = reported.numbered.begins.0
+
+  opened : es ≡ board.origin.opening ++ more
+  opened = reported.numbered.begins.1
+
+  behind : drop (length board.origin.opening) es ≡ more
+  behind = ap (drop (length board.origin.opening)) opened ∙ drop-append_seam board.origin.opening more
+
+  bounds : All (λ (entry : Entry). (board.origin.first ≤ entry.session) × (entry.session < board.origin.first + length workers * most)) more
+  bounds = all_behind (λ (entry : Entry). (board.origin.first ≤ entry.session) × (entry.session < board.origin.first + length workers * most)) (length board.origin.opening) es board.origin.opening more opened (omega arith) bound
+    where
+      bound : (before : List Entry) (entry : Entry) (after : List Entry) → es ≡ before ++ entry ∷ after → length board.origin.opening ≤ length before
+          → (board.origin.first ≤ entry.session) × (entry.session < board.origin.first + length workers * most)
+      bound before entry after is far = (reported.numbered.new before entry after is far, subst (λ n. entry.session < n) all_numbers (reported.numbered.below before entry after is (omega arith)))
+
+  in_all : (entry : Entry) → Contains more entry → Contains es entry
+  in_all entry here = rw (opened) (Contains-append_right board.origin.opening more entry here)
+
+  made : All (λ (entry : Entry). Contains (sessions_of (map (met_report board es) reports)) entry.session) (drop (length board.origin.opening) es)
+  made = rw (behind, same_sessions board es reports) (of_reports panel session_of more es board most board.origin.first hired workers are_done no_entries in_all bounds)
+
+  register_parts : (object : ℕ) (steps : List Stepped) → All (λ (pass : PassValue Entry Head). IsPart (register_word object) steps pass.session pass.trail) (all_met book.board es (with_unused (gathered_all nothing workers)).passes)
+      → All (λ (pass : PassValue Entry Head). IsPart (register_word object) steps pass.session (pass.trail ++ Met (length es) ∷ [])) (map pass_of reports ++ unused)
+  register_parts object steps parts =
+      all_unmap (λ (pass : PassValue Entry Head). IsPart (register_word object) steps pass.session pass.trail) (λ (pass : PassValue Entry Head). met_of board es pass.session pass.trail) (map pass_of reports ++ unused)
+      (subst (λ l. All (λ (pass : PassValue Entry Head). IsPart (register_word object) steps pass.session pass.trail) (all_met board es l)) passes parts)
+
+  report_part : (object : ℕ) (steps : List Stepped) (report : ReportView) → IsPart (register_word object) steps report.pass.session (report.pass.trail ++ Met (length es) ∷ []) × (report.pass.session ≡ report.session)
+      → IsPart (register_word object) steps (met_report board es report).session (met_report board es report).pass.trail
+  report_part object steps report (part, same) = subst (λ s. IsPart (register_word object) steps s (report.pass.trail ++ Met (length es) ∷ [])) same part
+
+  none_of_map : {X Y : Type 0} (f : X → Y) (xs : List X) → map f xs ≡ [] → xs ≡ []
+  none_of_map f [] e = refl
+  none_of_map f (x ∷ xs) e = absurd (cc e)
+
+  unused_part : (object : ℕ) (steps : List Stepped) (pass : PassValue Entry Head) → IsPart (register_word object) steps pass.session (pass.trail ++ Met (length es) ∷ []) × IsUnused board pass
+      → own (λ (step : Stepped). step.session) steps pass.session ≡ []
+  unused_part object steps pass (part, un) =
+      none_of_map (λ (step : Stepped). step.item) (own (λ (step : Stepped). step.session) steps pass.session) (part ∙ ap (λ trail. filter (is_on (register_word object)) (trail ++ Met (length es) ∷ [])) un.trail)
+
+  registers : HaveOneOrder (map (met_report board es) reports)
+  registers object small =
+      let found = reported.registers object small in
+      let steps = found.0 in
+      let parts = register_parts object steps found.4 in
+      let of_all = all_unmap (λ (pass : PassValue Entry Head). IsPart (register_word object) steps pass.session (pass.trail ++ Met (length es) ∷ [])) pass_of reports (all_left (λ (pass : PassValue Entry Head). IsPart (register_word object) steps pass.session (pass.trail ++ Met (length es) ∷ [])) (map pass_of reports) unused parts) in
+      let of_unused = All-weaker (λ (pass : PassValue Entry Head). IsPart (register_word object) steps pass.session (pass.trail ++ Met (length es) ∷ []) × IsUnused board pass) (λ (pass : PassValue Entry Head). own (λ (step : Stepped). step.session) steps pass.session ≡ []) (unused_part object steps) unused (all_both (λ (pass : PassValue Entry Head). IsPart (register_word object) steps pass.session (pass.trail ++ Met (length es) ∷ [])) (IsUnused board) unused (all_right (λ (pass : PassValue Entry Head). IsPart (register_word object) steps pass.session (pass.trail ++ Met (length es) ∷ [])) (map pass_of reports) unused parts) (all_unused panel board board.origin.first most hired workers are_done)) in (
+        steps,
+        found.1,
+        found.2,
+        All-map (λ (report : ReportView). IsPart (register_word object) steps report.session report.pass.trail) (met_report board es) reports (All-weaker (λ (report : ReportView). IsPart (register_word object) steps report.pass.session (report.pass.trail ++ Met (length es) ∷ []) × (report.pass.session ≡ report.session)) (λ (report : ReportView). IsPart (register_word object) steps (met_report board es report).session (met_report board es report).pass.trail) (report_part object steps) reports (all_both (λ (report : ReportView). IsPart (register_word object) steps report.pass.session (report.pass.trail ++ Met (length es) ∷ [])) (λ (report : ReportView). report.pass.session ≡ report.session) reports of_all (all_same panel board board.origin.first most hired workers are_done))),
+        rw (same_sessions board es reports) (of_reports panel (λ (step : Stepped). step.session) steps steps board most board.origin.first hired workers are_done of_unused (λ step here. here) (subst (λ n. AreOf board.origin.first n steps) all_numbers found.3)),
+      )
+
+  ends : (served.end ≡ Done) ⊎ ((served.end ≡ DoorFault) × SomeFailed (doors_of hired) (doors_of workers))
+  ends = by_fault (gathered_all nothing workers).has_failed refl
+    where
+      by_fault : (b : Bool) → (gathered_all nothing workers).has_failed ≡ b → (served.end ≡ Done) ⊎ ((served.end ≡ DoorFault) × SomeFailed (doors_of hired) (doors_of workers))
+      by_fault false is = inl (reported.end ∙ ap end_of is)
+      by_fault true is = inr (reported.end ∙ ap end_of is, of_some (some_failed panel board board.origin.first most nothing hired workers are_done is))
+        where
+          of_some : (false ≡ true) ⊎ SomeFailed (doors_of hired) (doors_of workers) → SomeFailed (doors_of hired) (doors_of workers)
+          of_some (inl never) = absurd (cc never)
+          of_some (inr some) = some
+
+  doors : served.doors ≡ doors_of workers
+  doors = reported.doors ∙ doors_gathered nothing workers
+
+  panels : served.panels ≡ panels_of workers
+  panels = reported.panels ∙ panels_gathered nothing workers
+
+  worked : HaveWorked board.origin.setting (length board.origin.opening) 1 (is_fault served.end) (greatest_of (entry_trees board.origin.opening) + 1) most (doors_of hired) (doors_of workers) (map panel (panels_of hired)) (map panel (panels_of workers)) (map (met_report board es) reports)
+  worked =
+      subst (λ n. HaveWorked board.origin.setting (length board.origin.opening) 1 (is_fault served.end) n most (doors_of hired) (doors_of workers) (map panel (panels_of hired)) (map panel (panels_of workers)) (map (met_report board es) reports)) first_is
+      (subst (λ b. HaveWorked board.origin.setting (length board.origin.opening) 1 b board.origin.first most (doors_of hired) (doors_of workers) (map panel (panels_of hired)) (map panel (panels_of workers)) (map (met_report board es) reports)) (sym fault)
+      (have_worked panel stays board es (gathered_all nothing workers).has_failed most board.origin.first hired workers are_done (tells_all nothing workers) met_by))
+
+  is_served : IsServed board.origin.setting board.origin.opening es most (doors_of hired) (doors_of workers) (map panel (panels_of hired)) (map panel (panels_of workers)) (map (met_report board es) reports) served.end
+  is_served = record {
+    legal = reported.legal;
+    begins = reported.numbered.begins;
+    worked = worked;
+    ends = ends;
+    seen = seen;
+    made = made;
+    registers = registers;
+  }
+
+  all_served : IsServed board.origin.setting board.origin.opening es most (doors_of hired) served.doors (map panel (panels_of hired)) (map panel served.panels) served.reports served.end
+  all_served =
+      subst (λ ds. IsServed board.origin.setting board.origin.opening es most (doors_of hired) ds (map panel (panels_of hired)) (map panel served.panels) served.reports served.end) (sym doors)
+      (subst (λ ps. IsServed board.origin.setting board.origin.opening es most (doors_of hired) (doors_of workers) (map panel (panels_of hired)) (map panel ps) served.reports served.end) (sym panels)
+      (subst (λ rs. IsServed board.origin.setting board.origin.opening es most (doors_of hired) (doors_of workers) (map panel (panels_of hired)) (map panel (panels_of workers)) rs served.end) (sym handed) is_served))
+
+  -- what was reported is what a service hands back
+  pub finished : Serves panel most board.origin.setting board.origin.opening start (doors_of hired) (panels_of hired) served
+  finished = done es reported.sink_now reported.journal reported.sink all_served reported.text
+
+-- nothing is handed back
+pub lost_all : {P : Type 0} (panel : P → PanelView) {served : ServedView P} (most : ℕ) (h : Head) (opening : List Entry) (start : SinkView) (ds : List DoorView) (ps : List P) → IsLost served → Serves panel most h opening start ds ps served
+lost_all panel most h opening start ds ps lost = no_memory lost.journal lost.written lost.end
+
+pub finished_or_lost : {K P : Type 0} (panel : P → PanelView) (stays : ToldStaysTold) (book : BookValue K) (start : SinkView) (served : ServedView P) (most : ℕ) (hired workers : List (WorkerValue P))
+    → AreDone panel book.board book.board.origin.first most hired workers → book.next ≡ book.board.origin.first + length workers * most
+    → book.board.origin.first ≡ greatest_of (entry_trees book.board.origin.opening) + 1 → IsLost served ⊎ IsReported book start (with_unused (gathered_all nothing workers)) served
+    → Serves panel most book.board.origin.setting book.board.origin.opening start (doors_of hired) (panels_of hired) served
+finished_or_lost panel stays book start served most hired workers stopped numbers first (inl lost) = lost_all panel most book.board.origin.setting book.board.origin.opening start (doors_of hired) (panels_of hired) lost
+finished_or_lost panel stays book start served most hired workers stopped numbers first (inr reported) = finished panel stays book start served most hired workers stopped numbers reported first

@@ -1,0 +1,86 @@
+-- What a session was told over what its pass had seen it was told over the whole journal.
+use Rattle.std.proofs.Common.{◌≡◌, ◌<◌, ◌≤◌, ◌+◌, ◌-◌, ℕ, Bool, true, List, [], ◌∷◌, ◌++◌, length, take, refl, sym, ap, ◌∙◌, subst, arith, length-append, append-nil}
+use Rattle.std.proofs.Math.Seq.{take-append_seam}
+use Rattle.std.proofs.lemmas.List.{map-append, length-map}
+use Rattle.nexus_serve.proofs.Lists.{all_left, all_last}
+use Rattle.std.specs.Prelude.{All, map}
+use Rattle.policy_history.specs.declared.events.Entry.{Entry}
+use Rattle.policy_history.specs.declared.heads.Head.{Head}
+use Rattle.policy_history.specs.Values.{entry_trees}
+use Rattle.verdict_words.specs.Values.{Identity, PassValue}
+use Rattle.verdict_words.specs.declared.views.Item.{Item}
+use Rattle.verdict_words.specs.declared.views.Item.TheVariants.{Met}
+use Rattle.session_core.specs.Served.{IsServedSo}
+use Rattle.session_core.specs.ToldLaws.{ToldStaysTold}
+use Rattle.nexus_serve.specs.Views.{DoorView, LinkView, PanelView, ReportView, reported}
+use Rattle.nexus_serve.specs.Workers.{HasComeFrom, HasWorked, IsHeard, Stops, Works, all, failed, next, no_more, nobody}
+use Rattle.nexus_serve.specs.Inner.Joining.{IsMetBy, met_report}
+
+all_of : (trail : List Item) → take (length trail - 0) trail ≡ trail
+all_of trail =
+    let same : length trail - 0 ≡ length trail = omega arith in
+    ap (λ n. take n trail) same ∙ ap (λ xs. take (length trail) xs) (sym (append-nil trail)) ∙ take-append_seam trail []
+
+but_one : (trail : List Item) (item : Item) → take (length (trail ++ item ∷ []) - 1) (trail ++ item ∷ []) ≡ trail
+but_one trail item =
+    let long = length-append trail (item ∷ []) in
+    let short : length (trail ++ item ∷ []) - 1 ≡ length trail = omega (arith, long) in
+    ap (λ n. take n (trail ++ item ∷ [])) short ∙ take-append_seam trail (item ∷ [])
+
+module _ (stays : ToldStaysTold) (board : Identity Entry Head) (es : List Entry) (h : Head) (low : ℕ) where
+  -- a session, once its pass was met again
+  heard_met : (report : ReportView) (panel panel_now : PanelView) → IsMetBy es report.pass → IsHeard h low 0 report panel panel_now → IsHeard h low 1 (met_report board es report) panel panel_now
+  heard_met report panel panel_now met heard =
+      let served = heard.served in
+      let trail = report.pass.trail in
+      let more = met.seen.0 in
+      let trees : entry_trees es ≡ entry_trees report.pass.seen ++ entry_trees more = ap entry_trees met.seen.1 ∙ map-append _ report.pass.seen more in
+      let grown = stays h (entry_trees report.pass.seen) (entry_trees more) report.session low served.requests served.replies _ _ served.last served.told in
+      record {
+        said = heard.said;
+        served = record {
+          requests = served.requests;
+          replies = served.replies;
+          last = served.last;
+          ended = served.ended;
+          told = rw (but_one trail (Met (length es)), trees, ← all_of trail) grown;
+          who_is = served.who_is;
+        };
+        downs = heard.downs;
+        asks = heard.asks;
+        reached = heard.reached;
+      }
+
+  from_met : (report : ReportView) (link : LinkView) → HasComeFrom link report → HasComeFrom link (met_report board es report)
+  from_met report link from = record { bytes = from.bytes; place = from.place; toward = from.toward; over = from.over; closed = from.closed; faults = from.faults }
+
+  -- all sessions of a worker, once their passes were met again
+  works_met : (first : ℕ) (door : DoorView) (panel : PanelView) (reports : List ReportView) (door_now : DoorView) (panel_now : PanelView)
+      → Works h low 0 first door panel reports door_now panel_now → All (λ (report : ReportView). IsMetBy es report.pass) reports
+      → Works h low 1 first door panel (map (met_report board es) reports) door_now panel_now
+  works_met first door panel _ _ _ nobody met = nobody
+  works_met first door panel _ _ _ (next {reports} {door_then} {panel_then} report link door_now panel_now works answered from (number, same) heard) met =
+      let before = all_left (λ (report : ReportView). IsMetBy es report.pass) reports (report ∷ []) met in
+      let last = all_last (λ (report : ReportView). IsMetBy es report.pass) reports report met in
+      let place : report.session ≡ first + length (map (met_report board es) reports) = number ∙ ap (λ n. first + n) (sym (length-map reports (met_report board es))) in
+      rw (map-append (met_report board es) reports (report ∷ []))
+      (next (met_report board es report) link door_now panel_now (works_met first door panel reports door_then panel_then works before) answered (from_met report link from) (place, same)
+      (heard_met report panel_then panel_now last heard))
+
+  -- a worker that has stopped, once the passes were met again; that its door has failed may be told of more workers than of it
+  pub worked_met : (is_told may_tell : Bool) (first most : ℕ) (door door_now : DoorView) (panel panel_now : PanelView) (reports : List ReportView)
+      → (is_told ≡ true → may_tell ≡ true) → HasWorked h low 0 is_told first most door door_now panel panel_now reports → All (λ (report : ReportView). IsMetBy es report.pass) reports
+      → HasWorked h low 1 may_tell first most door door_now panel panel_now (map (met_report board es) reports)
+  worked_met is_told may_tell first most door door_now panel panel_now reports told worked met = record {
+    door_then = worked.door_then;
+    works = works_met first door panel reports worked.door_then panel_now worked.works met;
+    stops = stops_met worked.stops;
+  }
+    where
+      count : length (map (met_report board es) reports) ≡ length reports
+      count = length-map reports (met_report board es)
+
+      stops_met : Stops is_told most (length reports) worked.door_then door_now → Stops may_tell most (length (map (met_report board es) reports)) worked.door_then door_now
+      stops_met (all as_many same) = all (count ∙ as_many) same
+      stops_met (no_more fewer answered) = no_more (subst (λ n. n < most) (sym count) fewer) answered
+      stops_met (failed fewer answered is) = failed (subst (λ n. n < most) (sym count) fewer) answered (told is)

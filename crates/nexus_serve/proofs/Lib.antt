@@ -1,0 +1,12 @@
+mod Views
+mod Working
+mod Numbering
+mod Readiness
+mod Lists
+mod Growing
+mod Gathering
+mod Joining
+mod Seeing
+mod Finishing
+mod Texts
+mod Crossing

@@ -1,0 +1,92 @@
+-- How workers are hired, one after another.
+use Rattle.std.proofs.Common.{◌≡◌, ◌≢◌, ◌<◌, ◌≤◌, ◌+◌, ◌*◌, ℕ, zero, suc, List, [], ◌∷◌, ◌++◌, length, refl, sym, ap, ◌∙◌, subst, arith}
+use Rattle.std.proofs.Math.Nat.{mul-le-mul_right, suc-mul}
+use Rattle.std.proofs.lemmas.List.Elements.{All-cons, All-nil}
+use Rattle.std.specs.Prelude.{All, slice_index_or}
+use Rattle.policy_history.specs.declared.events.Entry.{Entry}
+use Rattle.policy_history.specs.declared.heads.Head.{Head}
+use Rattle.verdict_words.specs.Values.{Identity, PassValue}
+use Rattle.nexus_serve.specs.Views.{PanelView}
+use Rattle.nexus_serve.specs.Inner.Serving.{AreDone, AreHired, AreOfBoard}
+use Rattle.policy_book.specs.Books.{BookValue}
+use Rattle.nexus_serve.specs.Inner.Working.{AreNumbered, IsDone, IsHired, IsUnused, WorkerValue}
+
+-- a book behind one pass more
+pub entered : {K : Type 0} (book book_then : BookValue K) (n : ℕ) → book_then ≡ record book { next = book.next + n } → record book_then { next = book_then.next + 1 } ≡ record book { next = book.next + (n + 1) }
+entered book book_then n is =
+    let sum : book.next + n + 1 ≡ book.next + (n + 1) = omega arith in
+    rw (is) (ap (λ m. record book { next = m }) sum)
+
+pub with_next : {K : Type 0} (book book_then : BookValue K) (n m : ℕ) → book_then ≡ record book { next = n } → record book_then { next = book_then.next + m } ≡ record book { next = n + m }
+with_next book book_then n m is = rw (is) refl
+
+pub next_of : {K : Type 0} (book book_then : BookValue K) (n : ℕ) → book_then ≡ record book { next = n } → book_then.next ≡ n
+next_of book book_then n is = rw (is) refl
+
+-- a pass that was made now is not used
+pub pass_entered : (board : Identity Entry Head) (entries : List Entry) (session : ℕ) (pass : PassValue Entry Head) → pass ≡ record { board = board; session = session; seen = entries; trail = [] }
+    → All (λ (entry : Entry). entry.session ≢ session) entries → IsUnused board pass × (pass.session ≡ session)
+pass_entered board entries session pass is none = rw (is) (record { board_is = refl; trail = refl; unused = none }, refl)
+
+-- one pass more
+pub numbered_last : (first : ℕ) (passes : List (PassValue Entry Head)) (pass : PassValue Entry Head) → AreNumbered first passes → pass.session ≡ first + length passes → AreNumbered first (passes ++ pass ∷ [])
+numbered_last first [] pass numbered is = (let none : first + 0 ≡ first = omega arith in is ∙ none, tt)
+numbered_last first (p ∷ ps) pass numbered is =
+    (numbered.0, numbered_last (first + 1) ps pass numbered.1 (let moved : first + suc (length ps) ≡ first + 1 + length ps = omega arith in is ∙ moved))
+
+-- the number behind the sessions of one worker more
+pub one_more_worker : (first k most : ℕ) → first + suc k * most ≡ first + most + k * most
+one_more_worker first k most = let next = suc-mul k most in omega (arith, next)
+
+-- the same from below
+pub one_more_before : (first k n most : ℕ) → n ≡ k + 1 → first + k * most + most ≡ first + n * most
+one_more_before first k n most is =
+    let next = suc-mul k most in
+    let sum : first + k * most + most ≡ first + suc k * most = omega (arith, next) in
+    let same : suc k ≡ n = omega (arith, is) in
+    sum ∙ ap (λ m. first + m * most) same
+
+-- there are numbers for one worker more
+pub room_for_one : (first k n most bound : ℕ) → first + n * most ≤ bound → k < n → first + k * most + most ≤ bound
+room_for_one first k n most bound all fewer =
+    let next = suc-mul k most in
+    let within : suc k * most ≤ n * most = mul-le-mul_right most (let more : suc k ≤ n = omega (arith, fewer) in more) in
+    omega (arith, all, next, within)
+
+-- the numbers behind the sessions of so many workers
+pub same_numbers : (next first k n most : ℕ) → next ≡ first → n ≡ k → next + k * most ≡ first + n * most
+same_numbers next first k n most is count = rw (is, count) refl
+
+-- each of the hired was hired from its own first session on
+pub each_hired : {P : Type 0} (board : Identity Entry Head) (first most : ℕ) (workers : List (WorkerValue P)) → AreHired board first most workers
+    → All (λ (worker : WorkerValue P). IsHired board worker.first (length worker.passes) worker) workers
+each_hired board first most [] hired = All-nil (λ worker. IsHired board worker.first (length worker.passes) worker)
+each_hired board first most (w ∷ ws) hired =
+    let here : IsHired board w.first (length w.passes) w = subst (λ n. IsHired board n (length w.passes) w) (sym hired.0.first_is) (subst (λ n. IsHired board first n w) (sym hired.0.count) hired.0) in
+    All-cons (λ worker. IsHired board worker.first (length worker.passes) worker) w ws here (each_hired board (first + most) most ws hired.1)
+
+-- the hired are done where each of them is
+pub all_done : {P : Type 0} (panel : P → PanelView) (board : Identity Entry Head) (first most : ℕ) (hired workers : List (WorkerValue P)) → AreHired board first most hired → length workers ≡ length hired
+    → ((i : ℕ) (d e : WorkerValue P) → i < length hired → IsDone panel board (slice_index_or hired i d) (slice_index_or workers i e)) → AreDone panel board first most hired workers
+all_done panel board first most [] [] are long each = tt
+all_done panel board first most (j ∷ js) (w ∷ ws) are long each =
+    (are.0, each 0 j w (omega arith), all_done panel board (first + most) most js ws are.1 (cc long) (λ i d e below. each (suc i) d e (omega (arith, below))))
+all_done panel board first most [] (w ∷ ws) are long each = absurd (cc long)
+all_done panel board first most (j ∷ js) [] are long each = absurd (cc long)
+
+-- all passes of the done are of the board
+pub done_of_board : {P : Type 0} (panel : P → PanelView) (board : Identity Entry Head) (hired workers : List (WorkerValue P)) → length workers ≡ length hired
+    → ((i : ℕ) (d e : WorkerValue P) → i < length hired → IsDone panel board (slice_index_or hired i d) (slice_index_or workers i e)) → All (AreOfBoard board) workers
+done_of_board panel board [] [] long each = All-nil (AreOfBoard board)
+done_of_board panel board (j ∷ js) (w ∷ ws) long each =
+    let here = each 0 j w (omega arith) in
+    All-cons (AreOfBoard board) w ws (record { used = here.used; unused = here.unused }) (done_of_board panel board js ws (cc long) (λ i d e below. each (suc i) d e (omega (arith, below))))
+done_of_board panel board [] (w ∷ ws) long each = absurd (cc long)
+done_of_board panel board (j ∷ js) [] long each = absurd (cc long)
+
+-- one worker more
+pub hired_last : {P : Type 0} (board : Identity Entry Head) (first most : ℕ) (workers : List (WorkerValue P)) (worker : WorkerValue P) → AreHired board first most workers
+    → IsHired board (first + length workers * most) most worker → AreHired board first most (workers ++ worker ∷ [])
+hired_last board first most [] worker all one = (subst (λ n. IsHired board n most worker) (let none : first + 0 * most ≡ first = omega arith in none) one, tt)
+hired_last board first most (w ∷ ws) worker all one =
+    (all.0, hired_last board (first + most) most ws worker all.1 (subst (λ n. IsHired board n most worker) (one_more_worker first (length ws) most) one))

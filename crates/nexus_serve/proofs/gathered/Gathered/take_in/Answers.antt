@@ -1,0 +1,28 @@
+use Rattle.std.proofs.Common.{◌≡◌, ◌∷◌, [], ◌++◌, map, refl, sym, ◌∙◌, ap, true, false}
+use Rattle.std.proofs.lemmas.List.{map-append}
+use Rattle.std.proofs.lemmas.Simd.{map-map}
+use Rattle.std.specs.Prelude.{◌||◌}
+use Rattle.nexus_serve.specs.Views.{door_view, link_view, report_view}
+use Rattle.nexus_serve.specs.Inner.Gathering.{pass_of, rest_of, rest_view}
+use Rattle.nexus_serve.proofs.Gathering.{gathered_same}
+use Rattle.nexus_serve.proofs.gathered.Gathered.take_in.Goals as goal
+use Rattle.nexus_serve.proofs.gathered.Gathered.take_in.Goals.{then-self, else-self}
+
+pub returns : goal.returns
+returns g c =
+    let reports = c.worker.inside.reports.items in
+    let rests = c.in_ok-take_apart.ensures.rests in
+    let passes = c.in_ok-take_apart.ensures.passes in
+    let failed : c.if-self.self ≡ (c.self.inside.has_failed || c.worker.inside.has_failed) =
+    elim c.if-self.branch [
+      | then-self w ↦ rw (w.self-is, w.if-self.true) refl
+      | else-self w ↦ rw (w.self-is, w.if-self.false) refl
+    ] in
+    rw (← c.self.view_is, ← c.worker.view_is)
+    (gathered_same
+    (ap (map (door_view (link_view g.D.Link.Link.left g.D.Link.Link.taken g.D.Link.Link.sent g.D.Link.Link.over g.D.Link.Link.closed g.D.Link.Link.place g.D.Link.Link.toward g.D.Link.Link.faults) g.D.Door.links g.D.Door.over g.D.Door.gave g.D.Door.listened g.D.Door.faults)) c.in_ok-push.ensures.items ∙ map-append (door_view (link_view g.D.Link.Link.left g.D.Link.Link.taken g.D.Link.Link.sent g.D.Link.Link.over g.D.Link.Link.closed g.D.Link.Link.place g.D.Link.Link.toward g.D.Link.Link.faults) g.D.Door.links g.D.Door.over g.D.Door.gave g.D.Door.listened g.D.Door.faults) c.self.inside.doors.items (c.worker.inside.door ∷ []))
+    c.in_ok-push-2.ensures.items
+    (ap (map (rest_view (link_view g.D.Link.Link.left g.D.Link.Link.taken g.D.Link.Link.sent g.D.Link.Link.over g.D.Link.Link.closed g.D.Link.Link.place g.D.Link.Link.toward g.D.Link.Link.faults))) rests ∙ map-append (rest_view (link_view g.D.Link.Link.left g.D.Link.Link.taken g.D.Link.Link.sent g.D.Link.Link.over g.D.Link.Link.closed g.D.Link.Link.place g.D.Link.Link.toward g.D.Link.Link.faults)) c.self.inside.rests.items _ ∙ ap (λ l. map (rest_view (link_view g.D.Link.Link.left g.D.Link.Link.taken g.D.Link.Link.sent g.D.Link.Link.over g.D.Link.Link.closed g.D.Link.Link.place g.D.Link.Link.toward g.D.Link.Link.faults)) c.self.inside.rests.items ++ l) (map-map (rest_view (link_view g.D.Link.Link.left g.D.Link.Link.taken g.D.Link.Link.sent g.D.Link.Link.over g.D.Link.Link.closed g.D.Link.Link.place g.D.Link.Link.toward g.D.Link.Link.faults)) _ reports ∙ sym (map-map rest_of (report_view (link_view g.D.Link.Link.left g.D.Link.Link.taken g.D.Link.Link.sent g.D.Link.Link.over g.D.Link.Link.closed g.D.Link.Link.place g.D.Link.Link.toward g.D.Link.Link.faults)) reports)))
+    (passes ∙ ap (λ l. c.self.inside.passes.items ++ l) (sym (map-map pass_of (report_view (link_view g.D.Link.Link.left g.D.Link.Link.taken g.D.Link.Link.sent g.D.Link.Link.over g.D.Link.Link.closed g.D.Link.Link.place g.D.Link.Link.toward g.D.Link.Link.faults)) reports)))
+    (c.in_ok-append.ensures.items ∙ ap (λ l. c.self.inside.unused.items ++ l) c.from-passes.ensures.0)
+    failed)

@@ -1,0 +1,68 @@
+-- What is handed back behind the workers.
+use Rattle.std.specs.Prelude.{◌≡◌, ◌<◌, ℕ, List, [], ◌++◌, All, Option, Some, None, Bool, true, false, codes, if◌then◌else◌}
+use Rattle.nx_io.specs.Streams.{Rose, Sends, SendsPart}
+use Rattle.policy_history.specs.PolicyTexts.{ended}
+use Rattle.policy_history.specs.declared.events.Entry.{Entry}
+use Rattle.policy_history.specs.declared.heads.Head.{Head}
+use Rattle.policy_history.specs.Values.{entry_trees}
+use Rattle.verdict_words.specs.Rule.{IsPart}
+use Rattle.verdict_words.specs.Settling.{all_met}
+use Rattle.verdict_words.specs.Steps.{OneList}
+use Rattle.verdict_words.specs.Values.{Identity, PassValue}
+use Rattle.verdict_words.specs.Words.{register_word}
+use Rattle.policy_book.specs.Books.{BookValue, IsLegalBook, IsMetIn, IsNumbered, head_of, trees_of}
+use Rattle.nexus_serve.specs.declared.service.ServeEnd.{ServeEnd}
+use Rattle.nexus_serve.specs.declared.service.ServeEnd.TheVariants.{Done, DoorFault, Memory}
+use Rattle.nexus_serve.specs.Views.{DoorView, ReportView}
+use Rattle.nexus_serve.specs.Services.{IsJournal, IsTextSent, ServedView, SinkView}
+use Rattle.nexus_serve.specs.Inner.Gathering.{GatheredValue, joined}
+
+-- nothing is left, since there was no memory
+pub record IsLost {P : Type 0} (served : ServedView P) : Type 0 where
+  pub journal : served.journal ≡ None
+  pub written : served.written ≡ false
+  pub end : served.end ≡ Memory
+
+-- how a service ends whose doors have failed or not
+abbrev pub end_of : Bool → ServeEnd
+end_of has_failed = if has_failed then DoorFault else Done
+
+-- the text was ended, and the journal of the book is handed back with what was gathered
+pub record IsClosed {K P : Type 0} (book : BookValue K) (start : SinkView) (doors : List DoorView) (panels : List P) (reports : List ReportView) (has_failed : Bool) (served : ServedView P) : Type 0 where
+  pub journal : IsJournal served.journal (head_of book) book.entries
+  pub sink_now : SinkView
+  pub sink : served.sink ≡ Some sink_now
+  pub text : IsTextSent (head_of book) (trees_of book) served.written start sink_now
+  pub reports_are : served.reports ≡ reports
+  pub doors_are : served.doors ≡ doors
+  pub panels_are : served.panels ≡ panels
+  pub end : served.end ≡ end_of has_failed
+  pub legal : IsLegalBook book
+  pub numbered : IsNumbered book
+
+-- all passes were met once more, and what was gathered is handed back with the journal of the book
+pub record IsReported {K P : Type 0} (book : BookValue K) (start : SinkView) (gathered : GatheredValue P) (served : ServedView P) : Type 0 where
+  pub journal : IsJournal served.journal (head_of book) book.entries
+  pub sink_now : SinkView
+  pub sink : served.sink ≡ Some sink_now
+  pub text : IsTextSent (head_of book) (trees_of book) served.written start sink_now
+  pub reports : served.reports ≡ joined gathered.rests (all_met book.board book.entries gathered.passes)
+  pub doors : served.doors ≡ gathered.doors
+  pub panels : served.panels ≡ gathered.panels
+  pub end : served.end ≡ end_of gathered.has_failed
+  pub met : All (IsMetIn book) gathered.passes
+  pub registers : (object : ℕ) → object < 4096 → OneList book.board.origin.first book.next (λ steps. All (λ (pass : PassValue Entry Head). IsPart (register_word object) steps pass.session pass.trail) (all_met book.board book.entries gathered.passes))
+  pub legal : IsLegalBook book
+  pub numbered : IsNumbered book
+
+-- the last line of the text was sent, or a proper part of it, since the sink failed
+abbrev pub IsEnded : Bool → SinkView → SinkView → Type 0
+IsEnded true sink sink_now = Sends sink.sent sink_now.sent (ended (codes "end"))
+IsEnded false sink sink_now = SendsPart sink.sent sink_now.sent (ended (codes "end")) × Rose sink.faults sink_now.faults
+
+-- nobody was served, and the doors and panels are handed back
+pub record IsHandedBack {P : Type 0} (doors : List DoorView) (panels : List P) (served : ServedView P) : Type 0 where
+  pub reports : served.reports ≡ []
+  pub doors_are : served.doors ≡ doors
+  pub panels_are : served.panels ≡ panels
+  pub written : served.written ≡ false

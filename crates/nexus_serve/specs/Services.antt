@@ -1,0 +1,97 @@
+-- What a service leaves: its journal, the reports of its sessions, and the text that it wrote.
+use Rattle.std.specs.Prelude.{◌≡◌, ◌<◌, ◌+◌, ◌⊎◌, ℕ, List, [], ◌∷◌, ◌++◌, length, map, take, drop, All, Contains, Bool, true, false, Option, Some, None, codes}
+use Rattle.nx_io.specs.Streams.{Rose, Sends, SendsPart}
+use Rattle.policy_history.specs.declared.events.Entry.{Entry}
+use Rattle.policy_history.specs.declared.heads.Head.{Head}
+use Rattle.policy_history.specs.Events.{EntryTree}
+use Rattle.policy_history.specs.Machine.{IsAccepted, IsLegal, replay}
+use Rattle.policy_history.specs.PolicyTexts.{ended, front, line_of, policy_text}
+use Rattle.policy_history.specs.Values.{History, entry_trees, greatest_of}
+use Rattle.verdict_words.specs.Histories.{IsPrefix, own}
+use Rattle.verdict_words.specs.Rule.{IsPart, Replays, Stepped, last_met}
+use Rattle.verdict_words.specs.Words.{register_word}
+use Rattle.verdict_words.specs.declared.views.Item.{Item}
+use Rattle.verdict_words.specs.declared.views.Item.TheVariants.{Met}
+use Rattle.policy_book.specs.Books.{session_of}
+use Rattle.nexus_serve.specs.declared.service.ServeEnd.{ServeEnd}
+use Rattle.nexus_serve.specs.declared.service.ServeEnd.TheVariants.{Done, DoorFault, Memory}
+use Rattle.nexus_serve.specs.Views.{DoorView, PanelView, ReportView}
+use Rattle.nexus_serve.specs.Workers.{HaveWorked, SomeFailed}
+
+-- what a sink tells
+pub record SinkView : Type 0 where
+  pub sent : List ℕ
+  pub faults : ℕ
+
+-- what a service hands back
+pub record ServedView (P : Type 0) : Type 0 where
+  pub journal : Option History
+  pub sink : Option SinkView
+  pub reports : List ReportView
+  pub doors : List DoorView
+  pub panels : List P
+  pub written : Bool
+  pub end : ServeEnd
+
+-- the journal that is handed back has this head and these entries
+abbrev pub IsJournal : Option History → Head → List Entry → Type 0
+IsJournal None h es = ⊥
+IsJournal (Some journal) h es = (journal.head ≡ h) × (journal.entries ≡ es)
+
+-- whether the service ended with a fault of a door
+abbrev pub is_fault : ServeEnd → Bool
+is_fault DoorFault = true
+is_fault _ = false
+
+-- The pass of a session was met once more when all workers had stopped, and has seen the whole journal, in which no entry of its session stands
+-- behind the last meeting before that
+pub record HasSeenAll (es : List Entry) (report : ReportView) : Type 0 where
+  pub before : List Item
+  pub trail : report.pass.trail ≡ before ++ Met (length es) ∷ []
+  pub seen : report.pass.seen ≡ es
+  pub own_is : own session_of es report.session ≡ own session_of (take (last_met before) es) report.session
+
+-- the sessions of the reports
+abbrev pub sessions_of : List ReportView → List ℕ
+sessions_of reports = map (λ (report : ReportView). report.session) reports
+
+-- For each register there is one list of all steps that sessions made on it, which replays from 0: the part of each session is what its pass
+-- tells, in order, and there is no step of another
+abbrev pub HaveOneOrder : List ReportView → Type 0
+HaveOneOrder reports = (object : ℕ) → object < 4096 →
+    (steps : List Stepped) × (word : ℕ) × Replays 0 steps word
+    × All (λ (report : ReportView). IsPart (register_word object) steps report.session report.pass.trail) reports
+    × All (λ (step : Stepped). Contains (sessions_of reports) step.session) steps
+
+-- What workers leave behind: the journal is legal and begins with the entries that were there; the workers have worked, in sessions that are
+-- numbered behind the greatest session before; each further entry was made in one of these; and each session was told over the one journal.
+pub record IsServed (h : Head) (opening es : List Entry) (sessions : ℕ) (doors doors_now : List DoorView) (panels panels_now : List PanelView) (reports : List ReportView) (end : ServeEnd) : Type 0 where
+  pub legal : IsLegal h (entry_trees es)
+  pub begins : IsPrefix opening es
+  pub worked : HaveWorked h (length opening) 1 (is_fault end) (greatest_of (entry_trees opening) + 1) sessions doors doors_now panels panels_now reports
+  pub ends : (end ≡ Done) ⊎ ((end ≡ DoorFault) × SomeFailed doors doors_now)
+  pub seen : All (HasSeenAll es) reports
+  pub made : All (λ (entry : Entry). Contains (sessions_of reports) entry.session) (drop (length opening) es)
+  pub registers : HaveOneOrder reports
+
+-- What a sink was sent of the policy text: all of it; or all but for its last line, and a proper part of one more entry's line or of the last
+-- line, since the sink failed
+pub data IsTextSent (h : Head) (es : List EntryTree) (written : Bool) (sink sink_now : SinkView) : Type 0 where
+  whole : written ≡ true → Sends sink.sent sink_now.sent (policy_text h es) → IsTextSent h es written sink sink_now
+  line_cut : (entry : EntryTree) → written ≡ false → IsAccepted h (replay h es) entry → SendsPart (sink.sent ++ front h es) sink_now.sent (line_of h entry)
+      → Rose sink.faults sink_now.faults → IsTextSent h es written sink sink_now
+  end_cut : written ≡ false → SendsPart (sink.sent ++ front h es) sink_now.sent (ended (codes "end")) → Rose sink.faults sink_now.faults → IsTextSent h es written sink sink_now
+
+-- `Serves panel sessions h opening sink doors panels served`: a service of so many sessions for each worker, over the journal with this head and these
+-- entries, this sink, and these doors and panels, hands this back. It was served; or the front of the text could not be sent, so nobody was served; or there was no memory, before anything was
+-- done or behind it.
+pub data Serves {P : Type 0} (panel : P → PanelView) (sessions : ℕ) (h : Head) (opening : List Entry) (sink : SinkView) (doors : List DoorView) (panels : List P) (served : ServedView P) : Type 0 where
+  done : (es : List Entry) (sink_now : SinkView) → IsJournal served.journal h es → served.sink ≡ Some sink_now
+      → IsServed h opening es sessions doors served.doors (map panel panels) (map panel served.panels) served.reports served.end
+      → IsTextSent h (entry_trees es) served.written sink sink_now → Serves panel sessions h opening sink doors panels served
+  unopened : (sink_now : SinkView) → IsJournal served.journal h opening → served.sink ≡ Some sink_now
+      → SendsPart sink.sent sink_now.sent (front h (entry_trees opening)) → Rose sink.faults sink_now.faults
+      → served.reports ≡ [] → served.doors ≡ doors → served.panels ≡ panels → served.written ≡ false → served.end ≡ Done → Serves panel sessions h opening sink doors panels served
+  no_memory_before : IsJournal served.journal h opening → served.sink ≡ Some sink → served.reports ≡ [] → served.doors ≡ doors → served.panels ≡ panels
+      → served.written ≡ false → served.end ≡ Memory → Serves panel sessions h opening sink doors panels served
+  no_memory : served.journal ≡ None → served.written ≡ false → served.end ≡ Memory → Serves panel sessions h opening sink doors panels served

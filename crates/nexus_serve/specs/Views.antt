@@ -1,0 +1,101 @@
+-- What doors, panels, links and reports tell, as plain values.
+use Rattle.std.specs.Prelude.{ℕ, List, Bool, Option, map, option_map}
+use Rattle.nx_io.specs.declared.doors.Next.{Next}
+use Rattle.nx_io.specs.declared.doors.Next.TheVariants.{Link as NextLink, NoMore as NextNoMore, Failed as NextFailed}
+use Rattle.policy_history.specs.declared.events.Entry.{Entry}
+use Rattle.policy_history.specs.declared.heads.Head.{Head}
+use Rattle.policy_history.specs.Values.{entry_trees}
+use Rattle.authority_ask.specs.Panels.{Places, Told}
+use Rattle.verdict_words.specs.Values.{PassValue}
+use Rattle.session_core.specs.declared.ends.SessionEnd.{SessionEnd}
+use Rattle.session_core.specs.declared.board_serving.Report.{Report}
+use Rattle.session_core.specs.Served.{Reported}
+
+-- what a link tells
+pub record LinkView : Type 0 where
+  pub left : Option (List ℕ)
+  pub taken : List ℕ
+  pub sent : List ℕ
+  pub over : Bool
+  pub closed : Bool
+  pub place : ℕ
+  pub toward : Option (List ℕ)
+  pub faults : ℕ
+
+-- what a door tells
+pub record DoorView : Type 0 where
+  pub links : Option (List LinkView)
+  pub over : Bool
+  pub gave : ℕ
+  pub listened : List (List ℕ)
+  pub faults : ℕ
+
+-- what a panel tells
+pub record PanelView : Type 0 where
+  pub said : List Told
+  pub asks : ℕ
+  pub reached : Option Places
+  pub faults : ℕ
+
+-- what is reported of a session
+pub record ReportView : Type 0 where
+  pub session : ℕ
+  pub who : Option ℕ
+  pub end : SessionEnd
+  pub link : LinkView
+  pub pass : PassValue Entry Head
+
+-- what a report says of what its session was told
+abbrev pub reported : ReportView → Reported
+reported report = record {
+  session = report.session;
+  end = report.end;
+  who = report.who;
+  taken = report.link.taken;
+  sent = report.link.sent;
+  seen = entry_trees report.pass.seen;
+  trail = report.pass.trail;
+}
+
+module _ {L : Type 0} (left : L → Option (List ℕ)) (taken sent : L → List ℕ) (over closed : L → Bool) (place : L → ℕ) (toward : L → Option (List ℕ)) (faults : L → ℕ) where
+  abbrev pub link_view : L → LinkView
+  link_view link = record {
+    left = left link;
+    taken = taken link;
+    sent = sent link;
+    over = over link;
+    closed = closed link;
+    place = place link;
+    toward = toward link;
+    faults = faults link;
+  }
+
+-- a report, its link by what it tells
+abbrev pub report_view : {L : Type 0} → (L → LinkView) → Report L → ReportView
+report_view view report = record {
+  session = report.session;
+  who = report.principal;
+  end = report.end;
+  link = view report.link;
+  pass = report.pass;
+}
+
+module _ {L D : Type 0} (view : L → LinkView) (links : D → Option (List L)) (over : D → Bool) (gave : D → ℕ) (listened : D → List (List ℕ)) (faults : D → ℕ) where
+  abbrev pub door_view : D → DoorView
+  door_view door = record {
+    links = option_map (map view) (links door);
+    over = over door;
+    gave = gave door;
+    listened = listened door;
+    faults = faults door;
+  }
+
+module _ {P : Type 0} (said : P → List Told) (asks : P → ℕ) (reached : P → Option Places) (faults : P → ℕ) where
+  abbrev pub panel_view : P → PanelView
+  panel_view panel = record { said = said panel; asks = asks panel; reached = reached panel; faults = faults panel }
+
+-- what a door answered, the link by what it tells
+abbrev pub next_view : {L : Type 0} → (L → LinkView) → Next L → Next LinkView
+next_view view (NextLink link) = NextLink (view link)
+next_view view NextNoMore = NextNoMore
+next_view view NextFailed = NextFailed

@@ -1,0 +1,159 @@
+//! A service at an address.
+ghost use Rattle.std.specs.Prelude.{◌≡◌, ◌≤◌, ◌+◌, ◌*◌, ◌-◌, ◌^◌, None, Some};
+ghost use Rattle.policy_history.specs.Values.{entry_trees, greatest_of};
+ghost use Rattle.nexus_serve.specs.Hosting.{Hosts, IsIdle, status_of};
+ghost use Rattle.nexus_serve.specs.Inner.Sharing.{unready_status};
+ghost use Rattle.nexus_serve.specs.Views.{door_view, link_view, panel_view};
+
+use crate::service::{ServeEnd, Served, serve};
+use crate::shares::{Unready, make_ready};
+use authority_ask::Panel;
+use nx_io::{Door, Gate, Link, Sink};
+use policy_history::Journal;
+use std::alloc::Global;
+use std::marker::Model;
+use std::net::{Net, TcpListener, TcpStream};
+use std::rt::Clock;
+use std::sync::Wait;
+use std::thread::Threads;
+
+/// What a service at an address leaves.
+#[derive(Drop)]
+pub struct Hosted<D: Door, P: Panel, K: Sink> {
+    /// The status with which the program ends. `docs/FORMATS.md`, "Statuses", says what each means.
+    pub status: u8,
+    /// The door that was handed in, of which the workers had shares.
+    pub door: D,
+    /// The panel that was handed in, of which the workers had shares.
+    pub panel: P,
+    /// What the service left. Where it was not begun: no journal, the sink, no reports, and the shares that were made.
+    pub served: Served<D, P, K>,
+}
+
+impl<D: Door, P: Panel, K: Sink> Model for Hosted<D, P, K> {
+    ghost use Rattle.std.specs.Coded.{codes};
+    ghost use Rattle.nal_term.specs.contracts.terms.Term as t;
+    ghost use Rattle.nal_term.specs.contracts.formulas.Formula as f;
+    ghost use Rattle.nexus_serve.specs.Views.{door_view, link_view};
+    ghost use Rattle.nexus_serve.specs.Hosting.{HostedView};
+
+    ghost Value = { HostedView P };
+
+    ghost coded = { Prim.hlevel (codes, t.the_row.coded, f.the_row.coded) };
+
+    ghost view = { λ h. record {
+      status = h.status;
+      door = door_view (link_view D.Link.left D.Link.taken D.Link.sent D.Link.over D.Link.closed D.Link.place D.Link.toward D.Link.faults) D.links D.over D.gave D.listened D.faults h.door;
+      panel = h.panel;
+      served = h.served;
+    } };
+}
+
+/// Hosts a service over a journal: it reaches the authorities of its head, listens at the address, and lets so many workers
+/// serve so many sessions each, with shares of the door and of the panel. The policy text goes to the sink as the journal grows.
+///
+/// The status is 0 where all was done, 5 where the text was not written whole, which comes only where the sink failed, 6 where
+/// memory ran out, 7 where the door, or else a share of it, has failed, and 8 where an authority could not be reached, or the
+/// panel not be shared. `docs/FORMATS.md`, "Statuses", states this.
+pub fn host<D, P, K, G, R>(
+    rt: &R,
+    alloc: Global,
+    journal: Journal,
+    sink: K,
+    door: D,
+    panel: P,
+    gate: &G,
+    address: &[u8],
+    workers: u64,
+    sessions: u64,
+) -> Hosted<D, P, K>
+where
+    D: Door + Send + Drop,
+    D::Link: Link + Send + Drop,
+    P: Panel + Send + Drop,
+    K: Sink + Send + Drop,
+    G: Gate + Sync,
+    R: Net<Listener = TcpListener, Stream = TcpStream> + Clock + Wait + Threads + Sync,
+    requires workers { (1 ≤ workers) × (workers ≤ 64) }
+    requires sessions { (1 ≤ sessions) × (sessions ≤ 65536) }
+    requires numbers { greatest_of (entry_trees journal.entries) + workers * sessions ≤ 2 ^ 64 - 2 }
+    ensures hosted { Hosts (panel_view P.said P.asks P.reached P.faults) (record { address = address.now; workers = workers; sessions = sessions }) journal.head journal.entries (record { sent = K.sent sink; faults = K.faults sink }) (door_view (link_view D.Link.left D.Link.taken D.Link.sent D.Link.over D.Link.closed D.Link.place D.Link.toward D.Link.faults) D.links D.over D.gave D.listened D.faults door) panel result }
+{
+    let mut door = door;
+    let mut panel = panel;
+    let mut doors = Vec::new(alloc);
+    let mut panels = Vec::new(alloc);
+    let ready = make_ready(
+        rt,
+        journal.head(),
+        address,
+        workers,
+        &mut door,
+        &mut doors,
+        &mut panel,
+        &mut panels,
+    );
+    match ready {
+        Ok(()) => {
+            let served = serve(rt, alloc, journal, sink, doors, panels, gate, sessions);
+            let status = status_of(served.written, served.end);
+            Hosted {
+                status,
+                door,
+                panel,
+                served,
+            }
+        }
+        Err(unready) => Hosted {
+            status: unready_status(unready),
+            door,
+            panel,
+            served: idle(alloc, sink, doors, panels),
+        },
+    }
+}
+
+/// The status with which a service ends that was begun.
+fn status_of(written: bool, end: ServeEnd) -> u8
+    ensures { result ≡ status_of written end }
+{
+    match end {
+        ServeEnd::Memory => 6,
+        ServeEnd::DoorFault if written => 7,
+        ServeEnd::Done if written => 0,
+        ServeEnd::DoorFault | ServeEnd::Done => 5,
+    }
+}
+
+/// The status with which a service ends that was not begun.
+fn unready_status(unready: Unready) -> u8
+    ensures { result ≡ unready_status unready }
+{
+    match unready {
+        Unready::Memory => 6,
+        Unready::Door => 7,
+        Unready::Panel => 8,
+    }
+}
+
+/// What a service leaves that was not begun.
+fn idle<D: Door + Drop, P: Panel + Drop, K: Sink + Drop>(
+    alloc: Global,
+    sink: K,
+    doors: Vec<D>,
+    panels: Vec<P>,
+) -> Served<D, P, K>
+where
+    D::Link: Drop,
+    ensures { IsIdle (record { sent = K.sent sink; faults = K.faults sink }) result }
+{
+    Served {
+        journal: None,
+        sink: Some(sink),
+        reports: Vec::new(alloc),
+        doors,
+        panels,
+        written: false,
+        end: ServeEnd::Done,
+    }
+}

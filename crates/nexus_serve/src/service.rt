@@ -1,0 +1,473 @@
+//! The service as a whole.
+ghost use Rattle.std.specs.Prelude.{◌≡◌, ◌<◌, ◌≤◌, ◌+◌, ◌*◌, ◌-◌, ◌^◌, ◌⊎◌, ℕ, List, length, take, map, All, IfOk, Some, true, false, slice_index_or};
+ghost use Rattle.policy_history.specs.PolicyTexts.{policy_text};
+ghost use Rattle.policy_history.specs.Values.{entry_trees, greatest_of};
+ghost use Rattle.policy_book.specs.Books.{IsLegalBook, IsNamed, IsNumbered, head_of, new_book, trees_of};
+ghost use Rattle.nexus_serve.specs.Views.{door_view, link_view, panel_view, report_view};
+ghost use Rattle.nexus_serve.specs.Services.{IsJournal, IsTextSent, Serves};
+ghost use Rattle.nexus_serve.specs.Inner.Gathering.{nothing};
+ghost use Rattle.nexus_serve.specs.Inner.Reporting.{IsClosed, IsEnded, IsHandedBack, IsLost, IsReported};
+ghost use Rattle.nexus_serve.specs.Inner.Serving.{AreDone, AreHired, AreOfBoard, doors_of, panels_of};
+ghost use Rattle.nexus_serve.specs.Inner.Working.{IsDone, IsHired, WorkerValue};
+
+use crate::gathered::{Gathered, with_passes};
+use crate::hiring::hire;
+use crate::worker::Worker;
+use authority_ask::Panel;
+use journal_text::print_policy;
+use nx_io::{Bytes, Door, Gate, Link, Reach, Sink, send_all};
+use policy_book::{Book, BookNaming, NalMatter, Shelf};
+use policy_history::Journal;
+use session_core::{Report, what_was_told_stays_told};
+use std::alloc::{AllocError, Global};
+use std::marker::{Brand, Model};
+use std::net::{Net, TcpListener, TcpStream};
+use std::rt::Clock;
+use std::sync::{Mutex, Wait};
+use std::thread;
+use std::thread::Threads;
+use verdict_words::Board;
+
+/// How a service ended.
+#[derive(Clone, Copy, Debug, PartialEq, Eq)]
+pub enum ServeEnd {
+    Done,
+    /// A door has failed, which ended its worker alone.
+    DoorFault,
+    /// There was no memory.
+    Memory,
+}
+
+/// What a service leaves.
+#[derive(Drop)]
+pub struct Served<D: Door, P: Panel, K: Sink> {
+    pub journal: Option<Journal>,
+    pub sink: Option<K>,
+    /// The reports of all sessions, worker by worker.
+    pub reports: Vec<Report<D::Link>>,
+    pub doors: Vec<D>,
+    pub panels: Vec<P>,
+    /// Whether the whole policy text was written.
+    pub written: bool,
+    pub end: ServeEnd,
+}
+
+impl<D: Door, P: Panel, K: Sink> Model for Served<D, P, K> {
+    ghost use Rattle.std.specs.Prelude.{map, option_map};
+    ghost use Rattle.std.specs.Coded.{codes};
+    ghost use Rattle.nal_term.specs.contracts.terms.Term as t;
+    ghost use Rattle.nal_term.specs.contracts.formulas.Formula as f;
+    ghost use Rattle.nexus_serve.specs.Views.{door_view, link_view, report_view};
+    ghost use Rattle.nexus_serve.specs.Services.{ServedView};
+
+    ghost Value = { ServedView P };
+
+    ghost coded = { Prim.hlevel (codes, t.the_row.coded, f.the_row.coded) };
+
+    ghost view = { λ s. record {
+      journal = s.journal;
+      sink = option_map (λ k. record { sent = K.sent k; faults = K.faults k }) s.sink;
+      reports = map (report_view (link_view D.Link.left D.Link.taken D.Link.sent D.Link.over D.Link.closed D.Link.place D.Link.toward D.Link.faults)) s.reports.items;
+      doors = map (door_view (link_view D.Link.left D.Link.taken D.Link.sent D.Link.over D.Link.closed D.Link.place D.Link.toward D.Link.faults) D.links D.over D.gave D.listened D.faults) s.doors.items;
+      panels = s.panels.items;
+      written = s.written;
+      end = s.end;
+    } };
+}
+
+/// Lets the workers work, each in a thread, over a book that is lent to all of them. The book is handed back when all have stopped.
+fn let_work<D, P, K, G, N, R>(
+    rt: &R,
+    alloc: Global,
+    board: &Board<NalMatter>,
+    book: Book<K>,
+    workers: Vec<Worker<D, P>>,
+    gate: &G,
+) -> Result<(Book<K>, Vec<Worker<D, P>>), AllocError>
+where
+    D: Door + Send + Drop,
+    D::Link: Link + Send + Drop,
+    P: Panel + Send + Drop,
+    K: Sink + Send + Drop,
+    G: Gate + Sync,
+    N: BookNaming + Send + Sync,
+    R: Net<Listener = TcpListener, Stream = TcpStream> + Clock + Wait + Threads + Sync,
+    requires named { N.board ≡ Some board.now }
+    requires book { (book.is_open ≡ true) × IsNamed N.board N.next N.start N.start_faults book }
+    requires hired { All (λ worker. IsHired board.now worker.first (length worker.passes) worker) workers.items }
+    ensures book { IfOk result (λ r. (r.0.is_open ≡ true) × IsNamed N.board N.next N.start N.start_faults r.0) }
+    ensures count { IfOk result (λ r. length r.1.items ≡ length workers.items) }
+    ensures done { IfOk result (λ r. (i : ℕ) (d e : WorkerValue P) → i < length workers.items → IsDone (panel_view P.said P.asks P.reached P.faults) board.now (slice_index_or workers.items i d) (slice_index_or r.1.items i e)) }
+{
+    let shelf: Mutex<Shelf<K, N>> = Mutex::new(Shelf::new(book));
+    let done = thread::map_vec(
+        rt,
+        workers,
+        &|worker: Worker<D, P>| -> Worker<D, P>
+            requires { (N.board ≡ Some board.now) × IsHired board.now worker.first (length worker.passes) worker }
+            ensures { IsDone (panel_view P.said P.asks P.reached P.faults) board.entry.now worker result }
+        { worker.work(rt, alloc, board, &shelf, gate) },
+    )?;
+    Ok((shelf.into_inner().into_book(), done))
+}
+
+/// Nothing: there was no memory for what the workers had left.
+fn lost<D: Door + Drop, P: Panel + Drop, K: Sink + Drop>(alloc: Global) -> Served<D, P, K>
+where
+    D::Link: Drop,
+    ensures { IsLost result }
+{
+    Served {
+        journal: None,
+        sink: None,
+        reports: Vec::new(alloc),
+        doors: Vec::new(alloc),
+        panels: Vec::new(alloc),
+        written: false,
+        end: ServeEnd::Memory,
+    }
+}
+
+/// Writes the last line of the policy text, unless a write of it has failed. Whether the whole text was written.
+fn write_end<K: Sink + Drop>(book: Book<K>) -> (Journal, K, bool)
+    requires opened { book.is_open ≡ true }
+    ensures journal { (result.0.head ≡ head_of book) × (result.0.entries ≡ book.entries) }
+    ensures text { IsTextSent (head_of book) (trees_of book) result.2 (record { sent = book.start; faults = book.start_faults }) (record { sent = K.sent result.1; faults = K.faults result.1 }) }
+    ensures legal { IsLegalBook book }
+    ensures numbered { IsNumbered book }
+{
+    let is_broken = book.broken();
+    let (journal, sink) = book.into_parts();
+    let (sink, written) = end_unless(is_broken, sink);
+    (journal, sink, written)
+}
+
+/// Sends the last line of a policy text, unless the text is broken off. Whether it was sent.
+fn end_unless<K: Sink + Drop>(is_broken: bool, sink: K) -> (K, bool)
+    ensures broken { is_broken ≡ true → (result.0 ≡ sink) × (result.1 ≡ false) }
+    ensures sent { is_broken ≡ false → IsEnded result.1 (record { sent = K.sent sink; faults = K.faults sink }) (record { sent = K.sent result.0; faults = K.faults result.0 }) }
+{
+    if is_broken {
+        return (sink, false);
+    }
+    let mut sink = sink;
+    let written = matches!(send_all(&mut sink, b"end\n"), Reach::Ready);
+    (sink, written)
+}
+
+/// Hands back what was gathered, with the journal of the book, in which all passes were met.
+fn close<D: Door + Drop, P: Panel + Drop, K: Sink + Drop>(
+    book: Book<K>,
+    doors: Vec<D>,
+    panels: Vec<P>,
+    reports: Vec<Report<D::Link>>,
+    has_failed: bool,
+) -> Served<D, P, K>
+where
+    D::Link: Drop,
+    requires opened { book.is_open ≡ true }
+    ensures closed { IsClosed book (record { sent = book.start; faults = book.start_faults }) (map (door_view (link_view D.Link.left D.Link.taken D.Link.sent D.Link.over D.Link.closed D.Link.place D.Link.toward D.Link.faults) D.links D.over D.gave D.listened D.faults) doors.items) panels.items (map (report_view (link_view D.Link.left D.Link.taken D.Link.sent D.Link.over D.Link.closed D.Link.place D.Link.toward D.Link.faults)) reports.items) has_failed result }
+{
+    let (journal, sink, written) = write_end(book);
+    Served {
+        journal: Some(journal),
+        sink: Some(sink),
+        reports,
+        doors,
+        panels,
+        written,
+        end: if has_failed {
+            ServeEnd::DoorFault
+        } else {
+            ServeEnd::Done
+        },
+    }
+}
+
+/// Lets all passes be met once more, and hands back what was gathered.
+fn report<D: Door + Drop, P: Panel + Drop, K: Sink + Drop>(
+    alloc: Global,
+    board: &Board<NalMatter>,
+    book: Book<K>,
+    gathered: Gathered<D, P>,
+) -> Served<D, P, K>
+where
+    D::Link: Drop,
+    requires opened { book.is_open ≡ true }
+    requires board { book.board ≡ board.now }
+    requires passes { All (λ pass. pass.board ≡ board.now) gathered.passes }
+    ensures reported { IsLost result ⊎ IsReported book (record { sent = book.start; faults = book.start_faults }) gathered result }
+{
+    let Gathered {
+        doors,
+        panels,
+        rests,
+        passes,
+        reports,
+        has_failed,
+        ..
+    } = gathered;
+    let mut book = book;
+    let passes = book.settle(board, passes);
+    match with_passes(rests, passes, reports) {
+        Ok(reports) => close(book, doors, panels, reports, has_failed),
+        Err(AllocError) => lost(alloc),
+    }
+}
+
+/// Gathers what the workers left, and hands it back.
+fn finish<D: Door + Drop, P: Panel + Drop, K: Sink + Drop>(
+    alloc: Global,
+    board: &Board<NalMatter>,
+    book: Book<K>,
+    workers: Vec<Worker<D, P>>,
+    room: Gathered<D, P>,
+) -> Served<D, P, K>
+where
+    D::Link: Drop,
+    requires opened { book.is_open ≡ true }
+    requires board { book.board ≡ board.now }
+    requires first { board.now.origin.first ≡ greatest_of (entry_trees board.now.origin.opening) + 1 }
+    requires room { room ≡ nothing }
+    requires used { All (λ worker. AreOfBoard board.now worker) workers.items }
+    ensures served { (most : ℕ) (hired : List (WorkerValue P)) → AreDone (panel_view P.said P.asks P.reached P.faults) board.now board.now.origin.first most hired workers.items → book.next ≡ board.now.origin.first + length workers.items * most
+        → Serves (panel_view P.said P.asks P.reached P.faults) most board.now.origin.setting board.now.origin.opening (record { sent = book.start; faults = book.start_faults }) (doors_of hired) (panels_of hired) result }
+{
+    what_was_told_stays_told();
+    match room.gather(workers) {
+        Ok(gathered) => report(alloc, board, book, gathered),
+        Err(AllocError) => lost(alloc),
+    }
+}
+
+/// Lets hired workers work, and hands back what they leave.
+fn serve_hired<D, P, K, G, R>(
+    rt: &R,
+    alloc: Global,
+    board: &Board<NalMatter>,
+    book: Book<K>,
+    workers: Vec<Worker<D, P>>,
+    gate: &G,
+    room: Gathered<D, P>,
+) -> Served<D, P, K>
+where
+    D: Door + Send + Drop,
+    D::Link: Link + Send + Drop,
+    P: Panel + Send + Drop,
+    K: Sink + Send + Drop,
+    G: Gate + Sync,
+    R: Net<Listener = TcpListener, Stream = TcpStream> + Clock + Wait + Threads + Sync,
+    requires opened { book.is_open ≡ true }
+    requires board { book.board ≡ board.now }
+    requires first { board.now.origin.first ≡ greatest_of (entry_trees board.now.origin.opening) + 1 }
+    requires hired { All (λ worker. IsHired board.now worker.first (length worker.passes) worker) workers.items }
+    requires room { room ≡ nothing }
+    ensures served { (most : ℕ) → AreHired board.now board.now.origin.first most workers.items → book.next ≡ board.now.origin.first + length workers.items * most
+        → Serves (panel_view P.said P.asks P.reached P.faults) most board.now.origin.setting board.now.origin.opening (record { sent = book.start; faults = book.start_faults }) (doors_of workers.items) (panels_of workers.items) result }
+{
+    match let_work::<D, P, K, G, Brand, R>(rt, alloc, board, book, workers, gate) {
+        Ok((book, workers)) => finish(alloc, board, book, workers, room),
+        Err(AllocError) => lost(alloc),
+    }
+}
+
+/// Hires the workers of an open book, and lets them work.
+fn serve_open<D, P, K, G, R>(
+    rt: &R,
+    alloc: Global,
+    board: &Board<NalMatter>,
+    book: Book<K>,
+    doors: Vec<D>,
+    panels: Vec<P>,
+    gate: &G,
+    first: u64,
+    sessions: u64,
+    room: Gathered<D, P>,
+) -> Served<D, P, K>
+where
+    D: Door + Send + Drop,
+    D::Link: Link + Send + Drop,
+    P: Panel + Send + Drop,
+    K: Sink + Send + Drop,
+    G: Gate + Sync,
+    R: Net<Listener = TcpListener, Stream = TcpStream> + Clock + Wait + Threads + Sync,
+    requires opened { book.is_open ≡ true }
+    requires board { book.board ≡ board.now }
+    requires first { (board.now.origin.first ≡ greatest_of (entry_trees board.now.origin.opening) + 1) × (first ≡ board.now.origin.first) × (book.next ≡ first) }
+    requires pairs { length panels.items ≡ length doors.items }
+    requires numbers { first + length doors.items * sessions ≤ 2 ^ 64 - 1 }
+    requires few { sessions ≤ 65536 }
+    requires room { room ≡ nothing }
+    ensures served { Serves (panel_view P.said P.asks P.reached P.faults) sessions board.now.origin.setting board.now.origin.opening (record { sent = book.start; faults = book.start_faults })
+        (map (door_view (link_view D.Link.left D.Link.taken D.Link.sent D.Link.over D.Link.closed D.Link.place D.Link.toward D.Link.faults) D.links D.over D.gave D.listened D.faults) doors.items)
+        panels.items result }
+{
+    let mut book = book;
+    match hire(alloc, board, &mut book, doors, panels, first, sessions) {
+        Ok(workers) => serve_hired(rt, alloc, board, book, workers, gate, room),
+        Err(AllocError) => lost(alloc),
+    }
+}
+
+/// Hands everything back where the front of the policy text could not be sent.
+fn unopened<D: Door + Drop, P: Panel + Drop, K: Sink + Drop>(
+    alloc: Global,
+    book: Book<K>,
+    doors: Vec<D>,
+    panels: Vec<P>,
+) -> Served<D, P, K>
+where
+    D::Link: Drop,
+    ensures journal { IsJournal result.journal (head_of book) book.entries }
+    ensures sink { result.sink ≡ Some (record { sent = K.sent book.sink; faults = K.faults book.sink }) }
+    ensures back { IsHandedBack (map (door_view (link_view D.Link.left D.Link.taken D.Link.sent D.Link.over D.Link.closed D.Link.place D.Link.toward D.Link.faults) D.links D.over D.gave D.listened D.faults) doors.items) panels.items result }
+    ensures end { result.end ≡ ServeEnd.Done }
+{
+    let (journal, sink) = book.into_parts();
+    Served {
+        journal: Some(journal),
+        sink: Some(sink),
+        reports: Vec::new(alloc),
+        doors,
+        panels,
+        written: false,
+        end: ServeEnd::Done,
+    }
+}
+
+/// Hands everything back where there was no memory to begin with.
+fn unserved<D: Door + Drop, P: Panel + Drop, K: Sink + Drop>(
+    alloc: Global,
+    journal: Journal,
+    sink: K,
+    doors: Vec<D>,
+    panels: Vec<P>,
+) -> Served<D, P, K>
+where
+    D::Link: Drop,
+    ensures journal { IsJournal result.journal journal.head journal.entries }
+    ensures sink { result.sink ≡ Some (record { sent = K.sent sink; faults = K.faults sink }) }
+    ensures back { IsHandedBack (map (door_view (link_view D.Link.left D.Link.taken D.Link.sent D.Link.over D.Link.closed D.Link.place D.Link.toward D.Link.faults) D.links D.over D.gave D.listened D.faults) doors.items) panels.items result }
+    ensures end { result.end ≡ ServeEnd.Memory }
+{
+    Served {
+        journal: Some(journal),
+        sink: Some(sink),
+        reports: Vec::new(alloc),
+        doors,
+        panels,
+        written: false,
+        end: ServeEnd::Memory,
+    }
+}
+
+/// A policy text without its last line.
+fn front_of(text: &[u8]) -> &[u8]
+    ensures { result.now ≡ take (length text.now - 4) text.now }
+{
+    &text[..text.len().saturating_sub(4)]
+}
+
+/// Opens the book and serves.
+fn serve_book<D, P, K, G, R>(
+    rt: &R,
+    alloc: Global,
+    board: &Board<NalMatter>,
+    book: Book<K>,
+    text: &[u8],
+    doors: Vec<D>,
+    panels: Vec<P>,
+    gate: &G,
+    first: u64,
+    sessions: u64,
+    room: Gathered<D, P>,
+) -> Served<D, P, K>
+where
+    D: Door + Send + Drop,
+    D::Link: Link + Send + Drop,
+    P: Panel + Send + Drop,
+    K: Sink + Send + Drop,
+    G: Gate + Sync,
+    R: Net<Listener = TcpListener, Stream = TcpStream> + Clock + Wait + Threads + Sync,
+    requires made { book ≡ new_book K.sent K.faults board.now book.sink }
+    requires first { (board.now.origin.first ≡ greatest_of (entry_trees board.now.origin.opening) + 1) × (first ≡ board.now.origin.first) }
+    requires text { text.now ≡ policy_text board.now.origin.setting (entry_trees board.now.origin.opening) }
+    requires pairs { length panels.items ≡ length doors.items }
+    requires numbers { first + length doors.items * sessions ≤ 2 ^ 64 - 1 }
+    requires few { sessions ≤ 65536 }
+    requires room { room ≡ nothing }
+    ensures served { Serves (panel_view P.said P.asks P.reached P.faults) sessions board.now.origin.setting board.now.origin.opening (record { sent = K.sent book.sink; faults = K.faults book.sink })
+        (map (door_view (link_view D.Link.left D.Link.taken D.Link.sent D.Link.over D.Link.closed D.Link.place D.Link.toward D.Link.faults) D.links D.over D.gave D.listened D.faults) doors.items) panels.items result }
+{
+    let mut book = book;
+    match book.open(front_of(text)) {
+        Reach::Ready => serve_open(
+            rt, alloc, board, book, doors, panels, gate, first, sessions, room,
+        ),
+        Reach::Failed => unopened(alloc, book, doors, panels),
+    }
+}
+
+/// Serves the links of the doors, each door by a worker of its own with the panel of its place, so many sessions a worker at
+/// most, and writes the policy text to the sink as the journal grows.
+///
+/// The sessions are numbered behind the greatest number of the journal: the first worker has the first so many numbers, and so
+/// on. A worker stops early where its door has no more links or fails, which ends no other worker. When all have stopped, the
+/// journal, the sink, the doors, the panels, and the reports of all sessions are handed back. `docs/LOGIC.md`, "The service",
+/// says what was then promised to each session; `docs/ARCHITECTURE.md`, "Workers", how it is done.
+pub fn serve<D, P, K, G, R>(
+    rt: &R,
+    alloc: Global,
+    journal: Journal,
+    sink: K,
+    doors: Vec<D>,
+    panels: Vec<P>,
+    gate: &G,
+    sessions: u64,
+) -> Served<D, P, K>
+where
+    D: Door + Send + Drop,
+    D::Link: Link + Send + Drop,
+    P: Panel + Send + Drop,
+    K: Sink + Send + Drop,
+    G: Gate + Sync,
+    R: Net<Listener = TcpListener, Stream = TcpStream> + Clock + Wait + Threads + Sync,
+    requires pairs { length panels.items ≡ length doors.items }
+    requires workers { (1 ≤ length doors.items) × (length doors.items ≤ 64) }
+    requires sessions { (1 ≤ sessions) × (sessions ≤ 65536) }
+    requires numbers { greatest_of (entry_trees journal.entries) + length doors.items * sessions ≤ 2 ^ 64 - 2 }
+    ensures served { Serves (panel_view P.said P.asks P.reached P.faults) sessions journal.head journal.entries (record { sent = K.sent sink; faults = K.faults sink })
+        (map (door_view (link_view D.Link.left D.Link.taken D.Link.sent D.Link.over D.Link.closed D.Link.place D.Link.toward D.Link.faults) D.links D.over D.gave D.listened D.faults) doors.items) panels.items result }
+{
+    let first = journal.greatest_session() + 1;
+    let Ok((text, room)) = prepare(alloc, &journal, doors.len(), sessions) else {
+        return unserved(alloc, journal, sink, doors, panels);
+    };
+    match Book::make(alloc, journal, sink) {
+        Ok((board, book)) => {
+            let text = text.as_slice();
+            serve_book(
+                rt, alloc, &board, book, text, doors, panels, gate, first, sessions, room,
+            )
+        }
+        Err((journal, sink, AllocError)) => unserved(alloc, journal, sink, doors, panels),
+    }
+}
+
+/// Takes the memory that a service wants before it begins: the policy text, and room for what its workers leave.
+fn prepare<D: Door + Drop, P: Panel + Drop>(
+    alloc: Global,
+    journal: &Journal,
+    workers: usize,
+    sessions: u64,
+) -> Result<(Bytes, Gathered<D, P>), AllocError>
+where
+    D::Link: Drop,
+    requires few { (workers ≤ 64) × (sessions ≤ 65536) }
+    ensures text { IfOk result (λ r. r.0 ≡ policy_text journal.now.head (entry_trees journal.now.entries)) }
+    ensures room { IfOk result (λ r. r.1 ≡ nothing) }
+{
+    let text = print_policy(alloc, journal)?;
+    let room = Gathered::with_room(alloc, workers, workers * sessions as usize)?;
+    Ok((text, room))
+}

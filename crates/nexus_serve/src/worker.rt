@@ -1,0 +1,149 @@
+//! A worker: it serves the links of its door, one after another.
+ghost use Rattle.std.specs.Prelude.{◌≡◌, ◌<◌, ◌≤◌, ◌+◌, length, All, Some, true};
+ghost use Rattle.nx_io.specs.Links.{IsFreshLink};
+ghost use Rattle.nexus_serve.specs.Views.{link_view, panel_view};
+ghost use Rattle.nexus_serve.specs.Inner.Working.{HasServedOne, IsDone, IsHired, IsUnused, IsWorking, WorkerValue, WorksOn};
+
+use authority_ask::Panel;
+use nx_io::{Door, Gate, Next, Sink};
+use policy_book::{BookNaming, NalMatter, Shelf};
+use session_core::{Report, serve_link};
+use std::alloc::Global;
+use std::collections::VecDeque;
+use std::marker::Model;
+use std::net::{Net, TcpListener, TcpStream};
+use std::rt::Clock;
+use std::sync::{Mutex, Wait};
+use verdict_words::{Board, Pass};
+
+/// A worker: the number of its first session, its door and its panel, the passes that it has not used, the reports of its
+/// sessions, and whether its door has failed.
+#[derive(Drop)]
+pub struct Worker<D: Door, P: Panel> {
+    pub first: u64,
+    pub door: D,
+    pub panel: P,
+    pub passes: VecDeque<Pass<NalMatter>>,
+    pub reports: Vec<Report<D::Link>>,
+    pub has_failed: bool,
+}
+
+impl<D: Door, P: Panel> Model for Worker<D, P> {
+    ghost use Rattle.std.specs.Prelude.{map, ◌-◌};
+    ghost use Rattle.std.specs.Vec.{vec_capacity, vec_len};
+    ghost use Rattle.std.specs.Coded.{codes};
+    ghost use Rattle.nal_term.specs.contracts.terms.Term as t;
+    ghost use Rattle.nal_term.specs.contracts.formulas.Formula as f;
+    ghost use Rattle.nexus_serve.specs.Views.{door_view, link_view, report_view};
+    ghost use Rattle.nexus_serve.specs.Inner.Working.{WorkerValue};
+
+    ghost Value = { WorkerValue P };
+
+    ghost coded = { Prim.hlevel (codes, t.the_row.coded, f.the_row.coded) };
+
+    ghost view = { λ w. record {
+      first = w.first;
+      door = door_view (link_view D.Link.left D.Link.taken D.Link.sent D.Link.over D.Link.closed D.Link.place D.Link.toward D.Link.faults) D.links D.over D.gave D.listened D.faults w.door;
+      panel = w.panel;
+      passes = w.passes.items;
+      reports = map (report_view (link_view D.Link.left D.Link.taken D.Link.sent D.Link.over D.Link.closed D.Link.place D.Link.toward D.Link.faults)) w.reports.items;
+      spare = vec_capacity w.reports - vec_len w.reports;
+      has_failed = w.has_failed;
+    } };
+}
+
+impl<D: Door, P: Panel> Worker<D, P>
+where
+    D::Link: Drop,
+{
+    /// Serves the links that the door gives, with one pass each, until all passes are used, or the door gives no more.
+    pub fn work<
+        K: Sink,
+        N: BookNaming,
+        G: Gate,
+        R: Net<Listener = TcpListener, Stream = TcpStream> + Clock + Wait,
+    >(
+        self,
+        rt: &R,
+        alloc: Global,
+        board: &Board<NalMatter>,
+        book: &Mutex<Shelf<K, N>>,
+        gate: &G,
+    ) -> Worker<D, P>
+        requires named { N.board ≡ Some board.now }
+        requires hired { IsHired board.now self.first (length self.passes) self }
+        ensures done { IsDone (panel_view P.said P.asks P.reached P.faults) board.now self result }
+    {
+        let mut worker = self;
+        while !worker.passes.is_empty() {
+            if !worker.serve_next(rt, alloc, board, book, gate) {
+                return worker;
+            }
+        }
+        worker
+    }
+
+    /// Serves the next link that the door gives. Whether it gave one.
+    fn serve_next<
+        K: Sink,
+        N: BookNaming,
+        G: Gate,
+        R: Net<Listener = TcpListener, Stream = TcpStream> + Clock + Wait,
+    >(
+        &mut self,
+        rt: &R,
+        alloc: Global,
+        board: &Board<NalMatter>,
+        book: &Mutex<Shelf<K, N>>,
+        gate: &G,
+    ) -> bool
+        requires named { N.board ≡ Some board.now }
+        requires some { 0 < length self.old.passes }
+        requires unused { All (IsUnused board.now) self.old.passes }
+        requires room { length self.old.passes ≤ self.old.spare }
+        ensures went { (start : WorkerValue P) → IsWorking (panel_view P.said P.asks P.reached P.faults) board.now start self.old → WorksOn (panel_view P.said P.asks P.reached P.faults) board.now result start self.new }
+        ensures fewer { result ≡ true → length self.new.passes + 1 ≡ length self.old.passes }
+    {
+        match self.door.next(rt) {
+            Next::Link(link) => {
+                self.serve_session(rt, alloc, board, book, gate, link);
+                true
+            }
+            Next::NoMore => false,
+            Next::Failed => {
+                self.has_failed = true;
+                false
+            }
+        }
+    }
+
+    /// Serves a link with the next pass.
+    fn serve_session<
+        K: Sink,
+        N: BookNaming,
+        G: Gate,
+        R: Net<Listener = TcpListener, Stream = TcpStream> + Clock + Wait,
+    >(
+        &mut self,
+        rt: &R,
+        alloc: Global,
+        board: &Board<NalMatter>,
+        book: &Mutex<Shelf<K, N>>,
+        gate: &G,
+        link: D::Link,
+    )
+        requires named { N.board ≡ Some board.now }
+        requires some { 0 < length self.old.passes }
+        requires unused { All (IsUnused board.now) self.old.passes }
+        requires room { length self.old.passes ≤ self.old.spare }
+        requires fresh { IsFreshLink (D.Link.taken link) (D.Link.sent link) (D.Link.over link) (D.Link.closed link) (D.Link.faults link) }
+        ensures served { HasServedOne (panel_view P.said P.asks P.reached P.faults) board.now (link_view D.Link.left D.Link.taken D.Link.sent D.Link.over D.Link.closed D.Link.place D.Link.toward D.Link.faults link) self.old self.new }
+    {
+        let Some(pass) = self.passes.pop_front() else {
+            unreachable!()
+        };
+        let report = serve_link(rt, alloc, board, book, pass, link, &mut self.panel, gate);
+        let pushed = self.reports.push(report);
+        prove!(pushed.is_ok());
+    }
+}
