@@ -1,16 +1,18 @@
 -- What is told of a shortest path.
-use Rattle.std.proofs.Common.{◌≡◌, ◌<◌, ℕ, List, All, Result, Ok, Err, length, sym, ap, ◌∙◌, subst, arith}
+use Rattle.std.proofs.Common.{◌≡◌, ◌<◌, ℕ, List, [], All, Result, Ok, Err, length, sym, ap, ◌∙◌, subst, arith}
 use Rattle.std.specs.List.{Contains}
 use Rattle.std.specs.Result.{IsErrAnd}
 use Rattle.nal_term.specs.Trees.{TermTree, FormulaTree, says}
 use Rattle.nal_term.specs.Free.{IsClosed}
 use Rattle.proof_lines.specs.Lines.{LineTree}
+use Rattle.nal_rules.specs.Derivation.{Derives}
 use Rattle.nal_rules.specs.Faults.{IsFaultless, IsSays, formulas_where, is_label}
 use Rattle.chain_prover.specs.declared.answers.ChainError.{ChainError}
 use Rattle.chain_prover.specs.declared.answers.ChainError.TheVariants.{NotSays, Memory}
 use Rattle.chain_prover.specs.Answers.{IsShortest}
 use Rattle.chain_prover.specs.Chains.{last_of, IsChain, IsChainProof, chain_lines}
 use Rattle.chain_prover.specs.Inner.Paths.{IsProofAlong, NeedsMore}
+use Rattle.chain_prover.proofs.Derived.{chain_derives}
 use Rattle.chain_prover.proofs.Faultless.{chain_faultless, chain_labels}
 
 -- a goal that something says is not refused
@@ -48,3 +50,6 @@ module _ (labels : List FormulaTree) (goal : FormulaTree) (b : TermTree) (f : Fo
 
   pub labels_of_proof : All (Contains labels) (formulas_where is_label lines)
   labels_of_proof = subst (λ ls. All (Contains labels) (formulas_where is_label ls)) (sym h.lines_are) (chain_labels labels f h.chain h.stands)
+
+  pub goal_derived : All IsClosed labels → Derives labels [] goal
+  goal_derived closed = subst (λ g. Derives labels [] g) (ap (λ x. says x f) h.last ∙ sym goal_is) (chain_derives labels f closed h.chain h.stands)

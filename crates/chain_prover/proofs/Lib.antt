@@ -6,4 +6,5 @@ pub mod Expanding
 pub mod Least
 pub mod Along
 pub mod Faultless
+pub mod Derived
 pub mod Answered

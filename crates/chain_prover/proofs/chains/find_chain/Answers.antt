@@ -2,7 +2,7 @@ use Rattle.std.proofs.Common.{◌≡◌, ◌<◌, ℕ, map, ap}
 use Rattle.nal_term.specs.Trees.{formula_tree, term_tree, says}
 use Rattle.proof_lines.specs.Lines.{line_trees}
 use Rattle.chain_prover.specs.Inner.Paths.{IsProofAlong, NeedsMore}
-use Rattle.chain_prover.proofs.Answered.{chain_proof, labels_of_proof, memory_told, not_shorter, proof_faultless, says_told}
+use Rattle.chain_prover.proofs.Answered.{chain_proof, goal_derived, labels_of_proof, memory_told, not_shorter, proof_faultless, says_told}
 use Rattle.chain_prover.proofs.chains.find_chain.Goals.{In_ok-proof_of}
 use Rattle.chain_prover.proofs.chains.find_chain.Goals as goal
 
@@ -42,3 +42,6 @@ returns-clause-faultless c = λ closed. let d = (goal.at.returns-clause-faultles
 
 pub returns-clause-labels : goal.returns-clause-labels
 returns-clause-labels c = let d = (goal.at.returns-clause-labels c).In_ok-proof_of in let (n, bound, least, p) = along d in labels_of_proof _ _ _ _ (goal_is d) _ n p
+
+pub returns-clause-derives : goal.returns-clause-derives
+returns-clause-derives c = λ closed. let d = (goal.at.returns-clause-derives c).In_ok-proof_of in let (n, bound, least, p) = along d in goal_derived _ _ _ _ (goal_is d) _ n p closed
