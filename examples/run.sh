@@ -1,6 +1,6 @@
 #!/usr/bin/env bash
 # Runs each example of `nexus check`, `nexus script` and `nexus trust` and compares what it prints, byte for byte, and its exit status;
-# then the other ways in which the program ends.
+# then the other ways in which the program ends; then plays `nexus serve`, where there is a Python of 3.9 or later.
 #
 #   examples/run.sh [PROGRAM]     PROGRAM is ./nexus at the top of the repository where none is given
 #
@@ -131,6 +131,12 @@ for formula in "$disjuncts" "$brackets" "$parts"; do
         fi
     done
 done
+
+if ! python3 -c 'import sys; sys.exit(sys.version_info < (3, 9))' 2>/dev/null; then
+    echo "serve: skipped, since there is no python3 of 3.9 or later"
+elif ! python3 -B "$examples/serve/run.py" "$built"; then
+    failed=$((failed + 1))
+fi
 
 if [ "$failed" -gt 0 ] || [ "$passed" -eq 0 ]; then
     echo "$passed runs pass, $failed differ"
