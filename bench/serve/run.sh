@@ -15,10 +15,11 @@ redis=
 trap '[ -z "$redis" ] || kill "$redis"; rm -rf "$work"' EXIT
 ${CC:-cc} -O2 -o "$work/load" "$here/load.c" -lpthread
 
+# policy COUNT: the text of a policy of so many principals, each with an object and a proof.
 policy() {
     echo 'nexus 2'
-    for k in 0 1 2 3; do echo "principal p$k s$k"; done
-    for k in 0 1 2 3; do
+    for k in $(seq 0 $(($1 - 1))); do echo "principal p$k s$k"; done
+    for k in $(seq 0 $(($1 - 1))); do
         echo "1 p$k object o$k"
         for goal in 'read b' 'miss c'; do
             name=${goal#* } goal=${goal% *}
@@ -49,7 +50,7 @@ row() {
 
 printf '%-32s %10s %10s %8s\n' 'a second' nexus redis ratio
 for connections in 1 4; do
-    policy | "$program" serve "127.0.0.1:$port" "$connections" 3 >"$work/after" &
+    policy "$connections" | "$program" serve "127.0.0.1:$port" "$connections" 3 >"$work/after" &
     service=$!
     kept=$("$work/load" "$port" "$connections" "$calls" call)
     anew=$("$work/load" "$port" "$connections" "$calls" miss)
