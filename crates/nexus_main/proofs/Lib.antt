@@ -10,3 +10,4 @@ pub mod Programs
 pub mod Justified
 mod ScriptEnds
 mod TrustEnds
+mod ServiceEnds

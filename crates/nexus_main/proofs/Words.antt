@@ -7,7 +7,11 @@ use Rattle.std.specs.Str.{IsUtf8}
 use Rattle.std.specs.Fmt.{decimal}
 use Rattle.std.proofs.lemmas.Fmt.{IsAscii-decimal, decimal_injective}
 use Rattle.std.proofs.lemmas.Str.{IsUtf8-from_ascii}
-use Rattle.nexus_main.specs.Commands.{IsLoad, check_words, core_words, script_words, trust_words}
+use Rattle.std.proofs.lemmas.Str.Ascii.{IsAscii-from_all}
+use Rattle.std.specs.List.{list_all}
+use Rattle.std.specs.Prelude.{nat_le, ◌&&◌}
+use Rattle.nal_term.specs.Secrets.{is_secret_byte}
+use Rattle.nexus_main.specs.Commands.{IsAddress, IsLoad, IsService, check_words, core_words, most_steps, script_words, serve_words, trust_words}
 
 -- one text more
 pub next_text : {T W : Type 0} (f : T → List ℕ) (g : W → List ℕ) (ts us : List T) (ws : List W) (t : T) (w : W) (k : ℕ) → map f ts ≡ take k (map g ws)
@@ -59,6 +63,66 @@ core_same number steps m n within other e =
 pub same_steps : (n number steps : ℕ) → n < 2 ^ 64 → IsLoad number steps → decimal n ≡ decimal steps → n ≡ steps
 same_steps n number steps small within e = decimal_injective n steps small (steps_small number steps within) e
 
+-- digits tell a number that is small
+pub same_number : (n m : ℕ) → n < 2 ^ 64 → m < 2 ^ 64 → decimal n ≡ decimal m → n ≡ m
+same_number n m small small_too e = decimal_injective n m small small_too e
+
+-- a service is told by its words
+pub service_told : (address first a w s : List ℕ) (workers sessions workers_read sessions_read : ℕ) (words : List (List ℕ)) → words ≡ first ∷ a ∷ w ∷ s ∷ [] → words ≡ serve_words address workers sessions
+    → w ≡ decimal workers_read → s ≡ decimal sessions_read → workers_read < 2 ^ 64 → sessions_read < 2 ^ 64 → IsService address workers sessions → IsService a workers_read sessions_read
+service_told address first a w s workers sessions workers_read sessions_read words are told read read_too small small_too within =
+    let all = sym are ∙ told in
+    let at : a ≡ address = cc all in
+    let first_is : w ≡ decimal workers = cc all in
+    let second_is : s ≡ decimal sessions = cc all in
+    let few = within.workers_are in
+    let few_too = within.sessions_are in
+    let workers_same : workers_read ≡ workers = same_number workers_read workers small (omega (arith, few)) (sym read ∙ first_is) in
+    let sessions_same : sessions_read ≡ sessions = same_number sessions_read sessions small_too (omega (arith, few_too)) (sym read_too ∙ second_is) in
+    rw (at, workers_same, sessions_same) within
+
+-- the words of `serve` tell what is to be served
+pub serve_same : (address : List ℕ) (workers sessions : ℕ) (other : List ℕ) (m n : ℕ) → IsService address workers sessions → IsService other m n → serve_words address workers sessions ≡ serve_words other m n
+    → (address ≡ other) × (workers ≡ m) × (sessions ≡ n)
+serve_same address workers sessions other m n within within_too e =
+    let at : address ≡ other = cc e in
+    let first : decimal workers ≡ decimal m = cc e in
+    let second : decimal sessions ≡ decimal n = cc e in
+    let a = within.workers_are in
+    let b = within.sessions_are in
+    let c = within_too.workers_are in
+    let d = within_too.sessions_are in
+    (at, same_number workers m (omega (arith, a)) (omega (arith, c)) first, same_number sessions n (omega (arith, b)) (omega (arith, d)) second)
+
+both : (b c : Bool) → (b && c) ≡ true → (b ≡ true) × (c ≡ true)
+both true c e = (refl, e)
+both false c e = absurd (cc e)
+
+low_byte : (b : ℕ) → is_secret_byte b ≡ true → b < 128
+low_byte b h = grind arith
+
+low_bytes : (bs : List ℕ) → list_all is_secret_byte bs ≡ true → All (λ b. b < 128) bs
+low_bytes [] h = All-nil (λ b. b < 128)
+low_bytes (b ∷ bs) h = let parts = both (is_secret_byte b) (list_all is_secret_byte bs) h in All-cons (λ x. x < 128) b bs (low_byte b parts.0) (low_bytes bs parts.1)
+
+address_is_text : (address : List ℕ) → IsAddress address → IsUtf8 address
+address_is_text address is =
+    let all = (both (list_all is_secret_byte address) _ (both (list_all is_secret_byte address && nat_le 1 (length address)) _ is.visible).0).0 in
+    IsUtf8-from_ascii address (IsAscii-from_all address (low_bytes address all))
+
+serve_is_text : IsUtf8 (codes "serve")
+unfolding lib.Utf8.encode
+serve_is_text = (codes "serve", (refl, refl))
+
+serve_words_are_texts : (address : List ℕ) (workers sessions : ℕ) → IsService address workers sessions → All IsUtf8 (serve_words address workers sessions)
+serve_words_are_texts address workers sessions within =
+    let a = within.workers_are in
+    let b = within.sessions_are in
+    All-cons IsUtf8 (codes "serve") (address ∷ decimal workers ∷ decimal sessions ∷ []) serve_is_text
+    (All-cons IsUtf8 address (decimal workers ∷ decimal sessions ∷ []) (address_is_text address within.address_is)
+    (All-cons IsUtf8 (decimal workers) (decimal sessions ∷ []) (number_is_text workers (omega (arith, a)))
+    (All-cons IsUtf8 (decimal sessions) [] (number_is_text sessions (omega (arith, b))) (All-nil IsUtf8))))
+
 -- what is not so is not so
 pub not_so : (b : Bool) → b ≡ false → IsTrue b → ⊥
 not_so true other is = cc other
@@ -83,3 +147,6 @@ not_all_texts g ws w k room at n all =
     let within : k < length (map g ws) = omega (arith, length-map ws g, room) in
     let item : get_or (map g ws) k (g w) ≡ g w = get_or-map g ws k w (g w) room ∙ ap g (sym at) in
     n (subst IsUtf8 item (All-get_or IsUtf8 (map g ws) k (g w) within all))
+
+pub not_serve : (words : List (List ℕ)) (address : List ℕ) (workers sessions : ℕ) → (All IsUtf8 words → ⊥) → IsService address workers sessions → words ≢ serve_words address workers sessions
+not_serve words address workers sessions n within e = n (rw e (serve_words_are_texts address workers sessions within))

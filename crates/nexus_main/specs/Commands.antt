@@ -1,6 +1,7 @@
 -- The words by which commands are called.
-use Rattle.std.specs.Prelude.{◌≡◌, ◌<◌, ◌≤◌, ◌^◌, ℕ, List, [], ◌∷◌, codes}
+use Rattle.std.specs.Prelude.{◌≡◌, ◌≢◌, ◌<◌, ◌≤◌, ◌^◌, ◌⊎◌, ℕ, List, [], ◌∷◌, codes}
 use Rattle.std.specs.Fmt.{decimal}
+use Rattle.nal_term.specs.Secrets.{IsSecret}
 use Rattle.nexus_main.specs.declared.commands.Command.{Command}
 use Rattle.nexus_main.specs.declared.commands.Command.TheVariants.{Check, Script, Core, Trust}
 
@@ -38,6 +39,30 @@ abbrev pub IsWithin : Command → Type 0
 IsWithin (Core number steps) = IsLoad number steps
 IsWithin _ = Unit {0}
 
+-- the words are those of a command, but not of a service
+abbrev pub IsPlain : List (List ℕ) → Type 0
+IsPlain words = (command : Command) × IsWithin command × (words ≡ command_words command)
+
+-- where a service listens, how many workers it has, and how many sessions each of them serves
+abbrev pub serve_words : List ℕ → ℕ → ℕ → List (List ℕ)
+serve_words address workers sessions = codes "serve" ∷ address ∷ decimal workers ∷ decimal sessions ∷ []
+
+-- an address: 1 to 64 visible bytes that are not `help` and do not begin with `-`
+pub record IsAddress (address : List ℕ) : Type 0 where
+  pub visible : IsSecret address
+  pub no_help : address ≢ codes "help"
+  pub no_option : (rest : List ℕ) → address ≢ 45 ∷ rest
+
+-- a service is within the bounds
+pub record IsService (address : List ℕ) (workers sessions : ℕ) : Type 0 where
+  pub address_is : IsAddress address
+  pub workers_are : (1 ≤ workers) × (workers ≤ 64)
+  pub sessions_are : (1 ≤ sessions) × (sessions ≤ 65536)
+
+-- the words are those of a service
+abbrev pub IsServiceCall : List (List ℕ) → Type 0
+IsServiceCall words = (address : List ℕ) × (workers : ℕ) × (sessions : ℕ) × IsService address workers sessions × (words ≡ serve_words address workers sessions)
+
 -- the words are those of a command
 abbrev pub IsCommand : List (List ℕ) → Type 0
-IsCommand words = (command : Command) × IsWithin command × (words ≡ command_words command)
+IsCommand words = IsPlain words ⊎ IsServiceCall words

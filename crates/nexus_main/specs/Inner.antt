@@ -5,3 +5,4 @@ pub mod Hashes
 pub mod Support
 pub mod ScriptEnds
 pub mod TrustEnds
+pub mod ServiceEnds

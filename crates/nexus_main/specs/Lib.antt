@@ -8,3 +8,4 @@ pub mod Inner
 pub mod Scripts
 pub mod Cores
 pub mod Trusts
+pub mod Services

@@ -1,13 +1,29 @@
 //! The words by which commands are called.
 ghost use Rattle.std.specs.Prelude.{◌≡◌, ◌≢◌, ◌↔◌, ◌<◌, ◌≤◌, ◌^◌, ◌∷◌, [], ℕ, List, IsTrue, MatchOption, map};
-ghost use Rattle.nexus_main.specs.Commands.{IsCommand, IsLoad, IsWithin, command_words, core_words, most_steps};
+ghost use Rattle.nexus_main.specs.Commands.{IsAddress, IsLoad, IsPlain, IsService, IsWithin, command_words, core_words, most_steps, serve_words};
 
+use nal_term::is_secret;
 use text_lines::read_number;
 
 /// How many steps a load of `core` has at most.
 const MOST_STEPS: u64 = 1_000_000;
 
-/// What the program can be asked to do.
+/// How many workers a service has at most.
+const MOST_WORKERS: u64 = 64;
+
+/// How many sessions a worker serves at most.
+const MOST_SESSIONS: u64 = 65_536;
+
+/// A service that the program can be asked to run: where it listens, how many workers it has, and how many sessions each serves at
+/// most.
+#[derive(Clone, Copy)]
+pub struct Service<'a> {
+    pub address: &'a [u8],
+    pub workers: u64,
+    pub sessions: u64,
+}
+
+/// What the program can be asked to do, but for a service.
 #[derive(Clone, Copy, Debug, PartialEq, Eq)]
 pub enum Command {
     /// Checks one proof.
@@ -20,10 +36,52 @@ pub enum Command {
     Core { number: u64, steps: u64 },
 }
 
-/// The command that is called by these words. None exactly where they are those of none.
+/// The service that is called by these words. None exactly where they are those of none.
+/// `docs/FORMATS.md`, "Commands", states them.
+pub fn service_of<'a>(words: &'a [&'a str]) -> Option<Service<'a>>
+    ensures { MatchOption result ((address : List ℕ) (workers sessions : ℕ) → IsService address workers sessions → map (λ w. w.now) words.now ≢ serve_words address workers sessions)
+        (λ s. IsService s.address.now s.workers s.sessions × (map (λ w. w.now) words.now ≡ serve_words s.address.now s.workers s.sessions)) }
+{
+    let (first, rest) = words.split_first()?;
+    if !is_same(first, "serve") {
+        return None;
+    }
+    let (address, workers, sessions) = three(rest)?;
+    let workers = read_number(workers.as_bytes())?;
+    let sessions = read_number(sessions.as_bytes())?;
+    let address = address.as_bytes();
+    if is_service(address, workers, sessions) {
+        Some(Service {
+            address,
+            workers,
+            sessions,
+        })
+    } else {
+        None
+    }
+}
+
+/// Whether a service may listen there, with so many workers and so many sessions for each.
+fn is_service(address: &[u8], workers: u64, sessions: u64) -> bool
+    ensures value { IsTrue result ↔ IsService address.now workers sessions }
+    ensures small { (workers < 2 ^ 64) × (sessions < 2 ^ 64) }
+{
+    is_address(address)
+        && (1..=MOST_WORKERS).contains(&workers)
+        && (1..=MOST_SESSIONS).contains(&sessions)
+}
+
+/// Whether the word may be an address.
+fn is_address(word: &[u8]) -> bool
+    ensures { IsTrue result ↔ IsAddress word.now }
+{
+    is_secret(word) && word != b"help".as_slice() && word.first() != Some(&b'-')
+}
+
+/// The command that is called by these words, if they are not those of a service. None exactly where they are those of none.
 /// `docs/FORMATS.md`, "Commands", lists them.
 pub fn command_of(words: &[&str]) -> Option<Command>
-    ensures { MatchOption result (¬ IsCommand (map (λ w. w.now) words.now)) (λ command. IsWithin command × (map (λ w. w.now) words.now ≡ command_words command)) }
+    ensures { MatchOption result (¬ IsPlain (map (λ w. w.now) words.now)) (λ command. IsWithin command × (map (λ w. w.now) words.now ≡ command_words command)) }
 {
     if is_word(words, "check") {
         Some(Command::Check)

@@ -12,11 +12,15 @@ mod laws;
 mod load;
 mod outcomes;
 mod places;
+mod plain;
 mod program;
 mod reach;
 mod script;
 #[cfg(test)]
 mod script_tests;
+mod service;
+#[cfg(test)]
+mod service_tests;
 mod stages;
 mod start;
 mod telling;
@@ -26,7 +30,7 @@ mod tests;
 pub use arguments::{Arguments, SystemArguments};
 use authority_ask::{HostClock, HostPanel};
 pub use laws::an_input_has_one_outcome;
-use nx_io::{StdSink, StdSource};
+use nx_io::{OpenGate, StdSink, StdSource, TcpDoor};
 pub use program::{Ended, run};
 pub use start::{Finished, start};
 use std::process::ExitCode;
@@ -38,14 +42,16 @@ fn main(rt: HostRuntime) -> ExitCode {
     };
     let mut arguments = SystemArguments::new(&rt);
     let mut input = StdSource::new(rt.stdin());
-    let mut output = StdSink::new(rt.stdout());
-    start(
+    let output = StdSink::new(rt.stdout());
+    let finished = start(
         &rt,
         rt.alloc(),
         &mut arguments,
         &mut input,
-        &mut output,
+        output,
+        TcpDoor::new(),
         panel,
-    )
-    .code
+        &OpenGate,
+    );
+    finished.code
 }

@@ -1,102 +1,136 @@
-ghost use Rattle.std.specs.Prelude.{◌≡◌, ◌≢◌, ◌⊎◌, ℕ, None, map};
+ghost use Rattle.std.specs.Prelude.{◌≡◌, ◌≢◌, ◌⊎◌, ℕ, List, [], None, map, option_map};
 ghost use Rattle.nx_io.specs.Streams.{Gave, Grows, gained};
 ghost use Rattle.run_streams.specs.Runs.{sink_run, source_run};
-ghost use Rattle.nexus_main.specs.Commands.{IsCommand, IsLoad, check_words, core_words, script_words, trust_words};
+ghost use Rattle.nexus_serve.specs.Views.{door_view, link_view, panel_view, report_view};
+ghost use Rattle.nexus_main.specs.Commands.{IsCommand, IsLoad, IsService, IsServiceCall, check_words, core_words, script_words, serve_words, trust_words};
 ghost use Rattle.nexus_main.specs.Cores.{RunsCore};
 ghost use Rattle.nexus_main.specs.Program.{RunsCheck};
 ghost use Rattle.nexus_main.specs.Scripts.{RunsScript, panel_run};
+ghost use Rattle.nexus_main.specs.Services.{HandsBack, RunsService};
 ghost use Rattle.nexus_main.specs.Trusts.{RunsTrust};
 
-use crate::check::check;
-use crate::commands::{Command, command_of};
-use crate::load::load;
-use crate::reach::reach;
-use crate::script::script;
+use crate::commands::service_of;
+use crate::plain::run_plain;
+use crate::service::run_service;
 use authority_ask::Panel;
-use nx_io::{Sink, Source};
+use nx_io::{Door, Gate, Link, Sink, Source};
 use policy_history::Journal;
+use session_core::Report;
 use std::alloc::Global;
 use std::net::{Net, TcpListener, TcpStream};
 use std::rt::Clock;
+use std::sync::Wait;
+use std::thread::Threads;
 
-/// How the program ended.
+/// How the program ended, and what it hands back.
 #[derive(Drop)]
-pub struct Ended<P> {
+pub struct Ended<D: Door, P: Panel, K: Sink> {
     /// The status that the operating system is given. `docs/FORMATS.md`, "Statuses", says what each means.
     pub status: u8,
+    /// The sink that was handed in. None only where a service found no memory.
+    pub output: Option<K>,
     /// The journal at the end, where a policy was read and its text was to be written.
     pub journal: Option<Journal>,
+    /// The reports of all sessions of a service, worker by worker.
+    pub reports: Vec<Report<D::Link>>,
+    /// The link that was dialed, if any.
+    pub dialed: Option<D::Link>,
+    /// The door that was handed in.
+    pub door: D,
+    /// The shares of the door that were made.
+    pub doors: Vec<D>,
     /// The panel that was handed in.
     pub panel: P,
+    /// The shares of the panel that were made.
+    pub panels: Vec<P>,
 }
 
 /// Runs the program: `check` reads one input from the source and writes its outcome to the sink; `script` reads a policy and
 /// the requests of sessions, answers each, and writes the replies and then the policy as they left it; `trust` reads what an
 /// owner assumes and a goal, and writes whether the untrusted can reach it; `core` reads nothing, and writes the line of a
-/// generated load.
+/// generated load; `serve` reads a policy, listens at an address, serves the sessions of its workers, and writes the policy text as
+/// the journal grows.
 ///
-/// The status is 0 where all was done (of `check` at `allowed`, of `trust` at `safe`), 1 at `denied` and where a goal is not
-/// safe, 2 where the words are not those of a command, which then reads and writes nothing, 3 where the input is refused, 4
-/// where the source failed, 5 where the sink failed, 6 where memory ran out, and 8 where an authority could not be reached.
-/// At 4, 6 and 8 nothing was written, and at 5 a proper part of what was to be. `docs/FORMATS.md`, "Statuses", states this.
+/// The status is 0 where all was done (of `check` at `allowed`, of `trust` at `safe`), 1 at `denied` and where a goal is not safe,
+/// 2 where the words are not those of a command, which then reads and writes nothing, 3 where the input is refused, 4 where the
+/// source failed, 5 where the sink failed, 6 where memory ran out, 7 where the door or a share of it failed, and 8 where an
+/// authority could not be reached. `docs/FORMATS.md`, "Statuses", states this.
 ///
-/// The input is what the source gives in this call. It is read to its first end, unless it is too large. The panel is handed
-/// back; only `script` uses it.
-pub fn run<R, S: Source, K: Sink, P: Panel>(
+/// The input is what the source gives in this call. It is read to its first end, unless it is too large. Door and panel are
+/// handed back; only `serve` uses the door, and only `script` and `serve` the panel.
+pub fn run<R, S: Source, K, D, P, G>(
     rt: &R,
     alloc: Global,
     words: &[&str],
     input: &mut S,
-    output: &mut K,
+    output: K,
+    door: D,
     panel: P,
-) -> Ended<P>
+    gate: &G,
+) -> Ended<D, P, K>
 where
-    R: Net<Listener = TcpListener, Stream = TcpStream> + Clock,
+    K: Sink + Send + Drop,
+    D: Door + Send + Drop,
+    D::Link: Link + Send + Drop,
+    P: Panel + Send + Drop,
+    G: Gate + Sync,
+    R: Net<Listener = TcpListener, Stream = TcpStream> + Clock + Wait + Threads + Sync,
     ensures other_words { ¬ IsCommand (map (λ w. w.now) words.now)
-        → (result.status ≡ 2) × (input.new ≡ input.old) × (output.new ≡ output.old) }
+        → (result.status ≡ 2) × (input.new ≡ input.old) × HandsBack result.output (λ k. k ≡ output) }
     ensures gave { Gave (S.left input.old) (S.left input.new) (S.given input.old) (S.given input.new) }
-    ensures sent { Grows (K.sent output.old) (K.sent output.new) }
-    ensures said { Grows (P.said panel) (P.said result.panel) }
-    ensures untouched { (result.status ≡ 4) ⊎ (result.status ≡ 6) → output.new ≡ output.old }
-    ensures check { map (λ w. w.now) words.now ≡ check_words → RunsCheck
+    ensures sent { ¬ IsServiceCall (map (λ w. w.now) words.now) → HandsBack result.output (λ k. Grows (K.sent output) (K.sent k)) }
+    ensures said { ¬ IsServiceCall (map (λ w. w.now) words.now) → Grows (P.said panel) (P.said result.panel) }
+    ensures untouched { ¬ IsServiceCall (map (λ w. w.now) words.now) → (result.status ≡ 4) ⊎ (result.status ≡ 6) → HandsBack result.output (λ k. k ≡ output) }
+    ensures check { map (λ w. w.now) words.now ≡ check_words → HandsBack result.output (λ k. RunsCheck
         (source_run (S.left input.old) (S.given input.old) (S.given input.new) (S.over input.new) (S.faults input.old) (S.faults input.new))
-        (sink_run (K.sent output.old) (K.sent output.new) (K.faults output.old) (K.faults output.new))
-        result.status }
-    ensures script { map (λ w. w.now) words.now ≡ script_words → RunsScript
+        (sink_run (K.sent output) (K.sent k) (K.faults output) (K.faults k))
+        result.status) }
+    ensures script { map (λ w. w.now) words.now ≡ script_words → HandsBack result.output (λ k. RunsScript
         (source_run (S.left input.old) (S.given input.old) (S.given input.new) (S.over input.new) (S.faults input.old) (S.faults input.new))
-        (sink_run (K.sent output.old) (K.sent output.new) (K.faults output.old) (K.faults output.new))
+        (sink_run (K.sent output) (K.sent k) (K.faults output) (K.faults k))
         (panel_run (P.said panel) (P.said result.panel) (P.asks panel) (P.asks result.panel) (P.reached panel) (P.reached result.panel)
         (P.faults panel) (P.faults result.panel))
-        result.journal result.status }
-    ensures trust { map (λ w. w.now) words.now ≡ trust_words → RunsTrust
+        result.journal result.status) }
+    ensures trust { map (λ w. w.now) words.now ≡ trust_words → HandsBack result.output (λ k. RunsTrust
         (source_run (S.left input.old) (S.given input.old) (S.given input.new) (S.over input.new) (S.faults input.old) (S.faults input.new))
-        (sink_run (K.sent output.old) (K.sent output.new) (K.faults output.old) (K.faults output.new))
-        result.status }
+        (sink_run (K.sent output) (K.sent k) (K.faults output) (K.faults k))
+        result.status) }
     ensures core { (number steps : ℕ) → map (λ w. w.now) words.now ≡ core_words number steps → IsLoad number steps
-        → RunsCore number steps (sink_run (K.sent output.old) (K.sent output.new) (K.faults output.old) (K.faults output.new)) result.status × (input.new ≡ input.old) }
-    ensures other_panel { map (λ w. w.now) words.now ≢ script_words → (result.panel ≡ panel) × (result.journal ≡ None) }
+        → HandsBack result.output (λ k. RunsCore number steps (sink_run (K.sent output) (K.sent k) (K.faults output) (K.faults k)) result.status) × (input.new ≡ input.old) }
+    ensures serve { (address : List ℕ) (workers sessions : ℕ) → map (λ w. w.now) words.now ≡ serve_words address workers sessions → IsService address workers sessions
+        → RunsService (panel_view P.said P.asks P.reached P.faults) (record { address = address; workers = workers; sessions = sessions })
+        (source_run (S.left input.old) (S.given input.old) (S.given input.new) (S.over input.new) (S.faults input.old) (S.faults input.new))
+        (record { sent = K.sent output; faults = K.faults output }) (door_view (link_view D.Link.left D.Link.taken D.Link.sent D.Link.over D.Link.closed D.Link.place D.Link.toward D.Link.faults) D.links D.over D.gave D.listened D.faults door) panel
+        (record {
+          status = result.status;
+          output = option_map (λ k. record { sent = K.sent k; faults = K.faults k }) result.output;
+          journal = result.journal;
+          reports = map (report_view (link_view D.Link.left D.Link.taken D.Link.sent D.Link.over D.Link.closed D.Link.place D.Link.toward D.Link.faults)) result.reports.items;
+          door = (door_view (link_view D.Link.left D.Link.taken D.Link.sent D.Link.over D.Link.closed D.Link.place D.Link.toward D.Link.faults) D.links D.over D.gave D.listened D.faults result.door);
+          doors = map (door_view (link_view D.Link.left D.Link.taken D.Link.sent D.Link.over D.Link.closed D.Link.place D.Link.toward D.Link.faults) D.links D.over D.gave D.listened D.faults) result.doors.items;
+          panel = result.panel;
+          panels = result.panels.items;
+        }) }
+    ensures other_door { ¬ IsServiceCall (map (λ w. w.now) words.now) → (result.door ≡ door) × (result.reports.items ≡ []) × (result.doors.items ≡ []) × (result.panels.items ≡ []) }
+    ensures other_panel { map (λ w. w.now) words.now ≢ script_words → ¬ IsServiceCall (map (λ w. w.now) words.now) → (result.panel ≡ panel) × (result.journal ≡ None) }
+    ensures dialed { result.dialed ≡ None }
 {
-    match command_of(words) {
-        None => Ended {
-            status: 2,
-            journal: None,
-            panel,
-        },
-        Some(Command::Check) => Ended {
-            status: check(alloc, input, output),
-            journal: None,
-            panel,
-        },
-        Some(Command::Script) => script(rt, alloc, input, output, panel),
-        Some(Command::Trust) => Ended {
-            status: reach(alloc, input, output),
-            journal: None,
-            panel,
-        },
-        Some(Command::Core { number, steps }) => Ended {
-            status: load(alloc, number, steps, output),
-            journal: None,
-            panel,
-        },
+    match service_of(words) {
+        Some(service) => run_service(rt, alloc, service, input, output, door, panel, gate),
+        None => {
+            let mut output = output;
+            let end = run_plain(rt, alloc, words, input, &mut output, panel);
+            Ended {
+                status: end.status,
+                output: Some(output),
+                journal: end.journal,
+                reports: Vec::new(alloc),
+                dialed: None,
+                door,
+                doors: Vec::new(alloc),
+                panel: end.panel,
+                panels: Vec::new(alloc),
+            }
+        }
     }
 }

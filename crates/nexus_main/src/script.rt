@@ -11,7 +11,7 @@ ghost use Rattle.nexus_main.specs.Inner.ScriptEnds.{EndsAnswers, EndsReached, En
 ghost use Rattle.nexus_main.specs.Scripts.{EndsScript, IsScriptOf, panel_run};
 
 use crate::outcomes::Outcome;
-use crate::program::Ended;
+use crate::plain::PlainEnd;
 use crate::telling::tell;
 use authority_ask::Panel;
 use nx_io::{Reach, Sink, Source, send_all};
@@ -41,7 +41,7 @@ pub fn script<R, S: Source, K: Sink, P: Panel>(
     input: &mut S,
     output: &mut K,
     panel: P,
-) -> Ended<P>
+) -> PlainEnd<P>
 where
     R: Net<Listener = TcpListener, Stream = TcpStream> + Clock,
     ensures gave { Gave (S.left input.old) (S.left input.new) (S.given input.old) (S.given input.new) }
@@ -93,12 +93,12 @@ fn read_input<S: Source>(alloc: Global, input: &mut S) -> Result<Script, Unread>
 }
 
 /// The end of a run that answered nothing.
-fn unanswered<P>(status: u8, panel: P) -> Ended<P>
+fn unanswered<P>(status: u8, panel: P) -> PlainEnd<P>
     ensures status { result.status ≡ status }
     ensures journal { result.journal ≡ None }
     ensures panel { result.panel ≡ panel }
 {
-    Ended {
+    PlainEnd {
         status,
         journal: None,
         panel,
@@ -113,7 +113,7 @@ fn answers<R, K: Sink, P: Panel>(
     askings: &[Asking],
     output: &mut K,
     panel: P,
-) -> Ended<P>
+) -> PlainEnd<P>
 where
     R: Net<Listener = TcpListener, Stream = TcpStream> + Clock,
     requires below { AreBelow most_session (entry_trees journal.entries) }
@@ -131,7 +131,7 @@ where
     let mut panel = panel;
     let status = reach_and_reply(rt, alloc, &mut journal, askings, output, &mut panel);
     let journal = handed(status, journal);
-    Ended {
+    PlainEnd {
         status,
         journal,
         panel,

@@ -1,5 +1,5 @@
 // Scripts with all that is written of each, and what faults of the panel, the source and the sink come to.
-use crate::program::run;
+use crate::plain::run_plain;
 use authority_ask::{Ask, MemPanel};
 use nx_io::{MemSink, MemSource};
 use std::alloc::{AllocError, Global};
@@ -148,7 +148,7 @@ where
     let mut source = MemSource::new(alloc, script.input.as_bytes(), 100, source_fails)?;
     let mut sink = MemSink::new(alloc, 4096, 11, sink_fails)?;
     let panel = MemPanel::new(alloc, script.answers, reach_fails, &[])?;
-    let ended = run(rt, alloc, &["script"], &mut source, &mut sink, panel);
+    let ended = run_plain(rt, alloc, &["script"], &mut source, &mut sink, panel);
     assert_eq!(rt; ended.status, script.status);
     assert!(rt; sink.sent() == script.written.as_bytes());
     Ok(())

@@ -1,97 +1,159 @@
-ghost use Rattle.std.specs.Prelude.{◌≡◌, ◌≢◌, ◌⊎◌, ℕ, IsTrue, None};
+ghost use Rattle.std.specs.Prelude.{◌≡◌, ◌≢◌, ◌⊎◌, ℕ, List, [], IsTrue, None, Some, map, option_map};
 ghost use Rattle.std.specs.Process.{exit_status};
 ghost use Rattle.nx_io.specs.Streams.{Gave, Grows, gained};
 ghost use Rattle.run_streams.specs.Runs.{sink_run, source_run};
+ghost use Rattle.nexus_serve.specs.Views.{door_view, link_view, panel_view, report_view};
 ghost use Rattle.nexus_main.specs.Arguments.{words_of_call};
-ghost use Rattle.nexus_main.specs.Commands.{IsCommand, IsLoad, check_words, core_words, script_words, trust_words};
+ghost use Rattle.nexus_main.specs.Commands.{IsCommand, IsLoad, IsService, IsServiceCall, check_words, core_words, script_words, serve_words, trust_words};
 ghost use Rattle.nexus_main.specs.Cores.{RunsCore};
 ghost use Rattle.nexus_main.specs.Program.{RunsCheck};
 ghost use Rattle.nexus_main.specs.Scripts.{RunsScript, panel_run};
+ghost use Rattle.nexus_main.specs.Services.{HandsBack, RunsService};
 ghost use Rattle.nexus_main.specs.Trusts.{RunsTrust};
 
 use crate::arguments::{Arguments, texts, words_of_call};
 use crate::program::run;
 use authority_ask::Panel;
-use nx_io::{Sink, Source};
+use nx_io::{Door, Gate, Link, Sink, Source};
 use policy_history::Journal;
+use session_core::Report;
 use std::alloc::Global;
 use std::net::{Net, TcpListener, TcpStream};
 use std::process::ExitCode;
 use std::rt::Clock;
+use std::sync::Wait;
+use std::thread::Threads;
 
-/// What the program leaves: the code with which it ends, the journal, if one is handed back, and the panel.
+/// What the program leaves: the code with which it ends, and what is handed back.
 #[derive(Drop)]
-pub struct Finished<P> {
+pub struct Finished<D: Door, P: Panel, K: Sink> {
     pub code: ExitCode,
+    pub output: Option<K>,
     pub journal: Option<Journal>,
+    pub reports: Vec<Report<D::Link>>,
+    pub dialed: Option<D::Link>,
+    pub door: D,
+    pub doors: Vec<D>,
     pub panel: P,
+    pub panels: Vec<P>,
 }
 
 /// The whole program over its surroundings: `run` on all words after the program's name, ended by its status. A word
 /// that is not UTF-8 is no word of a command.
-pub fn start<R, A: Arguments, S: Source, K: Sink, P: Panel>(
+pub fn start<R, A: Arguments, S: Source, K, D, P, G>(
     rt: &R,
     alloc: Global,
     arguments: &mut A,
     input: &mut S,
-    output: &mut K,
+    output: K,
+    door: D,
     panel: P,
-) -> Finished<P>
+    gate: &G,
+) -> Finished<D, P, K>
 where
-    R: Net<Listener = TcpListener, Stream = TcpStream> + Clock,
+    K: Sink + Send + Drop,
+    D: Door + Send + Drop,
+    D::Link: Link + Send + Drop,
+    P: Panel + Send + Drop,
+    G: Gate + Sync,
+    R: Net<Listener = TcpListener, Stream = TcpStream> + Clock + Wait + Threads + Sync,
     ensures words { Grows (A.told arguments.old) (A.told arguments.new) }
     ensures all_words { exit_status result.code ≢ 6 → IsTrue (A.over arguments.new) }
-    ensures gave { Gave (S.left input.old) (S.left input.new) (S.given input.old) (S.given input.new) }
-    ensures sent { Grows (K.sent output.old) (K.sent output.new) }
-    ensures said { Grows (P.said panel) (P.said result.panel) }
-    ensures untouched { (exit_status result.code ≡ 4) ⊎ (exit_status result.code ≡ 6) → output.new ≡ output.old }
     ensures other_words { ¬ IsCommand (words_of_call (gained (A.told arguments.old) (A.told arguments.new)))
-        → ((exit_status result.code ≡ 2) ⊎ (exit_status result.code ≡ 6)) × (input.new ≡ input.old) × (output.new ≡ output.old) }
-    ensures check { words_of_call (gained (A.told arguments.old) (A.told arguments.new)) ≡ check_words → RunsCheck
+        → ((exit_status result.code ≡ 2) ⊎ (exit_status result.code ≡ 6)) × (input.new ≡ input.old) × HandsBack result.output (λ k. k ≡ output) }
+    ensures gave { Gave (S.left input.old) (S.left input.new) (S.given input.old) (S.given input.new) }
+    ensures sent { ¬ IsServiceCall (words_of_call (gained (A.told arguments.old) (A.told arguments.new))) → HandsBack result.output (λ k. Grows (K.sent output) (K.sent k)) }
+    ensures said { ¬ IsServiceCall (words_of_call (gained (A.told arguments.old) (A.told arguments.new))) → Grows (P.said panel) (P.said result.panel) }
+    ensures untouched { ¬ IsServiceCall (words_of_call (gained (A.told arguments.old) (A.told arguments.new))) → (exit_status result.code ≡ 4) ⊎ (exit_status result.code ≡ 6) → HandsBack result.output (λ k. k ≡ output) }
+    ensures check { words_of_call (gained (A.told arguments.old) (A.told arguments.new)) ≡ check_words → HandsBack result.output (λ k. RunsCheck
         (source_run (S.left input.old) (S.given input.old) (S.given input.new) (S.over input.new) (S.faults input.old) (S.faults input.new))
-        (sink_run (K.sent output.old) (K.sent output.new) (K.faults output.old) (K.faults output.new))
-        (exit_status result.code) }
-    ensures script { words_of_call (gained (A.told arguments.old) (A.told arguments.new)) ≡ script_words → RunsScript
+        (sink_run (K.sent output) (K.sent k) (K.faults output) (K.faults k))
+        (exit_status result.code)) }
+    ensures script { words_of_call (gained (A.told arguments.old) (A.told arguments.new)) ≡ script_words → HandsBack result.output (λ k. RunsScript
         (source_run (S.left input.old) (S.given input.old) (S.given input.new) (S.over input.new) (S.faults input.old) (S.faults input.new))
-        (sink_run (K.sent output.old) (K.sent output.new) (K.faults output.old) (K.faults output.new))
+        (sink_run (K.sent output) (K.sent k) (K.faults output) (K.faults k))
         (panel_run (P.said panel) (P.said result.panel) (P.asks panel) (P.asks result.panel) (P.reached panel) (P.reached result.panel)
         (P.faults panel) (P.faults result.panel))
-        result.journal (exit_status result.code) }
-    ensures trust { words_of_call (gained (A.told arguments.old) (A.told arguments.new)) ≡ trust_words → RunsTrust
+        result.journal (exit_status result.code)) }
+    ensures trust { words_of_call (gained (A.told arguments.old) (A.told arguments.new)) ≡ trust_words → HandsBack result.output (λ k. RunsTrust
         (source_run (S.left input.old) (S.given input.old) (S.given input.new) (S.over input.new) (S.faults input.old) (S.faults input.new))
-        (sink_run (K.sent output.old) (K.sent output.new) (K.faults output.old) (K.faults output.new))
-        (exit_status result.code) }
+        (sink_run (K.sent output) (K.sent k) (K.faults output) (K.faults k))
+        (exit_status result.code)) }
     ensures core { (number steps : ℕ) → words_of_call (gained (A.told arguments.old) (A.told arguments.new)) ≡ core_words number steps → IsLoad number steps
-        → RunsCore number steps (sink_run (K.sent output.old) (K.sent output.new) (K.faults output.old) (K.faults output.new)) (exit_status result.code) × (input.new ≡ input.old) }
-    ensures other_panel { words_of_call (gained (A.told arguments.old) (A.told arguments.new)) ≢ script_words
-        → (result.panel ≡ panel) × (result.journal ≡ None) }
+        → HandsBack result.output (λ k. RunsCore number steps (sink_run (K.sent output) (K.sent k) (K.faults output) (K.faults k)) (exit_status result.code)) × (input.new ≡ input.old) }
+    ensures serve { (address : List ℕ) (workers sessions : ℕ) → words_of_call (gained (A.told arguments.old) (A.told arguments.new)) ≡ serve_words address workers sessions → IsService address workers sessions
+        → RunsService (panel_view P.said P.asks P.reached P.faults) (record { address = address; workers = workers; sessions = sessions })
+        (source_run (S.left input.old) (S.given input.old) (S.given input.new) (S.over input.new) (S.faults input.old) (S.faults input.new))
+        (record { sent = K.sent output; faults = K.faults output }) (door_view (link_view D.Link.left D.Link.taken D.Link.sent D.Link.over D.Link.closed D.Link.place D.Link.toward D.Link.faults) D.links D.over D.gave D.listened D.faults door) panel
+        (record {
+          status = exit_status result.code;
+          output = option_map (λ k. record { sent = K.sent k; faults = K.faults k }) result.output;
+          journal = result.journal;
+          reports = map (report_view (link_view D.Link.left D.Link.taken D.Link.sent D.Link.over D.Link.closed D.Link.place D.Link.toward D.Link.faults)) result.reports.items;
+          door = (door_view (link_view D.Link.left D.Link.taken D.Link.sent D.Link.over D.Link.closed D.Link.place D.Link.toward D.Link.faults) D.links D.over D.gave D.listened D.faults result.door);
+          doors = map (door_view (link_view D.Link.left D.Link.taken D.Link.sent D.Link.over D.Link.closed D.Link.place D.Link.toward D.Link.faults) D.links D.over D.gave D.listened D.faults) result.doors.items;
+          panel = result.panel;
+          panels = result.panels.items;
+        }) }
+    ensures other_door { ¬ IsServiceCall (words_of_call (gained (A.told arguments.old) (A.told arguments.new))) → (result.door ≡ door) × (result.reports.items ≡ []) × (result.doors.items ≡ []) × (result.panels.items ≡ []) }
+    ensures other_panel { words_of_call (gained (A.told arguments.old) (A.told arguments.new)) ≢ script_words → ¬ IsServiceCall (words_of_call (gained (A.told arguments.old) (A.told arguments.new))) → (result.panel ≡ panel) × (result.journal ≡ None) }
+    ensures dialed { result.dialed ≡ None }
 {
     let Ok(words) = words_of_call(alloc, arguments) else {
-        return stopped(6, panel);
+        return stopped(alloc, 6, output, door, panel);
     };
     match texts(alloc, words.as_slice()) {
         Ok(Some(texts)) => {
-            let ended = run(rt, alloc, texts.as_slice(), input, output, panel);
+            let ended = run(
+                rt,
+                alloc,
+                texts.as_slice(),
+                input,
+                output,
+                door,
+                panel,
+                gate,
+            );
             Finished {
                 code: ExitCode::from(ended.status),
+                output: ended.output,
                 journal: ended.journal,
+                reports: ended.reports,
+                dialed: ended.dialed,
+                door: ended.door,
+                doors: ended.doors,
                 panel: ended.panel,
+                panels: ended.panels,
             }
         }
-        Ok(None) => stopped(2, panel),
-        Err(_) => stopped(6, panel),
+        Ok(None) => stopped(alloc, 2, output, door, panel),
+        Err(_) => stopped(alloc, 6, output, door, panel),
     }
 }
 
-/// The end of a call of no command.
-fn stopped<P>(status: u8, panel: P) -> Finished<P>
+/// The end of a call of no command, or of one that found no memory.
+fn stopped<D: Door + Drop, P: Panel + Drop, K: Sink + Drop>(
+    alloc: Global,
+    status: u8,
+    output: K,
+    door: D,
+    panel: P,
+) -> Finished<D, P, K>
+where
+    D::Link: Drop,
     ensures code { exit_status result.code ≡ status }
-    ensures journal { result.journal ≡ None }
-    ensures panel { result.panel ≡ panel }
+    ensures output { result.output ≡ Some output }
+    ensures unused { (result.journal ≡ None) × (result.reports.items ≡ []) × (result.dialed ≡ None) × (result.door ≡ door) × (result.doors.items ≡ []) × (result.panel ≡ panel) × (result.panels.items ≡ []) }
 {
     Finished {
         code: ExitCode::from(status),
+        output: Some(output),
         journal: None,
+        reports: Vec::new(alloc),
+        dialed: None,
+        door,
+        doors: Vec::new(alloc),
         panel,
+        panels: Vec::new(alloc),
     }
 }

@@ -1,6 +1,6 @@
 // Whole inputs with the line that is written of each, and what faults of the source and of the sink come to.
 use crate::arguments::{SystemArguments, texts, words_of_call};
-use crate::program::run;
+use crate::plain::run_plain;
 use authority_ask::MemPanel;
 use nx_io::{Discard, MemSink, MemSource, Sink, Source, StdSink, StdSource};
 use std::alloc::{AllocError, Global};
@@ -93,7 +93,7 @@ where
     R: Net<Listener = TcpListener, Stream = TcpStream> + Clock,
 {
     let panel = MemPanel::new(alloc, &[], &[], &[])?;
-    Ok(run(rt, alloc, words, source, sink, panel).status)
+    Ok(run_plain(rt, alloc, words, source, sink, panel).status)
 }
 
 #[test]

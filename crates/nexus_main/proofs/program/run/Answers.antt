@@ -1,26 +1,14 @@
-use Rattle.std.proofs.Common.{sym, ◌∙◌, refl}
-use Rattle.nexus_main.proofs.Programs.{runs_check}
-use Rattle.nexus_main.proofs.TrustEnds.{runs_core, runs_trust}
-use Rattle.nexus_main.proofs.Words.{core_same}
-use Rattle.nexus_main.proofs.ScriptEnds.{runs_script}
-use Rattle.nexus_main.specs.declared.commands.Command.TheVariants.{Core}
+use Rattle.std.proofs.Common.{inl, sym, ◌∙◌}
+use Rattle.nexus_main.proofs.ServiceEnds.{runs_service}
+use Rattle.nexus_main.proofs.Words.{serve_same}
 use Rattle.nexus_main.proofs.program.run.Goals as goal
 
-pub returns-in-Some-Check-clause-check : goal.returns-in-Some-Check-clause-check
-returns-in-Some-Check-clause-check g c = λ words. runs_check c.check.ensures.ends
+pub returns-in-Some-clause-serve : goal.returns-in-Some-clause-serve
+returns-in-Some-clause-serve g c =
+    let mine = c.in-Some.ensures in
+    λ address workers sessions words within.
+    let same = serve_same address workers sessions c.in-Some.service.address.now c.in-Some.service.workers c.in-Some.service.sessions within mine.0 (sym words ∙ mine.1) in
+    rw (same.0, same.1, same.2) (runs_service _ _ _ _ _ _ _ c.run_service.ensures.ends)
 
-pub returns-in-Some-Script-clause-script : goal.returns-in-Some-Script-clause-script
-returns-in-Some-Script-clause-script g c = λ words. runs_script c.script.ensures.ends
-
-pub returns-in-Some-Trust-clause-trust : goal.returns-in-Some-Trust-clause-trust
-returns-in-Some-Trust-clause-trust g c = λ words. runs_trust c.reach.ensures.ends
-
-pub returns-in-Some-Core-clause-core : goal.returns-in-Some-Core-clause-core
-returns-in-Some-Core-clause-core g c =
-    let of_words = rw c.in-Some-Core.field-0-is at c.in-Some-Core.ensures in
-    λ number steps words within.
-    let same = core_same number steps c.in-Some-Core.number c.in-Some-Core.steps within of_words.0 (sym words ∙ of_words.1) in
-    (rw (same.0, same.1) (runs_core c.load.ensures.ends), refl)
-
-pub returns-in-None-clause-core : goal.returns-in-None-clause-core
-returns-in-None-clause-core g c = λ number steps words within. absurd (c.in-None.ensures (Core number steps, within, words))
+pub returns-in-None-clause-other_words : goal.returns-in-None-clause-other_words
+returns-in-None-clause-other_words g c = λ none. c.run_plain-end.ensures.other_words (λ plain. none (inl plain))

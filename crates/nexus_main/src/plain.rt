@@ -1,0 +1,103 @@
+//! The commands that are no service.
+ghost use Rattle.std.specs.Prelude.{◌≡◌, ◌≢◌, ◌⊎◌, ℕ, None, map};
+ghost use Rattle.nx_io.specs.Streams.{Gave, Grows, gained};
+ghost use Rattle.run_streams.specs.Runs.{sink_run, source_run};
+ghost use Rattle.nexus_main.specs.Commands.{IsLoad, IsPlain, check_words, core_words, script_words, trust_words};
+ghost use Rattle.nexus_main.specs.Cores.{RunsCore};
+ghost use Rattle.nexus_main.specs.Program.{RunsCheck};
+ghost use Rattle.nexus_main.specs.Scripts.{RunsScript, panel_run};
+ghost use Rattle.nexus_main.specs.Trusts.{RunsTrust};
+
+use crate::check::check;
+use crate::commands::{Command, command_of};
+use crate::load::load;
+use crate::reach::reach;
+use crate::script::script;
+use authority_ask::Panel;
+use nx_io::{Sink, Source};
+use policy_history::Journal;
+use std::alloc::Global;
+use std::net::{Net, TcpListener, TcpStream};
+use std::rt::Clock;
+
+/// How a command ended that is no service.
+#[derive(Drop)]
+pub struct PlainEnd<P> {
+    /// The status that the operating system is given. `docs/FORMATS.md`, "Statuses", says what each means.
+    pub status: u8,
+    /// The journal at the end, where a policy was read and its text was to be written.
+    pub journal: Option<Journal>,
+    /// The panel that was handed in.
+    pub panel: P,
+}
+
+/// Runs a command that is no service: `check` reads one input from the source and writes its outcome to the sink; `script` reads a policy and
+/// the requests of sessions, answers each, and writes the replies and then the policy as they left it; `trust` reads what an
+/// owner assumes and a goal, and writes whether the untrusted can reach it; `core` reads nothing, and writes the line of a
+/// generated load.
+///
+/// The status is 0 where all was done (of `check` at `allowed`, of `trust` at `safe`), 1 at `denied` and where a goal is not
+/// safe, 2 where the words are not those of a command, which then reads and writes nothing, 3 where the input is refused, 4
+/// where the source failed, 5 where the sink failed, 6 where memory ran out, and 8 where an authority could not be reached.
+/// At 4, 6 and 8 nothing was written, and at 5 a proper part of what was to be. `docs/FORMATS.md`, "Statuses", states this.
+///
+/// The input is what the source gives in this call. It is read to its first end, unless it is too large. The panel is handed
+/// back; only `script` uses it.
+pub fn run_plain<R, S: Source, K: Sink, P: Panel>(
+    rt: &R,
+    alloc: Global,
+    words: &[&str],
+    input: &mut S,
+    output: &mut K,
+    panel: P,
+) -> PlainEnd<P>
+where
+    R: Net<Listener = TcpListener, Stream = TcpStream> + Clock,
+    ensures other_words { ¬ IsPlain (map (λ w. w.now) words.now)
+        → (result.status ≡ 2) × (input.new ≡ input.old) × (output.new ≡ output.old) }
+    ensures gave { Gave (S.left input.old) (S.left input.new) (S.given input.old) (S.given input.new) }
+    ensures sent { Grows (K.sent output.old) (K.sent output.new) }
+    ensures said { Grows (P.said panel) (P.said result.panel) }
+    ensures untouched { (result.status ≡ 4) ⊎ (result.status ≡ 6) → output.new ≡ output.old }
+    ensures check { map (λ w. w.now) words.now ≡ check_words → RunsCheck
+        (source_run (S.left input.old) (S.given input.old) (S.given input.new) (S.over input.new) (S.faults input.old) (S.faults input.new))
+        (sink_run (K.sent output.old) (K.sent output.new) (K.faults output.old) (K.faults output.new))
+        result.status }
+    ensures script { map (λ w. w.now) words.now ≡ script_words → RunsScript
+        (source_run (S.left input.old) (S.given input.old) (S.given input.new) (S.over input.new) (S.faults input.old) (S.faults input.new))
+        (sink_run (K.sent output.old) (K.sent output.new) (K.faults output.old) (K.faults output.new))
+        (panel_run (P.said panel) (P.said result.panel) (P.asks panel) (P.asks result.panel) (P.reached panel) (P.reached result.panel)
+        (P.faults panel) (P.faults result.panel))
+        result.journal result.status }
+    ensures trust { map (λ w. w.now) words.now ≡ trust_words → RunsTrust
+        (source_run (S.left input.old) (S.given input.old) (S.given input.new) (S.over input.new) (S.faults input.old) (S.faults input.new))
+        (sink_run (K.sent output.old) (K.sent output.new) (K.faults output.old) (K.faults output.new))
+        result.status }
+    ensures core { (number steps : ℕ) → map (λ w. w.now) words.now ≡ core_words number steps → IsLoad number steps
+        → RunsCore number steps (sink_run (K.sent output.old) (K.sent output.new) (K.faults output.old) (K.faults output.new)) result.status × (input.new ≡ input.old) }
+    ensures other_panel { map (λ w. w.now) words.now ≢ script_words → (result.panel ≡ panel) × (result.journal ≡ None) }
+{
+    match command_of(words) {
+        None => PlainEnd {
+            status: 2,
+            journal: None,
+            panel,
+        },
+        Some(Command::Check) => PlainEnd {
+            status: check(alloc, input, output),
+            journal: None,
+            panel,
+        },
+        Some(Command::Script) => script(rt, alloc, input, output, panel),
+        Some(Command::Trust) => PlainEnd {
+            status: reach(alloc, input, output),
+            journal: None,
+            panel,
+        },
+        Some(Command::Core { number, steps }) => PlainEnd {
+            status: load(alloc, number, steps, output),
+            journal: None,
+            panel,
+        },
+    }
+}
