@@ -1,0 +1,86 @@
+//! How a change is written.
+ghost use Rattle.std.specs.Prelude.{◌≡◌, ◌<◌, length, true};
+ghost use Rattle.policy_book.specs.Books.{entry_of, head_of};
+ghost use Rattle.policy_book.specs.Writes.{IsLineFor};
+
+use crate::told::Told;
+use journal_text::{event_of, policy_line, read_request};
+use nx_io::MemSink;
+use policy_book::{Book, NalMatter};
+use policy_history::{Event, Head};
+use std::alloc::Global;
+use verdict_words::{Board, Pass};
+
+/// Writes the change that a request line asks for.
+pub fn change(
+    alloc: Global,
+    book: &mut Book<MemSink>,
+    board: &Board<NalMatter>,
+    head: &Head,
+    pass: Pass<NalMatter>,
+    principal: u32,
+    line: &str,
+) -> (Pass<NalMatter>, Told)
+    requires opened { book.old.is_open ≡ true }
+    requires board { book.old.board ≡ board.now }
+    requires head { head.now ≡ head_of book.old }
+    requires principal { principal < length (head_of book.old).principals }
+    requires pass { pass.board ≡ board.now }
+    ensures pass { result.0.board ≡ board.now }
+    ensures book { (book.new.board ≡ book.old.board) × (book.new.is_open ≡ true) }
+{
+    match event_in(alloc, line) {
+        Some(event) => change_to(alloc, book, board, head, pass, principal, event),
+        None => (pass, Told::NoMemory),
+    }
+}
+
+// The event that a request line asks for. None where it asks for none, or there is no memory.
+fn event_in(alloc: Global, line: &str) -> Option<Event> {
+    let request = read_request(alloc, line.as_bytes()).ok()?;
+    event_of(alloc, &request).ok()?
+}
+
+fn change_to(
+    alloc: Global,
+    book: &mut Book<MemSink>,
+    board: &Board<NalMatter>,
+    head: &Head,
+    pass: Pass<NalMatter>,
+    principal: u32,
+    event: Event,
+) -> (Pass<NalMatter>, Told)
+    requires opened { book.old.is_open ≡ true }
+    requires board { book.old.board ≡ board.now }
+    requires head { head.now ≡ head_of book.old }
+    requires principal { principal < length (head_of book.old).principals }
+    requires pass { pass.board ≡ board.now }
+    ensures pass { result.0.board ≡ board.now }
+    ensures book { (book.new.board ≡ book.old.board) × (book.new.is_open ≡ true) }
+{
+    let name = head.principals.name(principal);
+    match policy_line(alloc, pass.session(), name, &event) {
+        Ok(line) => write(book, board, pass, principal, event, line.as_slice()),
+        Err(_) => (pass, Told::NoMemory),
+    }
+}
+
+fn write(
+    book: &mut Book<MemSink>,
+    board: &Board<NalMatter>,
+    pass: Pass<NalMatter>,
+    principal: u32,
+    event: Event,
+    line: &[u8],
+) -> (Pass<NalMatter>, Told)
+    requires opened { book.old.is_open ≡ true }
+    requires board { book.old.board ≡ board.now }
+    requires principal { principal < length (head_of book.old).principals }
+    requires pass { pass.board ≡ board.now }
+    requires line { IsLineFor (head_of book.old) (entry_of pass.session principal event) line.now }
+    ensures pass { result.0.board ≡ board.now }
+    ensures book { (book.new.board ≡ book.old.board) × (book.new.is_open ≡ true) }
+{
+    let (pass, written) = book.write(board, pass, principal, event, line);
+    (pass, Told::Written(written))
+}

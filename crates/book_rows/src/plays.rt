@@ -1,0 +1,257 @@
+//! Steps of two sessions over one book, one after another, and what comes of them.
+ghost use Rattle.std.specs.Prelude.{◌≡◌, ◌<◌, ◌≤◌, ◌-◌, IfSome, false, length, take, true};
+ghost use Rattle.policy_history.specs.PolicyTexts.{front};
+ghost use Rattle.policy_history.specs.Values.{entry_trees, greatest_of};
+ghost use Rattle.policy_book.specs.Books.{head_of, trees_of};
+
+use crate::calls::call;
+use crate::changes::change;
+use crate::told::Told;
+use journal_text::{print_policy, read_policy};
+use nx_io::{MemSink, Reach};
+use policy_book::{Book, NalMatter};
+use policy_history::{Head, Journal};
+use std::alloc::Global;
+use std::net::{Net, TcpListener, TcpStream};
+use std::rt::Clock;
+use verdict_words::{Board, Pass};
+
+/// Two sessions, whose principals are the first and the second of the policy.
+#[derive(Clone, Copy)]
+pub enum Session {
+    First,
+    Second,
+}
+
+/// What a session does.
+#[derive(Clone, Copy)]
+pub enum Act<'a> {
+    /// It asks for a change, as a request line.
+    Change(&'a str),
+    /// It asks for an operation on an object.
+    Call(&'a str, &'a str),
+}
+
+/// A step of a session, and what it must be told.
+pub type Step<'a> = (Session, Act<'a>, Told);
+
+/// Steps over a book of this policy, whose sink takes a byte a call, holds so many, and fails at these calls; and what it must
+/// have been sent at the end.
+#[derive(Clone, Copy)]
+pub struct Play<'a> {
+    pub policy: &'a [u8],
+    pub room: usize,
+    pub fails: &'a [u64],
+    pub steps: &'a [Step<'a>],
+    pub sent: &'a [u8],
+}
+
+/// What comes of a play: the place of the first step that is told something else, and what; how many entries the journal has,
+/// whether a write has failed, and whether the sink was sent what it must be.
+#[derive(Clone, Copy, Debug, PartialEq, Eq)]
+pub struct Outcome {
+    pub wrong: Option<(usize, Told)>,
+    pub entries: u64,
+    pub is_broken: bool,
+    pub is_sent: bool,
+}
+
+/// All is told and sent as it must be.
+pub fn as_told(entries: u64, is_broken: bool) -> Option<Outcome> {
+    Some(Outcome {
+        wrong: None,
+        entries,
+        is_broken,
+        is_sent: true,
+    })
+}
+
+/// Plays the steps. None is want of memory, or a policy that is none, has fewer than two principals, or great session numbers.
+pub fn outcome_of<R: Net<Listener = TcpListener, Stream = TcpStream> + Clock>(
+    rt: &R,
+    alloc: Global,
+    play: &Play,
+) -> Option<Outcome> {
+    let sink = MemSink::new(alloc, play.room, 1, play.fails).ok()?;
+    match read_policy(alloc, play.policy) {
+        Ok(journal) => outcome_over(rt, alloc, journal, sink, play),
+        Err(_) => None,
+    }
+}
+
+fn outcome_over<R: Net<Listener = TcpListener, Stream = TcpStream> + Clock>(
+    rt: &R,
+    alloc: Global,
+    journal: Journal,
+    sink: MemSink,
+    play: &Play,
+) -> Option<Outcome> {
+    match (front_of(alloc, &journal), journal.head().copy(alloc)) {
+        (Some(text), Ok(head)) => {
+            outcome_in(rt, alloc, journal, sink, &head, text.as_slice(), play)
+        }
+        _ => None,
+    }
+}
+
+// The text of a journal without its last line, where it has two principals and its sessions have small numbers.
+fn front_of(alloc: Global, journal: &Journal) -> Option<Vec<u8>>
+    ensures text { IfSome result (λ text. text.items ≡ front journal.now.head (entry_trees journal.now.entries)) }
+    ensures sessions { IfSome result (λ _. greatest_of (entry_trees journal.now.entries) ≤ 1000) }
+    ensures principals { IfSome result (λ _. 2 ≤ length journal.now.head.principals) }
+{
+    if journal.greatest_session() > 1000 || journal.head().principals.count() < 2 {
+        return None;
+    }
+    match print_policy(alloc, journal) {
+        Ok(text) => without_end(alloc, text.as_slice()),
+        Err(_) => None,
+    }
+}
+
+// A text without its last four bytes.
+fn without_end(alloc: Global, text: &[u8]) -> Option<Vec<u8>>
+    ensures { IfSome result (λ front. front.items ≡ take (length text.now - 4) text.now) }
+{
+    let count = text.len().saturating_sub(4);
+    Vec::from_slice(alloc, &text[..count]).ok()
+}
+
+fn outcome_in<R: Net<Listener = TcpListener, Stream = TcpStream> + Clock>(
+    rt: &R,
+    alloc: Global,
+    journal: Journal,
+    sink: MemSink,
+    head: &Head,
+    text: &[u8],
+    play: &Play,
+) -> Option<Outcome>
+    requires sessions { greatest_of (entry_trees journal.entries) ≤ 1000 }
+    requires principals { 2 ≤ length journal.head.principals }
+    requires head { head.now ≡ journal.head }
+    requires text { text.now ≡ front journal.head (entry_trees journal.entries) }
+{
+    match Book::make(alloc, journal, sink) {
+        Ok((board, book)) => Some(opened(rt, alloc, &board, book, head, text, play)),
+        Err(_) => None,
+    }
+}
+
+// Opens a book, and plays the steps where the front of its text was written.
+fn opened<R: Net<Listener = TcpListener, Stream = TcpStream> + Clock>(
+    rt: &R,
+    alloc: Global,
+    board: &Board<NalMatter>,
+    book: Book<MemSink>,
+    head: &Head,
+    text: &[u8],
+    play: &Play,
+) -> Outcome
+    requires closed { book.is_open ≡ false }
+    requires unbroken { book.is_broken ≡ false }
+    requires board { book.board ≡ board.now }
+    requires principals { 2 ≤ length (head_of book).principals }
+    requires head { head.now ≡ head_of book }
+    requires text { text.now ≡ front (head_of book) (trees_of book) }
+    requires room { book.next ≤ 1001 }
+{
+    let mut book = book;
+    match book.open(text) {
+        Reach::Ready => served(rt, alloc, board, book, head, play),
+        Reach::Failed => ended(book, None, play),
+    }
+}
+
+// Plays the steps over an open book.
+fn served<R: Net<Listener = TcpListener, Stream = TcpStream> + Clock>(
+    rt: &R,
+    alloc: Global,
+    board: &Board<NalMatter>,
+    book: Book<MemSink>,
+    head: &Head,
+    play: &Play,
+) -> Outcome
+    requires opened { book.is_open ≡ true }
+    requires board { book.board ≡ board.now }
+    requires principals { 2 ≤ length (head_of book).principals }
+    requires head { head.now ≡ head_of book }
+    requires room { book.next ≤ 1001 }
+{
+    let mut book = book;
+    let first = book.enter(board);
+    let second = book.enter(board);
+    let wrong = step_all(rt, alloc, &mut book, board, head, first, second, play.steps);
+    ended(book, wrong, play)
+}
+
+// What is left of a book.
+fn ended(book: Book<MemSink>, wrong: Option<(usize, Told)>, play: &Play) -> Outcome {
+    let is_broken = book.broken();
+    let (journal, sink) = book.into_parts();
+    Outcome {
+        wrong,
+        entries: journal.count(),
+        is_broken,
+        is_sent: sink.sent() == play.sent,
+    }
+}
+
+// Lets two sessions take the steps. The first that is told something else.
+fn step_all<R: Net<Listener = TcpListener, Stream = TcpStream> + Clock>(
+    rt: &R,
+    alloc: Global,
+    book: &mut Book<MemSink>,
+    board: &Board<NalMatter>,
+    head: &Head,
+    first: Pass<NalMatter>,
+    second: Pass<NalMatter>,
+    steps: &[Step],
+) -> Option<(usize, Told)>
+    requires opened { book.old.is_open ≡ true }
+    requires board { book.old.board ≡ board.now }
+    requires head { head.now ≡ head_of book.old }
+    requires principals { 2 ≤ length (head_of book.old).principals }
+    requires passes { (first.board ≡ board.now) × (second.board ≡ board.now) }
+{
+    let (mut first, mut second, mut wrong) = (first, second, None);
+    for (place, (session, act, wanted)) in steps.iter().enumerate() {
+        let told;
+        match session {
+            Session::First => {
+                (first, told) = step(rt, alloc, book, board, head, first, 0, act);
+            }
+            Session::Second => {
+                (second, told) = step(rt, alloc, book, board, head, second, 1, act);
+            }
+        }
+        if told != *wanted {
+            wrong = wrong.or(Some((place, told)));
+        }
+    }
+    wrong
+}
+
+// Takes one step.
+fn step<R: Net<Listener = TcpListener, Stream = TcpStream> + Clock>(
+    rt: &R,
+    alloc: Global,
+    book: &mut Book<MemSink>,
+    board: &Board<NalMatter>,
+    head: &Head,
+    pass: Pass<NalMatter>,
+    principal: u32,
+    act: &Act,
+) -> (Pass<NalMatter>, Told)
+    requires opened { book.old.is_open ≡ true }
+    requires board { book.old.board ≡ board.now }
+    requires head { head.now ≡ head_of book.old }
+    requires principal { principal < length (head_of book.old).principals }
+    requires pass { pass.board ≡ board.now }
+    ensures pass { result.0.board ≡ board.now }
+    ensures book { (book.new.board ≡ book.old.board) × (book.new.is_open ≡ true) }
+{
+    match act {
+        Act::Change(line) => change(alloc, book, board, head, pass, principal, line),
+        Act::Call(op, object) => call(rt, alloc, book, board, pass, principal, op, object),
+    }
+}
