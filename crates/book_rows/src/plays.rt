@@ -46,22 +46,36 @@ pub struct Play<'a> {
     pub sent: &'a [u8],
 }
 
-/// What comes of a play: the place of the first step that is told something else, and what; how many entries the journal has,
-/// whether a write has failed, and whether the sink was sent what it must be.
+/// What comes of steps: the place of the first that is told something else, and what; and how many entries each pass has seen
+/// once both are met at the end.
+#[derive(Clone, Copy, Debug, PartialEq, Eq)]
+pub struct Taken {
+    pub wrong: Option<(usize, Told)>,
+    pub seen: [u64; 2],
+}
+
+/// What comes of a play: how many entries the journal has, whether a write has failed, how often the sink has failed, and whether
+/// it was sent what it must be.
 #[derive(Clone, Copy, Debug, PartialEq, Eq)]
 pub struct Outcome {
-    pub wrong: Option<(usize, Told)>,
+    pub taken: Taken,
     pub entries: u64,
     pub is_broken: bool,
+    pub faults: u64,
     pub is_sent: bool,
 }
 
-/// All is told and sent as it must be.
+/// All is told and sent as it must be, both passes see the whole journal, and nothing goes to a sink that has failed.
 pub fn as_told(entries: u64, is_broken: bool) -> Option<Outcome> {
-    Some(Outcome {
+    let taken = Taken {
         wrong: None,
+        seen: [entries; 2],
+    };
+    Some(Outcome {
+        taken,
         entries,
         is_broken,
+        faults: u64::from(is_broken),
         is_sent: true,
     })
 }
@@ -137,6 +151,12 @@ fn outcome_in<R: Net<Listener = TcpListener, Stream = TcpStream> + Clock>(
     }
 }
 
+// No step was taken.
+const NOTHING: Taken = Taken {
+    wrong: None,
+    seen: [0; 2],
+};
+
 // Opens a book, and plays the steps where the front of its text was written.
 fn opened<R: Net<Listener = TcpListener, Stream = TcpStream> + Clock>(
     rt: &R,
@@ -158,7 +178,7 @@ fn opened<R: Net<Listener = TcpListener, Stream = TcpStream> + Clock>(
     let mut book = book;
     match book.open(text) {
         Reach::Ready => served(rt, alloc, board, book, head, play),
-        Reach::Failed => ended(book, None, play),
+        Reach::Failed => ended(book, NOTHING, play),
     }
 }
 
@@ -180,23 +200,24 @@ fn served<R: Net<Listener = TcpListener, Stream = TcpStream> + Clock>(
     let mut book = book;
     let first = book.enter(board);
     let second = book.enter(board);
-    let wrong = step_all(rt, alloc, &mut book, board, head, first, second, play.steps);
-    ended(book, wrong, play)
+    let taken = step_all(rt, alloc, &mut book, board, head, first, second, play.steps);
+    ended(book, taken, play)
 }
 
 // What is left of a book.
-fn ended(book: Book<MemSink>, wrong: Option<(usize, Told)>, play: &Play) -> Outcome {
+fn ended(book: Book<MemSink>, taken: Taken, play: &Play) -> Outcome {
     let is_broken = book.broken();
     let (journal, sink) = book.into_parts();
     Outcome {
-        wrong,
+        taken,
         entries: journal.count(),
         is_broken,
+        faults: sink.faults(),
         is_sent: sink.sent() == play.sent,
     }
 }
 
-// Lets two sessions take the steps. The first that is told something else.
+// Lets two sessions take the steps, and meets both passes.
 fn step_all<R: Net<Listener = TcpListener, Stream = TcpStream> + Clock>(
     rt: &R,
     alloc: Global,
@@ -206,7 +227,7 @@ fn step_all<R: Net<Listener = TcpListener, Stream = TcpStream> + Clock>(
     first: Pass<NalMatter>,
     second: Pass<NalMatter>,
     steps: &[Step],
-) -> Option<(usize, Told)>
+) -> Taken
     requires opened { book.old.is_open ≡ true }
     requires board { book.old.board ≡ board.now }
     requires head { head.now ≡ head_of book.old }
@@ -228,7 +249,11 @@ fn step_all<R: Net<Listener = TcpListener, Stream = TcpStream> + Clock>(
             wrong = wrong.or(Some((place, told)));
         }
     }
-    wrong
+    let (first, second) = (book.meet(board, first), book.meet(board, second));
+    Taken {
+        wrong,
+        seen: [first.at(), second.at()],
+    }
 }
 
 // Takes one step.
