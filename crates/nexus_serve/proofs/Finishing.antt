@@ -1,31 +1,29 @@
 -- A service that has finished.
-use Rattle.std.proofs.Common.{◌≡◌, ◌≢◌, ◌⊎◌, inl, inr, ◌<◌, ◌≤◌, ◌+◌, ◌*◌, ◌-◌, ℕ, Bool, true, false, List, [], ◌∷◌, ◌++◌, length, take, drop, filter, Option, Some, None, refl, sym, ap, ◌∙◌, subst, arith, append_assoc, append-nil, length-append}
+use Rattle.std.proofs.Common.{◌≡◌, ◌⊎◌, inl, inr, ◌<◌, ◌≤◌, ◌+◌, ◌*◌, ℕ, Bool, true, false, List, [], ◌∷◌, ◌++◌, length, take, drop, filter, refl, sym, ap, ◌∙◌, subst, arith, append_assoc, length-append}
 use Rattle.std.proofs.Math.Seq.{drop-append_seam}
 use Rattle.std.proofs.lemmas.List.{map-append}
 use Rattle.std.proofs.lemmas.List.Elements.{All-append, All-cons, All-head, All-map, All-nil, All-tail, All-weaker, Contains-append_right}
 use Rattle.std.specs.Prelude.{All, Contains, map}
 use Rattle.policy_history.specs.declared.events.Entry.{Entry}
 use Rattle.policy_history.specs.declared.heads.Head.{Head}
-use Rattle.policy_history.specs.Events.{EntryTree}
 use Rattle.policy_history.specs.Values.{entry_trees, greatest_of}
-use Rattle.verdict_words.specs.Histories.{EachFrom, IsPrefix, own}
+use Rattle.verdict_words.specs.Histories.{EachFrom, own}
 use Rattle.verdict_words.specs.Rule.{AreOf, IsPart, Stepped, is_on, last_met}
 use Rattle.verdict_words.specs.Settling.{all_met, met_of}
-use Rattle.verdict_words.specs.Values.{Identity, PassValue, met_seen}
+use Rattle.verdict_words.specs.Values.{Identity, PassValue}
 use Rattle.verdict_words.specs.Words.{register_word}
 use Rattle.verdict_words.specs.declared.views.Item.TheVariants.{Met}
 use Rattle.policy_book.specs.Books.{BookValue, IsMetIn, session_of}
 use Rattle.session_core.specs.ToldLaws.{ToldStaysTold}
-use Rattle.nexus_serve.specs.declared.service.ServeEnd.{ServeEnd}
-use Rattle.nexus_serve.specs.declared.service.ServeEnd.TheVariants.{Done, DoorFault, Memory}
+use Rattle.nexus_serve.specs.declared.service.ServeEnd.TheVariants.{Done, DoorFault}
 use Rattle.nexus_serve.specs.Views.{DoorView, PanelView, ReportView}
 use Rattle.nexus_serve.specs.Workers.{HaveWorked, SomeFailed}
 use Rattle.nexus_serve.specs.Services.{HasSeenAll, HaveOneOrder, IsServed, ServedView, Serves, SinkView, done, is_fault, no_memory, sessions_of}
-use Rattle.nexus_serve.specs.Inner.Gathering.{GatheredValue, gathered_all, joined, nothing, pass_of, rest_of, with_unused}
+use Rattle.nexus_serve.specs.Inner.Gathering.{gathered_all, joined, nothing, pass_of, rest_of, with_unused}
 use Rattle.nexus_serve.specs.Inner.Joining.{IsMetBy, met_report, reports_of, unused_of}
 use Rattle.nexus_serve.specs.Inner.Reporting.{IsLost, IsReported, end_of}
 use Rattle.nexus_serve.specs.Inner.Serving.{AreDone, doors_of, panels_of}
-use Rattle.nexus_serve.specs.Inner.Working.{IsDone, IsUnused, WorkerValue}
+use Rattle.nexus_serve.specs.Inner.Working.{IsUnused, WorkerValue}
 use Rattle.nexus_serve.proofs.Gathering.{doors_gathered, joined_met, panels_gathered, passes_gathered, rests_gathered, some_failed, tells_all, unused_gathered}
 use Rattle.nexus_serve.proofs.Joining.{have_worked, of_reports, works_same}
 use Rattle.nexus_serve.proofs.Lists.{all_both, all_left, all_right}

@@ -1,5 +1,5 @@
 -- What workers leave, by their parts.
-use Rattle.std.proofs.Common.{◌≡◌, ◌⊎◌, inl, inr, ℕ, Bool, true, false, List, [], ◌∷◌, ◌++◌, length, refl, sym, ap, ◌∙◌, append_assoc, append-nil, ◌+◌}
+use Rattle.std.proofs.Common.{◌≡◌, ◌⊎◌, inl, inr, ℕ, Bool, true, false, List, [], ◌∷◌, ◌++◌, refl, sym, ap, ◌∙◌, append_assoc, append-nil, ◌+◌}
 use Rattle.std.proofs.lemmas.List.{map-append}
 use Rattle.std.proofs.lemmas.List.Elements.{All-append, All-head, All-map, All-tail, All-weaker}
 use Rattle.std.specs.Prelude.{All, map, ◌||◌}
@@ -13,7 +13,7 @@ use Rattle.nexus_serve.specs.Workers.{SomeFailed}
 use Rattle.nexus_serve.specs.Inner.Gathering.{GatheredValue, RestView, gathered_all, gathered_from, joined, pass_of, raw_joined, rest_of, rest_view, with_pass, with_unused}
 use Rattle.nexus_serve.specs.Inner.Joining.{met_report, reports_of, unused_of}
 use Rattle.nexus_serve.specs.Inner.Serving.{AreDone, AreOfBoard, doors_of, panels_of}
-use Rattle.nexus_serve.specs.Inner.Working.{IsDone, IsUnused, WorkerValue}
+use Rattle.nexus_serve.specs.Inner.Working.{IsUnused, WorkerValue}
 
 pub doors_gathered : {P : Type 0} (g : GatheredValue P) (workers : List (WorkerValue P)) → (gathered_all g workers).doors ≡ g.doors ++ doors_of workers
 doors_gathered g [] = sym (append-nil g.doors)

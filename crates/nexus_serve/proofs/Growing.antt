@@ -1,5 +1,5 @@
 -- What a session was told over what its pass had seen it was told over the whole journal.
-use Rattle.std.proofs.Common.{◌≡◌, ◌<◌, ◌≤◌, ◌+◌, ◌-◌, ℕ, Bool, true, List, [], ◌∷◌, ◌++◌, length, take, refl, sym, ap, ◌∙◌, subst, arith, length-append, append-nil}
+use Rattle.std.proofs.Common.{◌≡◌, ◌<◌, ◌+◌, ◌-◌, ℕ, Bool, true, List, [], ◌∷◌, ◌++◌, length, take, sym, ap, ◌∙◌, subst, arith, length-append, append-nil}
 use Rattle.std.proofs.Math.Seq.{take-append_seam}
 use Rattle.std.proofs.lemmas.List.{map-append, length-map}
 use Rattle.nexus_serve.proofs.Lists.{all_left, all_last}
@@ -7,12 +7,11 @@ use Rattle.std.specs.Prelude.{All, map}
 use Rattle.policy_history.specs.declared.events.Entry.{Entry}
 use Rattle.policy_history.specs.declared.heads.Head.{Head}
 use Rattle.policy_history.specs.Values.{entry_trees}
-use Rattle.verdict_words.specs.Values.{Identity, PassValue}
+use Rattle.verdict_words.specs.Values.{Identity}
 use Rattle.verdict_words.specs.declared.views.Item.{Item}
 use Rattle.verdict_words.specs.declared.views.Item.TheVariants.{Met}
-use Rattle.session_core.specs.Served.{IsServedSo}
 use Rattle.session_core.specs.ToldLaws.{ToldStaysTold}
-use Rattle.nexus_serve.specs.Views.{DoorView, LinkView, PanelView, ReportView, reported}
+use Rattle.nexus_serve.specs.Views.{DoorView, LinkView, PanelView, ReportView}
 use Rattle.nexus_serve.specs.Workers.{HasComeFrom, HasWorked, IsHeard, Stops, Works, all, failed, next, no_more, nobody}
 use Rattle.nexus_serve.specs.Inner.Joining.{IsMetBy, met_report}
 

@@ -1,5 +1,5 @@
 -- What holds of a service behind its workers.
-use Rattle.std.proofs.Common.{◌≡◌, ◌≢◌, ◌⊎◌, inl, inr, ◌<◌, ◌≤◌, ◌+◌, ◌*◌, ◌-◌, ℕ, suc, Bool, true, false, List, [], ◌∷◌, ◌++◌, length, cond, refl, sym, ap, ◌∙◌, subst, arith, length-append}
+use Rattle.std.proofs.Common.{◌≡◌, ◌≢◌, ◌⊎◌, inl, inr, ◌<◌, ◌≤◌, ◌+◌, ◌*◌, ◌-◌, ℕ, suc, Bool, List, [], ◌∷◌, ◌++◌, length, cond, refl, sym, ap, ◌∙◌, subst, arith, length-append}
 use Rattle.std.proofs.Math.Nat.{suc-mul}
 use Rattle.std.proofs.lemmas.List.{map-append}
 use Rattle.std.proofs.lemmas.List.Elements.{All-cons, All-contains, All-head, All-nil, All-push, All-tail, All-weaker, All-contains_itself, Contains-append_left, Contains-append_right}
@@ -16,7 +16,7 @@ use Rattle.nexus_serve.specs.Workers.{HasWorked, HaveWorked, Works, next, nobody
 use Rattle.nexus_serve.specs.Services.{sessions_of}
 use Rattle.nexus_serve.specs.Inner.Joining.{IsMetBy, met_report, reports_of, unused_of}
 use Rattle.nexus_serve.specs.Inner.Serving.{AreDone, doors_of, panels_of}
-use Rattle.nexus_serve.specs.Inner.Working.{AreNumbered, IsDone, WorkerValue}
+use Rattle.nexus_serve.specs.Inner.Working.{AreNumbered, WorkerValue}
 use Rattle.session_core.specs.ToldLaws.{ToldStaysTold}
 use Rattle.nexus_serve.proofs.Gathering.{TellsAll}
 use Rattle.nexus_serve.proofs.Growing.{worked_met}

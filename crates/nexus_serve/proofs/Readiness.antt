@@ -1,5 +1,5 @@
 -- How a service is made ready, and how it ends where it is not.
-use Rattle.std.proofs.Common.{◌≡◌, ◌≢◌, ◌∷◌, [], ◌++◌, ℕ, List, Result, Ok, Err, length, refl, sym, ◌∙◌, arith}
+use Rattle.std.proofs.Common.{◌≡◌, ◌≢◌, ◌∷◌, [], ◌++◌, List, Result, Ok, Err, length, refl, ◌∙◌, arith}
 use Rattle.std.proofs.lemmas.List.{length-map}
 use Rattle.std.proofs.lemmas.List.Elements.{All-map, All-weaker}
 use Rattle.std.specs.Prelude.{All, IfErr, IfOk, map}
@@ -11,7 +11,7 @@ use Rattle.nexus_serve.specs.declared.shares.Unready.{Unready}
 use Rattle.nexus_serve.specs.declared.shares.Unready.TheVariants.{Panel, Door, Memory}
 use Rattle.nexus_serve.specs.Views.{DoorView, PanelView}
 use Rattle.nexus_serve.specs.Services.{SinkView}
-use Rattle.nexus_serve.specs.Hosting.{AreReady, HasReached, HostedView, Hosts, IsDoorShare, IsIdle, IsPanelShare, Plan, unheard, unreached, unready}
+use Rattle.nexus_serve.specs.Hosting.{HasReached, HostedView, Hosts, IsDoorShare, IsIdle, IsPanelShare, Plan, unheard, unreached, unready}
 use Rattle.nexus_serve.specs.Inner.Sharing.{IsMade, door_faults_after, unready_status}
 
 module _ {P X : Type 0} (panel : P → PanelView) (view : X → DoorView) (plan : Plan) (h : Head) (door door_now : DoorView) (asked asked_now : PanelView) (xs : List X) (ps : List P)

@@ -1,5 +1,5 @@
 -- The text of a policy behind the end of a service.
-use Rattle.std.proofs.Common.{◌≡◌, ◌≤◌, ℕ, Bool, true, false, List, [], ◌++◌, codes, refl, sym, ap, ◌∙◌, subst, arith, append_assoc}
+use Rattle.std.proofs.Common.{◌≡◌, ◌≤◌, ℕ, Bool, true, false, List, ◌++◌, codes, refl, sym, ap, ◌∙◌, subst, arith, append_assoc}
 use Rattle.nx_io.specs.Streams.{Rose, Sends, SendsPart, one_more}
 use Rattle.policy_history.specs.declared.heads.Head.{Head}
 use Rattle.policy_history.specs.Events.{EntryTree}

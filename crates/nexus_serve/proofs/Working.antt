@@ -1,12 +1,12 @@
 -- A worker on its way: one session more, and how it stops.
-use Rattle.std.proofs.Common.{◌≡◌, ◌<◌, ◌≤◌, ◌+◌, ℕ, Bool, true, false, List, [], ◌∷◌, ◌++◌, length, refl, sym, ap, ◌∙◌, subst, arith, length-append, append-nil}
+use Rattle.std.proofs.Common.{◌≡◌, ◌<◌, ◌≤◌, ◌+◌, ℕ, Bool, true, List, [], ◌∷◌, length, refl, sym, ap, ◌∙◌, subst, arith, length-append}
 use Rattle.std.proofs.lemmas.List.Elements.{All-append, All-cons, All-tail, All-nil}
 use Rattle.std.specs.Prelude.{All}
 use Rattle.nx_io.specs.Streams.{Rose, one_more}
 use Rattle.nx_io.specs.declared.doors.Next.TheVariants.{Link as NextLink, NoMore as NextNoMore, Failed as NextFailed}
 use Rattle.policy_history.specs.declared.events.Entry.{Entry}
 use Rattle.policy_history.specs.declared.heads.Head.{Head}
-use Rattle.verdict_words.specs.Values.{Identity, PassValue}
+use Rattle.verdict_words.specs.Values.{Identity}
 use Rattle.nexus_serve.specs.Views.{DoorView, LinkView, PanelView, ReportView}
 use Rattle.nexus_serve.specs.Workers.{HasAnswered, Stops, Works, next, nobody, all, no_more, failed}
 use Rattle.nexus_serve.specs.Inner.Working.{AreNumbered, HasServedOne, IsDone, IsHired, IsUnused, IsWorking, WorkerValue}

@@ -1,9 +1,8 @@
 -- The reports of all workers, each pass met once more.
-use Rattle.std.specs.Prelude.{◌≡◌, ℕ, List, [], ◌∷◌, ◌++◌, length, map, flat_map, take}
+use Rattle.std.specs.Prelude.{◌≡◌, List, flat_map}
 use Rattle.policy_history.specs.declared.events.Entry.{Entry}
 use Rattle.policy_history.specs.declared.heads.Head.{Head}
 use Rattle.verdict_words.specs.Histories.{IsPrefix, own}
-use Rattle.verdict_words.specs.Rule.{last_met}
 use Rattle.verdict_words.specs.Settling.{met_of}
 use Rattle.verdict_words.specs.Values.{Identity, PassValue, met_seen}
 use Rattle.policy_book.specs.Books.{session_of}

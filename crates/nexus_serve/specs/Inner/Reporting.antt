@@ -1,14 +1,13 @@
 -- What is handed back behind the workers.
-use Rattle.std.specs.Prelude.{◌≡◌, ◌<◌, ℕ, List, [], ◌++◌, All, Option, Some, None, Bool, true, false, codes, if◌then◌else◌}
+use Rattle.std.specs.Prelude.{◌≡◌, ◌<◌, ℕ, List, [], All, Some, None, Bool, true, false, codes, if◌then◌else◌}
 use Rattle.nx_io.specs.Streams.{Rose, Sends, SendsPart}
 use Rattle.policy_history.specs.PolicyTexts.{ended}
 use Rattle.policy_history.specs.declared.events.Entry.{Entry}
 use Rattle.policy_history.specs.declared.heads.Head.{Head}
-use Rattle.policy_history.specs.Values.{entry_trees}
 use Rattle.verdict_words.specs.Rule.{IsPart}
 use Rattle.verdict_words.specs.Settling.{all_met}
 use Rattle.verdict_words.specs.Steps.{OneList}
-use Rattle.verdict_words.specs.Values.{Identity, PassValue}
+use Rattle.verdict_words.specs.Values.{PassValue}
 use Rattle.verdict_words.specs.Words.{register_word}
 use Rattle.policy_book.specs.Books.{BookValue, IsLegalBook, IsMetIn, IsNumbered, head_of, trees_of}
 use Rattle.nexus_serve.specs.declared.service.ServeEnd.{ServeEnd}

@@ -1,6 +1,5 @@
-use Rattle.std.proofs.Common.{◌≡◌, ◌<◌, ◌∷◌, [], ◌++◌, ◌+◌, ◌*◌, length, map, sym, ◌∙◌, ap, subst, arith, append_assoc, length-append}
+use Rattle.std.proofs.Common.{◌≡◌, ◌<◌, ◌∷◌, [], ◌+◌, length, map, ◌∙◌, ap, subst, arith, append_assoc, length-append}
 use Rattle.std.proofs.lemmas.List.{map-append}
-use Rattle.policy_book.specs.Books.{BookValue}
 use Rattle.nexus_serve.specs.Views.{door_view, link_view}
 use Rattle.nexus_serve.specs.Inner.Serving.{doors_of, panels_of}
 use Rattle.nexus_serve.specs.Inner.Working.{IsHired}

@@ -1,4 +1,4 @@
-use Rattle.std.proofs.Common.{◌≡◌, ◌++◌, [], map, sym, ◌∙◌, ap, inr}
+use Rattle.std.proofs.Common.{◌≡◌, ◌++◌, map, sym, ◌∙◌, ap, inr}
 use Rattle.verdict_words.specs.Settling.{all_met}
 use Rattle.nexus_serve.specs.Views.{link_view, report_view}
 use Rattle.nexus_serve.specs.Inner.Gathering.{joined, raw_joined, rest_view}

@@ -1,4 +1,4 @@
-use Rattle.std.proofs.Common.{◌≡◌, sym, ◌∙◌, ap, subst, arith}
+use Rattle.std.proofs.Common.{◌∙◌, ap, subst, arith}
 use Rattle.nx_io.specs.Streams.{Rose, SendsPart}
 use Rattle.policy_history.specs.Values.{entry_trees}
 use Rattle.policy_book.proofs.ForCallers.{front_of_text}

@@ -1,4 +1,4 @@
-use Rattle.std.proofs.Common.{◌+◌, ◌*◌, length, sym, ◌∙◌, ap}
+use Rattle.std.proofs.Common.{◌+◌, ◌*◌, sym, ◌∙◌, ap}
 use Rattle.nexus_serve.specs.Views.{panel_view}
 use Rattle.nexus_serve.proofs.Numbering.{all_done, done_of_board}
 use Rattle.nexus_serve.proofs.service.serve_hired.Goals as goal

@@ -1,4 +1,3 @@
-use Rattle.std.proofs.Common.{subst, sym}
 use Rattle.nx_io.specs.declared.doors.Next.TheVariants.{Link as NextLink, NoMore as NextNoMore, Failed as NextFailed}
 use Rattle.nexus_serve.specs.Views.{panel_view}
 use Rattle.nexus_serve.proofs.Views.{answered_viewed}
