@@ -5,9 +5,13 @@ pub mod PolicyCuts
 pub mod PolicyEntries
 pub mod PolicyHeads
 pub mod PolicyReading
+pub mod CutTexts
 pub mod OnePolicy
 pub mod PrintedEvents
 pub mod PrintedPolicies
 pub mod PolicyPrinting
 pub mod OneFront
+pub mod OneCut
+pub mod CutPrinted
+pub mod CutAnywhere
 pub mod WordsForCallers

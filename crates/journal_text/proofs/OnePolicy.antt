@@ -147,7 +147,7 @@ read_one here l = let s = ended_same l in (sym s.0, sym s.1)
 read_one (on some f k) here = absurd (nothing_after f)
 read_one (on some f k) (on more g l) = read_one k (retold f g l)
 
-wrong_one : {stage last other : Stage} {text rest left : List ℕ} {n m : ℕ} (a b : Fault) → Leads stage text n last rest → IsFaultAt last rest a → Leads stage text m other left
+pub wrong_one : {stage last other : Stage} {text rest left : List ℕ} {n m : ℕ} (a b : Fault) → Leads stage text n last rest → IsFaultAt last rest a → Leads stage text m other left
     → IsFaultAt other left b → (n ≡ m) × (a ≡ b)
 wrong_one {stage = stage} {text = text} a b here w here v = (refl, fault_one stage text a b w v)
 wrong_one {stage = stage} {text = text} a b here w (on {next = next} some f k) v = absurd (fault_stops stage text a next w some f)

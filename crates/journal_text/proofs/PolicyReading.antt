@@ -1,5 +1,5 @@
 -- How the lines of a policy's text lead from stage to stage.
-use Rattle.std.proofs.Common.{◌≡◌, ◌≢◌, ◌<◌, ◌≤◌, ◌+◌, ◌-◌, ◌^◌, ◌⊎◌, ◌==◌, true, false, inl, inr, ℕ, List, [], ◌∷◌, ◌++◌, length, codes, Some, None, Result, Ok, Err, IfOk, IfErr, refl, sym, ap, ◌∙◌, subst, arith}
+use Rattle.std.proofs.Common.{◌≡◌, ◌≢◌, ◌<◌, ◌≤◌, ◌+◌, ◌-◌, ◌^◌, ◌⊎◌, ◌==◌, Bool, true, false, inl, inr, ℕ, List, [], ◌∷◌, ◌++◌, length, codes, Some, None, Result, Ok, Err, IfOk, IfErr, refl, sym, ap, ◌∙◌, subst, arith}
 use Rattle.std.proofs.lemmas.Bool.Decides.{Decides-eqb}
 use Rattle.std.proofs.lemmas.List.Elements.{All-nil}
 use Rattle.policy_history.specs.declared.heads.Head.{Head}
@@ -10,8 +10,9 @@ use Rattle.policy_history.specs.PolicyLines.{spaced}
 use Rattle.policy_history.specs.Values.{History, entry_trees, greatest_of}
 use Rattle.text_lines.specs.Lines.{after_line, first_line}
 use Rattle.journal_text.specs.PolicyText.{Fault, Follows, IsEntryLine, IsErrorOf, IsFormlessAt, IsRefusedAt, IsWrongFrom, Leads, Stage, authority, end, ended_with, entry, formless, head_of, header, header_due, here, most_bytes, on, open_with, principal, refusal}
+use Rattle.journal_text.specs.CutPolicies.{ReadsOpen}
 use Rattle.journal_text.specs.PolicyFronts.{AreBelow, IsAboveIn, IsFront, IsFrontError, IsWrongIn}
-use Rattle.journal_text.specs.Inner.PolicyReading.{IsErrorFrom, IsHeadError, IsHeadLine, IsHeadRead, IsLineAdded, IsLineRefused, ReadsOn}
+use Rattle.journal_text.specs.Inner.PolicyReading.{IsErrorFrom, IsFirstWrong, IsHeadError, IsHeadLine, IsHeadRead, IsLineAdded, IsLineError, IsLineRefused, IsLineWrong, IsOpenError, IsRead, ReadsOn, reached}
 use Rattle.journal_text.proofs.ForCallers.{above_last, greatest_below}
 use Rattle.journal_text.specs.declared.policy_reader.PolicyError.{PolicyError}
 use Rattle.journal_text.specs.declared.policy_reader.PolicyError.TheVariants.{Bad, Refused, TooLong, Memory}
@@ -47,9 +48,15 @@ formless_header : (text : List ℕ) → ((first_line text ≡ codes "nexus 1") �
 formless_header text bad (inl none) = inl (none, tt)
 formless_header text bad (inr some) = inr (some, λ next f. bad (header_is f), λ r x. x)
 
-pub header_wrong : (text : List ℕ) → ((first_line text ≡ codes "nexus 1") ⊎ (first_line text ≡ codes "nexus 2") → ⊥) → (most : ℕ) → IsWrongIn most header_due text 1 formless
-header_wrong text bad most =
-    record { before = 0; last = header_due; rest = text; number = refl; led = here; unended = tt; below = tt; wrong = formless_header text bad (empty_or text) }
+header_there : (text : List ℕ) → (text ≢ []) ⊎ (text ≡ [])
+header_there [] = inr refl
+header_there (b ∷ bs) = inl (λ e. cc)
+
+pub header_wrong : (text : List ℕ) → ((first_line text ≡ codes "nexus 1") ⊎ (first_line text ≡ codes "nexus 2") → ⊥) → (most : ℕ) → IsFirstWrong most text 1 formless
+header_wrong text bad most = record {
+  wrong = record { before = 0; last = header_due; rest = text; number = refl; led = here; unended = tt; below = tt; wrong = formless_header text bad (empty_or text) };
+  there = header_there text;
+}
 
 header_some : (line : List ℕ) → (line ≡ codes "nexus 1") ⊎ (line ≡ codes "nexus 2") → line ≢ []
 header_some line (inl e) n = cc
@@ -82,17 +89,20 @@ no_refusal : (h : Head) (es : List EntryTree) {line : List ℕ} → IsNoEntry li
 no_refusal h es none r x = none h x.0 x.1
 
 -- a line of a head that may not stand there is wrong
-pub head_line_wrong : {stage : Stage} {text rest : List ℕ} {n : ℕ} {h : Head} → Leads stage text n (open_with h []) rest → IsHeadLine (first_line rest)
-    → ((next : Stage) → Follows (open_with h []) (first_line rest) next → ⊥) → (most : ℕ) → IsWrongIn most stage text (n + 1) formless
+pub head_line_wrong : {text rest : List ℕ} {n : ℕ} {h : Head} → Leads header_due text n (open_with h []) rest → IsHeadLine (first_line rest)
+    → ((next : Stage) → Follows (open_with h []) (first_line rest) next → ⊥) → (most : ℕ) → IsFirstWrong most text (n + 1) formless
 head_line_wrong {rest = rest} {n = n} {h = h} l is bad most = record {
-  before = n;
-  last = open_with h [];
-  rest = rest;
-  number = refl;
-  led = l;
-  unended = tt;
-  below = All-nil (λ (e : EntryTree). e.session ≤ most);
-  wrong = inr (head_text_some rest is, bad, no_refusal h [] (head_line_no_entry (first_line rest) is));
+  wrong = record {
+    before = n;
+    last = open_with h [];
+    rest = rest;
+    number = refl;
+    led = l;
+    unended = tt;
+    below = All-nil (λ (e : EntryTree). e.session ≤ most);
+    wrong = inr (head_text_some rest is, bad, no_refusal h [] (head_line_no_entry (first_line rest) is));
+  };
+  there = inl (head_text_some rest is);
 }
 
 -- ---- The lines after the head
@@ -173,15 +183,19 @@ wrong_early {rest = rest} {n = n} {h = h} {es = es} most l below none =
 
 -- a line that has no form
 pub wrong_line : {stage : Stage} {text rest : List ℕ} {n : ℕ} {h : Head} {es : List EntryTree} (most : ℕ) → Leads stage text n (open_with h es) rest → AreBelow most es → rest ≢ []
-    → ((next : Stage) → Follows (open_with h es) (first_line rest) next → ⊥) → ((e : EntryTree) → IsEntryLine h (first_line rest) e → ⊥) → IsWrongIn most stage text (n + 1) formless
-wrong_line {rest = rest} {n = n} {h = h} {es = es} most l below some bad none =
-    record { before = n; last = open_with h es; rest = rest; number = refl; led = l; unended = tt; below = below; wrong = inr (some, bad, λ r x. none x.0 x.1) }
+    → ((next : Stage) → Follows (open_with h es) (first_line rest) next → ⊥) → ((e : EntryTree) → IsEntryLine h (first_line rest) e → ⊥) → IsLineWrong most stage text (n + 1) formless
+wrong_line {rest = rest} {n = n} {h = h} {es = es} most l below some bad none = record {
+  wrong = record { before = n; last = open_with h es; rest = rest; number = refl; led = l; unended = tt; below = below; wrong = inr (some, bad, λ r x. none x.0 x.1) };
+  there = some;
+}
 
 -- an entry that is refused
 pub wrong_entry : {stage : Stage} {text rest : List ℕ} {n : ℕ} {h : Head} {es : List EntryTree} (most : ℕ) (e : EntryTree) (r : Refusal) → Leads stage text n (open_with h es) rest → AreBelow most es → rest ≢ []
-    → IsEntryLine h (first_line rest) e → refusal_of h (replay h es) e.session e.principal e.event ≡ Some r → IsWrongIn most stage text (n + 1) (refusal r)
-wrong_entry {rest = rest} {n = n} {h = h} {es = es} most e r l below some line refused =
-    record { before = n; last = open_with h es; rest = rest; number = refl; led = l; unended = tt; below = below; wrong = (some, (e, line, refused)) }
+    → IsEntryLine h (first_line rest) e → refusal_of h (replay h es) e.session e.principal e.event ≡ Some r → IsLineWrong most stage text (n + 1) (refusal r)
+wrong_entry {rest = rest} {n = n} {h = h} {es = es} most e r l below some line refused = record {
+  wrong = record { before = n; last = open_with h es; rest = rest; number = refl; led = l; unended = tt; below = below; wrong = (some, (e, line, refused)) };
+  there = some;
+}
 
 -- an entry whose session is above the bound
 pub above_entry : {stage : Stage} {text rest : List ℕ} {n : ℕ} {h : Head} {es new : List EntryTree} (most : ℕ) → Leads stage text n (open_with h es) rest → AreBelow most es → rest ≢ []
@@ -263,11 +277,23 @@ entry_past {es = es} first a none l = not_nothing es a.entry_is (sym a.added ∙
 -- the line `end`
 pub last_read : {stage : Stage} {text rest : List ℕ} {n : ℕ} {h : Head} {es : List EntryTree} (most before line : ℕ) (h' : Head) (left : List ℕ) → h' ≡ h → line ≡ before + n
     → Leads stage text n (open_with h es) rest → AreBelow most es → rest ≢ [] → first_line rest ≡ codes "end" → left ≡ after_line rest
-    → ReadsOn most before stage text h' es (line + 1) left
+    → ReadsOn most before stage text h' es (line + 1) left true
 last_read {stage = stage} {text = text} {rest = rest} {n = n} {h = h} {es = es} most before line h' left hd number l below some is last =
     let f = leads_more l some (end is) in
     let g : Leads stage text (n + 1) (ended_with h' es) (after_line rest) = subst (λ (x : Head). Leads stage text (n + 1) (ended_with x es) (after_line rest)) (sym hd) f in
-    record { n = n + 1; lines_are = omega (arith, number); led = subst (λ t. Leads stage text (n + 1) (ended_with h' es) t) (sym last) g; below = below }
+    record {
+      n = n + 1;
+      lines_are = omega (arith, number);
+      led = subst (λ t. Leads stage text (n + 1) (ended_with h' es) t) (sym last) g;
+      below = below;
+      over = λ e. absurd (cc e);
+    }
+
+-- a text that ends before the policy does
+pub all_read : {stage : Stage} {text rest : List ℕ} {n : ℕ} {h : Head} {es : List EntryTree} (most before line : ℕ) (h' : Head) → h' ≡ h → line ≡ before + n
+    → Leads stage text n (open_with h es) rest → AreBelow most es → rest ≡ [] → ReadsOn most before stage text h' es line rest false
+all_read {stage = stage} {text = text} {rest = rest} {n = n} {es = es} most before line h' hd number l below none =
+    record { n = n; lines_are = number; led = subst (λ (x : Head). Leads stage text n (open_with x es) rest) (sym hd) l; below = below; over = λ e. none }
 
 -- ---- The whole text
 
@@ -293,27 +319,49 @@ above_after most l w =
       above = w.above;
     }
 
--- what a head that was read and the lines after it make together
-pub front_error : (text : List ℕ) {rest : List ℕ} {n : ℕ} {h : Head} (most : ℕ) (e : PolicyError) → IsHeadRead text h rest n → IsErrorFrom most n (open_with h []) rest e → IsFrontError most text e
-front_error text most (Bad k) read (j, e, inl w) = inl (subst (λ m. IsWrongIn most header_due text m formless) (sym e) (wrong_after most read.led w))
-front_error text most (Bad k) read (j, e, inr w) = inr (subst (λ m. IsAboveIn most header_due text m) (sym e) (above_after most read.led w))
-front_error text most (Refused k number) read w =
-    (w.0, w.1, subst (λ m. IsWrongIn most header_due text m (refusal w.0)) (sym w.3) (wrong_after most read.led w.4))
-front_error text most TooLong read w = absurd w
-front_error text most Memory read w = tt
+line_after : {text rest : List ℕ} {n k : ℕ} {h : Head} {fault : Fault} (most : ℕ) → Leads header_due text n (open_with h []) rest → IsLineWrong most (open_with h []) rest k fault
+    → IsFirstWrong most text (n + k) fault
+unfolding wrong_after
+line_after most l w = record { wrong = wrong_after most l w.wrong; there = inl w.there }
 
-pub front_of : {text rest left : List ℕ} {n lines : ℕ} {h g : Head} {es : List EntryTree} (most : ℕ) → IsHeadRead text h rest n → ReadsOn most n (open_with h []) rest g es lines left
-    → IsFront most text g es lines left
-front_of {text = text} {left = left} {g = g} {es = es} most read later =
+-- what a head that was read and the lines after it make together
+pub line_error : (text : List ℕ) {rest : List ℕ} {n : ℕ} {h : Head} (most : ℕ) (e : PolicyError) → IsHeadRead text h rest n → IsErrorFrom most n (open_with h []) rest e → IsLineError most text e
+line_error text most (Bad k) read (j, e, inl w) = inl (subst (λ m. IsFirstWrong most text m formless) (sym e) (line_after most read.led w))
+line_error text most (Bad k) read (j, e, inr w) = inr (subst (λ m. IsAboveIn most header_due text m) (sym e) (above_after most read.led w))
+line_error text most (Refused k number) read w = (w.0, w.1, subst (λ m. IsFirstWrong most text m (refusal w.0)) (sym w.3) (line_after most read.led w.4))
+line_error text most TooLong read w = absurd w
+line_error text most Memory read w = tt
+
+pub read_of : {text rest left : List ℕ} {n lines : ℕ} {h g : Head} {es : List EntryTree} {ended : Bool} (most : ℕ) → IsHeadRead text h rest n
+    → ReadsOn most n (open_with h []) rest g es lines left ended → IsRead most text g es lines left ended
+read_of {text = text} {left = left} {g = g} {es = es} {ended = ended} most read later =
     let l = leads_on read.led later.led in
-    record { led = subst (λ m. Leads header_due text m (ended_with g es) left) (l.1 ∙ sym later.lines_are) l.2; below = later.below }
+    record { led = subst (λ m. Leads header_due text m (reached ended g es) left) (l.1 ∙ sym later.lines_are) l.2; below = later.below; over = later.over }
 
 -- a head that is wrong is wrong whatever the bound
-pub head_error : (text : List ℕ) (most : ℕ) (e : PolicyError) → IsHeadError text e → IsFrontError most text e
+pub head_error : (text : List ℕ) (most : ℕ) (e : PolicyError) → IsHeadError text e → IsLineError most text e
 head_error text most (Bad k) w = inl (w most)
 head_error text most (Refused k number) w = absurd w
 head_error text most TooLong w = absurd w
 head_error text most Memory w = tt
+
+-- ---- A text that is to be ended
+
+pub front_of : {text rest : List ℕ} {lines : ℕ} {h : Head} {es : List EntryTree} {ended : Bool} (most : ℕ) → ended ≡ true → IsRead most text h es lines rest ended → IsFront most text h es lines rest
+front_of {text = text} {rest = rest} {lines = lines} {h = h} {es = es} most is read =
+    record { led = subst (λ b. Leads header_due text lines (reached b h es) rest) is read.led; below = read.below }
+
+pub unended_error : {text rest : List ℕ} {lines : ℕ} {h : Head} {es : List EntryTree} {ended : Bool} (most : ℕ) → ended ≡ false → IsRead most text h es lines rest ended
+    → IsFrontError most text (Bad (lines + 1))
+unended_error {text = text} {rest = rest} {lines = lines} {h = h} {es = es} most is read =
+    inl (wrong_early most (subst (λ b. Leads header_due text lines (reached b h es) rest) is read.led) read.below (read.over is))
+
+pub front_error : (text : List ℕ) (most : ℕ) (e : PolicyError) → IsLineError most text e → IsFrontError most text e
+front_error text most (Bad k) (inl w) = inl w.wrong
+front_error text most (Bad k) (inr w) = inr w
+front_error text most (Refused k number) w = (w.0, w.1, w.2.wrong)
+front_error text most TooLong w = absurd w
+front_error text most Memory w = tt
 
 -- ---- A text that is a policy's as a whole
 
@@ -327,6 +375,28 @@ policy_error text (Bad k) short (inr w) = absurd (omega (arith, w.above, w.line.
 policy_error text (Refused k number) short w = (short, w.0, w.1, wrong_from w.2)
 policy_error text TooLong short w = absurd w
 policy_error text Memory short w = tt
+
+-- ---- A text that may be cut
+
+-- no line is missed behind the last
+pub open_of : {text rest : List ℕ} {lines : ℕ} {h : Head} {es : List EntryTree} (most : ℕ) (ended : Bool) → IsRead most text h es lines rest ended → rest ≡ [] → ReadsOpen text h es
+open_of {text = text} {lines = lines} {h = h} {es = es} most true read none = (lines, inr (subst (λ r. Leads header_due text lines (ended_with h es) r) none read.led))
+open_of {text = text} {lines = lines} {h = h} {es = es} most false read none = (lines, inl (subst (λ r. Leads header_due text lines (open_with h es) r) none read.led))
+
+-- what stands behind the line `end` is wrong
+pub open_behind : {text rest : List ℕ} {lines : ℕ} {h : Head} {es : List EntryTree} (most : ℕ) (ended : Bool) → IsRead most text h es lines rest ended → rest ≢ []
+    → IsOpenError text (Bad (lines + 1))
+unfolding wrong_behind
+open_behind most true read more = record { wrong = wrong_behind read.led more; there = inl more }
+open_behind most false read more = absurd (more (read.over refl))
+
+pub open_error : (text : List ℕ) (e : PolicyError) → IsLineError (2 ^ 64 - 1) text e → IsOpenError text e
+unfolding wrong_from
+open_error text (Bad k) (inl w) = record { wrong = wrong_from w.wrong; there = w.there }
+open_error text (Bad k) (inr w) = absurd (omega (arith, w.above, w.line.session.1))
+open_error text (Refused k number) w = (w.0, w.1, record { wrong = wrong_from w.2.wrong; there = w.2.there })
+open_error text TooLong w = absurd w
+open_error text Memory w = tt
 
 -- ---- Answers that say more
 

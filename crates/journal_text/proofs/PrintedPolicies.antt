@@ -1,8 +1,7 @@
 -- The text of a legal policy is read as it.
-use Rattle.std.proofs.Common.{◌≡◌, ◌*◌, ◌&&◌, nat_le, inr, ◌≢◌, ◌<◌, ◌≤◌, ◌+◌, ◌==◌, ℕ, zero, suc, List, [], ◌∷◌, ◌++◌, length, take, drop, get_or, cond, nat_lt, if◌then◌else◌, Bool, true, false, not, IsTrue, codes, Some, None, option_map, unwrap_or, refl, sym, ap, ◌∙◌, subst, arith, append_assoc, append-nil, length-append, lt-ltb}
+use Rattle.std.proofs.Common.{◌≡◌, ◌*◌, ◌&&◌, nat_le, inr, ◌≢◌, ◌<◌, ◌≤◌, ◌+◌, ℕ, zero, suc, List, [], ◌∷◌, ◌++◌, length, get_or, cond, nat_lt, Bool, true, false, not, codes, Some, None, option_map, unwrap_or, refl, sym, ap, ◌∙◌, subst, arith, append_assoc, append-nil, length-append, lt-ltb}
 use Rattle.std.specs.Fmt.{decimal}
 use Rattle.std.specs.List.{All, AllPairs, flat_map, list_all}
-use Rattle.std.proofs.Math.Seq.{take-append_seam, drop-append-add}
 use Rattle.std.proofs.lemmas.Bool.{and_parts, leb-true}
 use Rattle.std.proofs.lemmas.Fmt.{length-decimal-le}
 use Rattle.std.proofs.lemmas.List.{get_or_append_left, get_or_push}
@@ -21,38 +20,24 @@ use Rattle.policy_history.specs.Heads.{AreAuthorities, ArePrincipals, IsAuthorit
 use Rattle.policy_history.specs.Machine.{IsAccepted, IsLegal, IsLegalFrom, replay}
 use Rattle.policy_history.specs.PolicyLines.{event_text, spaced}
 use Rattle.policy_history.proofs.ForCallers.{lines_bounded, replay_more}
-use Rattle.text_lines.specs.Lines.{after_line, first_line, line_length}
-use Rattle.policy_history.specs.PolicyTexts.{authority_text, ended, line_of, policy_text, principal_text}
-use Rattle.journal_text.specs.PolicyText.{Follows, IsEntryLine, Leads, Stage, authority, end, ended_with, entry, head_of, header, header_due, here, most_bytes, on, open_with, principal}
+use Rattle.text_lines.specs.Lines.{after_line, first_line}
+use Rattle.policy_history.specs.PolicyTexts.{authority_text, ended, front, line_of, policy_text, principal_text}
+use Rattle.journal_text.specs.PolicyText.{Follows, IsEntryLine, Leads, Stage, authority, end, ended_with, entry, head_of, header, header_due, here, on, open_with, principal}
 use Rattle.journal_text.specs.PolicyLaws.{IsInSession, IsKeptEntry, IsKeptHead, IsKeptPrincipal, PrintedIsRead}
+use Rattle.journal_text.proofs.CutTexts.{after_is, first_is}
 use Rattle.journal_text.proofs.PrintedEvents.{event_line, event_read, name_line, number_line, secret_line, three}
 
 -- ---- A line in front of a text
-
-feed_at : (line rest : List ℕ) → IsOneLine line → line_length (line ++ 10 ∷ rest) ≡ length line
-feed_at [] rest one = refl
-feed_at (b ∷ bs) rest one = passing (not (b == 10)) one (feed_at bs rest)
-  where
-    passing : (t : Bool) → IsTrue (t && list_all (λ c. not (c == 10)) bs) → (IsOneLine bs → line_length (bs ++ 10 ∷ rest) ≡ length bs)
-        → (if t then 1 + line_length (bs ++ 10 ∷ rest) else 0) ≡ length (b ∷ bs)
-    passing true later longer = omega (arith, longer later)
-    passing false later longer = cc
-
-first_is : (line rest : List ℕ) → IsOneLine line → first_line (line ++ 10 ∷ rest) ≡ line
-first_is line rest one = ap (λ n. take n (line ++ 10 ∷ rest)) (feed_at line rest one) ∙ take-append_seam line (10 ∷ rest)
-
-after_is : (line rest : List ℕ) → IsOneLine line → after_line (line ++ 10 ∷ rest) ≡ rest
-after_is line rest one = ap (λ n. drop (n + 1) (line ++ 10 ∷ rest)) (feed_at line rest one) ∙ drop-append-add line (10 ∷ rest) 1
 
 some_line : (line rest : List ℕ) → line ++ 10 ∷ rest ≢ []
 some_line [] rest e = cc
 some_line (b ∷ bs) rest e = cc
 
 -- some lines of the text lead on to there
-abbrev Goes : Stage → List ℕ → Stage → Type 0
+abbrev pub Goes : Stage → List ℕ → Stage → Type 0
 Goes stage text last = (n : ℕ) × Leads stage text n last []
 
-line_goes : {stage next last : Stage} (line rest : List ℕ) → IsOneLine line → Follows stage line next → Goes next rest last → Goes stage (ended line ++ rest) last
+pub line_goes : {stage next last : Stage} (line rest : List ℕ) → IsOneLine line → Follows stage line next → Goes next rest last → Goes stage (ended line ++ rest) last
 line_goes {stage = stage} {next = next} {last = last} line rest one f g =
     let here_is : Follows stage (first_line (line ++ 10 ∷ rest)) next = subst (λ l. Follows stage l next) (sym (first_is line rest one)) f in
     let there : Leads next (after_line (line ++ 10 ∷ rest)) g.0 last [] = subst (λ t. Leads next t g.0 last []) (sym (after_is line rest one)) g.1 in
@@ -165,7 +150,7 @@ number_is ps p within apart =
     ap (λ n. cond (nat_lt n (length ps)) (Some n) None) first ∙ ap (λ b. cond b (Some p) None) (lt-ltb p (length ps) within)
 
 -- the line of an entry, without its line feed
-abbrev entry_text : Head → EntryTree → List ℕ
+abbrev pub entry_text : Head → EntryTree → List ℕ
 entry_text h e = spaced (decimal e.session) (spaced (name_of h.principals e.principal) (event_text e.event))
 
 module _ (h : Head) (kept : IsKeptHead h) where
@@ -190,13 +175,15 @@ module _ (h : Head) (kept : IsKeptHead h) where
     event = event_read h (replay h front) e.session e.principal e.event fine.0.event fine.2.1;
   }
 
+  -- the line of an entry that is accepted has no line feed in it
+  pub entry_line_one : (front : List EntryTree) (e : EntryTree) → IsKeptEntry e → IsAccepted h (replay h front) e → IsOneLine (entry_text h e)
+  entry_line_one front e fine accepted =
+      three (decimal e.session) (codes " ") (spaced (name_of h.principals e.principal) (event_text e.event)) (number_line e.session fine.session) refl
+      (three (name_of h.principals e.principal) (codes " ") (event_text e.event) (name_line (name_of h.principals e.principal) (named e.principal accepted.0)) refl
+      (event_line h (replay h front) e.session e.principal e.event fine.event accepted.1))
+
   entry_follows : (front : List EntryTree) (e : EntryTree) → IsFineEntry front e → IsOneLine (entry_text h e) × Follows (open_with h front) (entry_text h e) (open_with h (front ++ e ∷ []))
-  entry_follows front e fine = (
-    three (decimal e.session) (codes " ") (spaced (name_of h.principals e.principal) (event_text e.event)) (number_line e.session fine.0.session) refl
-        (three (name_of h.principals e.principal) (codes " ") (event_text e.event) (name_line (name_of h.principals e.principal) (named e.principal fine.2.0)) refl
-        (event_line h (replay h front) e.session e.principal e.event fine.0.event fine.2.1)),
-    entry e (entry_is front e fine) fine.2,
-  )
+  entry_follows front e fine = (entry_line_one front e fine.0 fine.2, entry e (entry_is front e fine) fine.2)
 
   entries_go : (front es : List EntryTree) (text : List ℕ) (last : Stage) → All IsKeptEntry es → All IsInSession es → IsLegalFrom h (replay h front) es → Goes (open_with h (front ++ es)) text last
       → Goes (open_with h front) (flat_map (λ (e : EntryTree). ended (entry_text h e)) es ++ text) last
@@ -237,8 +224,9 @@ authority_most a is =
     let s = secret_short a.address is.1 in
     omega (arith, n, s, length-append (authority_text a) (10 ∷ []), length-append (codes "authority ") (spaced (decimal a.port) a.address), length-append (decimal a.port ++ codes " ") a.address, length-append (decimal a.port) (codes " "))
 
-policy_short : (h : Head) (es : List EntryTree) → IsKeptHead h → IsLegal h es → length (policy_text h es) ≤ most_bytes
-policy_short h es kept legal =
+-- the text of a policy, twice as long as which one may be that is read
+pub policy_bounded : (h : Head) (es : List EntryTree) → IsKeptHead h → IsLegal h es → length (policy_text h es) ≤ 33565644
+policy_bounded h es kept legal =
     let ps = flat_map (λ (p : Principal). ended (principal_text p)) h.principals in
     let xs = flat_map (λ (a : Authority). ended (authority_text a)) h.authorities in
     let lines = flat_map (line_of h) es in
@@ -260,19 +248,24 @@ policy_short h es kept legal =
 
 -- ---- The law
 
-pub printed_is_read : PrintedIsRead
-printed_is_read h es kept each told legal =
-    let last = ended_with h es in
+-- the text of a policy without its last line leads on to what follows it
+pub front_goes : (h : Head) (es : List EntryTree) (text : List ℕ) (last : Stage) → IsKeptHead h → All IsKeptEntry es → All IsInSession es → IsLegal h es → Goes (open_with h es) text last
+    → Goes header_due (front h es ++ text) last
+front_goes h es text last kept each told legal g =
     let start = ended (codes "nexus 2") in
-    let close = ended (codes "end") in
     let ps = flat_map (λ (p : Principal). ended (principal_text p)) h.principals in
     let xs = flat_map (λ (a : Authority). ended (authority_text a)) h.authorities in
     let lines = flat_map (line_of h) es in
-    let split : policy_text h es ≡ start ++ (ps ++ (xs ++ (lines ++ close))) =
-    append_assoc (start ++ ps ++ xs) lines close ∙ append_assoc (start ++ ps) xs (lines ++ close) ∙ append_assoc start ps (xs ++ (lines ++ close)) in
-    let closes : Goes (open_with h es) close last = line_goes (codes "end") [] refl (end refl) (0, here) in
-    let entries = entries_go h kept [] es close last each told legal closes in
-    let authorities = authorities_go h.principals [] h.authorities (lines ++ close) last kept.authorities entries in
-    let principals = principals_go [] h.principals (xs ++ (lines ++ close)) last kept.each kept.principals authorities in
-    let goes : Goes header_due (start ++ (ps ++ (xs ++ (lines ++ close)))) last = line_goes (codes "nexus 2") (ps ++ (xs ++ (lines ++ close))) refl (header (inr refl)) principals in
-    (policy_short h es kept legal, goes.0, subst (λ t. Leads header_due t goes.0 last []) (sym split) goes.1)
+    let split : front h es ++ text ≡ start ++ (ps ++ (xs ++ (lines ++ text))) =
+    append_assoc (start ++ ps ++ xs) lines text ∙ append_assoc (start ++ ps) xs (lines ++ text) ∙ append_assoc start ps (xs ++ (lines ++ text)) in
+    let entries = entries_go h kept [] es text last each told legal g in
+    let authorities = authorities_go h.principals [] h.authorities (lines ++ text) last kept.authorities entries in
+    let principals = principals_go [] h.principals (xs ++ (lines ++ text)) last kept.each kept.principals authorities in
+    let goes : Goes header_due (start ++ (ps ++ (xs ++ (lines ++ text)))) last = line_goes (codes "nexus 2") (ps ++ (xs ++ (lines ++ text))) refl (header (inr refl)) principals in
+    (goes.0, subst (λ t. Leads header_due t goes.0 last []) (sym split) goes.1)
+
+pub printed_is_read : PrintedIsRead
+printed_is_read h es kept each told legal =
+    let short = policy_bounded h es kept legal in
+    let goes = front_goes h es (ended (codes "end")) (ended_with h es) kept each told legal (line_goes (codes "end") [] refl (end refl) (0, here)) in
+    (omega (arith, short), goes.0, goes.1)

@@ -5,4 +5,6 @@ pub mod RequestLines
 pub mod PolicyFronts
 pub mod PolicyText
 pub mod PolicyLaws
+pub mod CutPolicies
+pub mod CutLaws
 pub mod Inner

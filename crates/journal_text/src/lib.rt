@@ -1,6 +1,9 @@
 //! The policy as a person writes and reads it: request lines, reply lines, and the policy text.
 #![tactic(auto)]
 
+mod cut_reader;
+#[cfg(test)]
+mod cut_tests;
 mod events;
 #[cfg(test)]
 mod line_tests;
@@ -17,8 +20,12 @@ mod policy_words;
 mod replies;
 mod request_lines;
 
+pub use cut_reader::read_cut;
 pub use events::event_of;
-pub use policy_laws::{printed_policies_are_read_again, texts_tell_one_policy};
+pub use policy_laws::{
+    cut_policies_are_recovered, cut_texts_tell_one_policy, printed_policies_are_read_again,
+    texts_tell_one_policy, whole_policies_are_recovered,
+};
 pub use policy_printer::{policy_line, print_policy};
 pub use policy_reader::{PolicyError, PolicyFront, read_front, read_policy, refusal_number};
 pub use policy_words::split_word;

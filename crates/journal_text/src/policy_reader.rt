@@ -7,7 +7,7 @@ ghost use Rattle.policy_history.specs.declared.heads.Head.{Head};
 ghost use Rattle.text_lines.specs.Lines.{first_line};
 ghost use Rattle.journal_text.specs.PolicyFronts.{IsFront, IsFrontError};
 ghost use Rattle.journal_text.specs.PolicyText.{IsErrorOf, ReadsAs, most_bytes, open_with};
-ghost use Rattle.journal_text.specs.Inner.PolicyReading.{IsErrorFrom, IsHeadLine, ReadsOn};
+ghost use Rattle.journal_text.specs.Inner.PolicyReading.{IsErrorFrom, IsHeadLine, IsLineError, IsRead, ReadsOn};
 
 use crate::policy_entries::{LineFault, add_entry};
 use crate::policy_heads::read_head;
@@ -16,7 +16,7 @@ use std::alloc::{AllocError, Global};
 use text_lines::first_line;
 
 /// How many bytes the text of a policy may have.
-const MOST_BYTES: usize = 67_108_864;
+pub const MOST_BYTES: usize = 67_108_864;
 
 /// Why the text of a policy was not read: where it is wrong in several lines, the lowest is told.
 /// `docs/FORMATS.md`, "Policy text", says which comes.
@@ -41,6 +41,19 @@ pub struct PolicyFront<'a> {
     pub rest: &'a [u8],
     /// How many lines it has.
     pub lines: u64,
+}
+
+/// The lines of a policy that were read: up to its line `end`, or to the end of a text that has none.
+#[derive(Drop)]
+pub struct PolicyLines<'a> {
+    /// The policy as far as it was read.
+    pub journal: Journal,
+    /// What follows these lines; nothing where the policy was not ended.
+    pub rest: &'a [u8],
+    /// How many lines were read.
+    pub lines: u64,
+    /// Whether the last of them is the line `end`.
+    pub ended: bool,
 }
 
 /// Reads the text of a policy. Ok exactly where the text is that of a journal; none is that of two. `TooLong` exactly where
@@ -105,6 +118,40 @@ fn read_to_end(alloc: Global, text: &[u8], most_session: u64) -> Result<PolicyFr
     ensures fewer { IfOk result (λ front. front.lines + length front.rest.now ≤ length text.now) }
     ensures err { IfErr result (IsFrontError most_session text.now) }
 {
+    match read_through(alloc, text, most_session) {
+        Ok(
+            PolicyLines {
+                journal,
+                rest,
+                lines,
+                ended,
+            },
+        ) => {
+            if ended {
+                Ok(PolicyFront {
+                    journal,
+                    rest,
+                    lines,
+                })
+            } else {
+                Err(PolicyError::Bad { line: lines + 1 })
+            }
+        }
+        Err(error) => Err(error),
+    }
+}
+
+/// Reads the head, and the lines up to the end of the policy, or of a text that ends before it does.
+pub fn read_through(
+    alloc: Global,
+    text: &[u8],
+    most_session: u64,
+) -> Result<PolicyLines, PolicyError>
+    requires { length text.now ≤ most_bytes }
+    ensures ok { IfOk result (λ read. IsRead most_session text.now read.journal.head (entry_trees read.journal.entries) read.lines read.rest.now read.ended) }
+    ensures fewer { IfOk result (λ read. read.lines + length read.rest.now ≤ length text.now) }
+    ensures err { IfErr result (IsLineError most_session text.now) }
+{
     let (head, rest, lines) = match read_head(alloc, text) {
         Ok(read) => read,
         Err(error) => return Err(error),
@@ -112,18 +159,18 @@ fn read_to_end(alloc: Global, text: &[u8], most_session: u64) -> Result<PolicyFr
     read_journal(alloc, head, rest, lines, most_session)
 }
 
-/// Reads the lines after this head, up to the end of the policy, into a journal. So many lines were read before.
+/// Reads the lines after this head, up to the end of the policy or of the text, into a journal. So many lines were read before.
 fn read_journal(
     alloc: Global,
     head: Head,
     text: &[u8],
     before: u64,
     most_session: u64,
-) -> Result<PolicyFront, PolicyError>
+) -> Result<PolicyLines, PolicyError>
     requires room { before + length text.now ≤ 2 ^ 32 }
     requires past { ¬ IsHeadLine (first_line text.now) }
-    ensures ok { IfOk result (λ front. ReadsOn most_session before (open_with head []) text.now front.journal.head (entry_trees front.journal.entries) front.lines front.rest.now) }
-    ensures fewer { IfOk result (λ front. front.lines + length front.rest.now ≤ before + length text.now) }
+    ensures ok { IfOk result (λ read. ReadsOn most_session before (open_with head []) text.now read.journal.head (entry_trees read.journal.entries) read.lines read.rest.now read.ended) }
+    ensures fewer { IfOk result (λ read. read.lines + length read.rest.now ≤ before + length text.now) }
     ensures err { IfErr result (IsErrorFrom most_session before (open_with head []) text.now) }
 {
     let mut journal = match Journal::new(alloc, head) {
@@ -131,41 +178,39 @@ fn read_journal(
         Err(AllocError) => return Err(PolicyError::Memory),
     };
     match read_entries(alloc, &mut journal, text, before, most_session) {
-        Ok((rest, lines)) => Ok(PolicyFront {
+        Ok((rest, lines, ended)) => Ok(PolicyLines {
             journal,
             rest,
             lines,
+            ended,
         }),
         Err(error) => Err(error),
     }
 }
 
-/// Reads the lines after the head, up to the end of the policy, into the journal, which has no entries. So many lines were
-/// read before. What follows the end, and how many lines were read up to it.
+/// Reads the lines after the head, up to the end of the policy or of the text, into the journal, which has no entries. So many
+/// lines were read before. What follows the end, how many lines were read up to it, and whether the policy was ended.
 fn read_entries<'a>(
     alloc: Global,
     journal: &mut Journal,
     text: &'a [u8],
     before: u64,
     most_session: u64,
-) -> Result<(&'a [u8], u64), PolicyError>
+) -> Result<(&'a [u8], u64, bool), PolicyError>
     requires room { before + length text.now ≤ 2 ^ 32 }
     requires empty { journal.old.entries ≡ [] }
     requires past { ¬ IsHeadLine (first_line text.now) }
-    ensures ok { IfOk result (λ read. ReadsOn most_session before (open_with journal.old.head []) text.now journal.new.head (entry_trees journal.new.entries) read.1 read.0.now) }
+    ensures ok { IfOk result (λ read. ReadsOn most_session before (open_with journal.old.head []) text.now journal.new.head (entry_trees journal.new.entries) read.1 read.0.now read.2) }
     ensures fewer { IfOk result (λ read. read.1 + length read.0.now ≤ before + length text.now) }
     ensures err { IfErr result (IsErrorFrom most_session before (open_with journal.old.head []) text.now) }
 {
     let mut rest = text;
     let mut line = before;
-    loop {
+    while !rest.is_empty() {
         line += 1;
-        if rest.is_empty() {
-            return Err(PolicyError::Bad { line });
-        }
         let (entry, after) = first_line(rest);
         if is_end(entry) {
-            return Ok((after, line));
+            return Ok((after, line, true));
         }
         match add_entry(alloc, journal, entry) {
             Ok(()) => {}
@@ -183,10 +228,11 @@ fn read_entries<'a>(
         }
         rest = after;
     }
+    Ok((rest, line, false))
 }
 
 /// Whether the line is the last of a policy's text.
-fn is_end(line: &[u8]) -> bool
+pub fn is_end(line: &[u8]) -> bool
     ensures { IsTrue result ↔ (line.now ≡ codes "end") }
 {
     line == "end".as_bytes()

@@ -4,9 +4,9 @@ use nx_io::Bytes;
 use policy_history::Journal;
 use std::alloc::{AllocError, Global};
 
-// What a text comes to: it is read and written as this text, or this is told of it.
+/// What a text comes to: it is read and written as this text, or this is told of it.
 #[derive(Clone, Copy)]
-enum Read<'a> {
+pub enum Read<'a> {
     As(&'a str),
     Bad(u64),
     Refused(u64, u64),
@@ -25,7 +25,12 @@ fn first_wrong(alloc: Global, cases: &[(&str, Read)]) -> Result<Option<usize>, A
 }
 
 fn comes_to(alloc: Global, text: &[u8], due: Read) -> Result<bool, AllocError> {
-    match (written_again(alloc, text), due) {
+    is_due(written_again(alloc, text), due)
+}
+
+/// Whether this is what was due.
+pub fn is_due(written: Result<Bytes, PolicyError>, due: Read) -> Result<bool, AllocError> {
+    match (written, due) {
         (Ok(written), Read::As(due)) => Ok(written.as_slice() == due.as_bytes()),
         (Err(PolicyError::Bad { line }), Read::Bad(due)) => Ok(line == due),
         (Err(PolicyError::Refused { line, number }), Read::Refused(at, due)) => {
@@ -42,7 +47,8 @@ fn written_again(alloc: Global, text: &[u8]) -> Result<Bytes, PolicyError> {
     written(alloc, &journal)
 }
 
-fn written(alloc: Global, journal: &Journal) -> Result<Bytes, PolicyError> {
+/// The text of a journal.
+pub fn written(alloc: Global, journal: &Journal) -> Result<Bytes, PolicyError> {
     match print_policy(alloc, journal) {
         Ok(text) => Ok(text),
         Err(AllocError) => Err(PolicyError::Memory),

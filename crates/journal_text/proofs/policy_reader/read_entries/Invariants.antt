@@ -6,8 +6,8 @@ use Rattle.journal_text.specs.PolicyText.{Leads, open_with}
 use Rattle.journal_text.proofs.PolicyReading.{IsPast}
 use Rattle.journal_text.proofs.policy_reader.read_entries.Given as goal
 
-abbrev pub invariant-loop-rest : goal.invariant-loop-rest
-invariant-loop-rest l = record {
+abbrev pub invariant-loop-alloc : goal.invariant-loop-alloc
+invariant-loop-alloc l = record {
   head : l.journal.head ≡ l.fn.journal.head;
   led : (n : ℕ) × (l.line ≡ l.before + n) × Leads (open_with l.fn.journal.head []) l.text n (open_with l.fn.journal.head (entry_trees l.journal.entries)) l.rest;
   below : AreBelow l.most_session (entry_trees l.journal.entries);
@@ -15,5 +15,5 @@ invariant-loop-rest l = record {
   fewer : l.line + length l.rest ≤ l.before + length l.text;
 }
 
-abbrev pub decreases-loop-rest : goal.decreases-loop-rest
-decreases-loop-rest l = length l.rest
+abbrev pub decreases-loop-alloc : goal.decreases-loop-alloc
+decreases-loop-alloc l = length l.rest
