@@ -1,0 +1,4 @@
+pub mod LineFrames
+pub mod Talks
+pub mod TalkLaws
+pub mod Inner

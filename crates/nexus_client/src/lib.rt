@@ -1,0 +1,14 @@
+//! The client of a service: request lines to frames, and one talk over a link.
+#![tactic(auto)]
+
+mod ends;
+mod laws;
+mod line_frames;
+mod requests;
+mod talks;
+
+pub use ends::{Talk, TalkEnd};
+pub use laws::{bytes_spell_replies_in_one_way, talks_keep_their_order};
+pub use line_frames::request_of_line;
+pub use requests::{Requests, RequestsError, read_requests};
+pub use talks::talk;
