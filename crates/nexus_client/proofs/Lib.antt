@@ -2,3 +2,4 @@ pub mod Lengths
 pub mod Reading
 pub mod Talking
 pub mod TalkLaws
+pub mod ForCallers
