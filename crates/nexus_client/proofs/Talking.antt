@@ -2,7 +2,8 @@
 use Rattle.std.proofs.Common.{◌≡◌, ◌<◌, ℕ, List, [], ◌∷◌, ◌++◌, suc, ◌+◌, length, take, drop, get_or, Bool, false, Some, None, refl, sym, ap, ◌∙◌, subst, append_assoc, add-one, drop-cons, arith}
 use Rattle.std.specs.declared.option.Option.{Option}
 use Rattle.std.proofs.lemmas.List.{append-nil}
-use Rattle.nx_io.specs.Streams.{Sends, SendsPart}
+use Rattle.nx_io.specs.Streams.{Sends, SendsPart, gained}
+use Rattle.nx_io.proofs.ForCallers.{gained-by}
 use Rattle.session_wire.specs.declared.replies.Reply.{Reply}
 use Rattle.session_wire.specs.Answers.{over_after_taking}
 use Rattle.session_wire.specs.Frames.{IsReplyFrameOf, reply_frame}
@@ -168,3 +169,10 @@ talking_done requests sent s1 taken t1 written w1 over so o = record {
 pub next_request : (requests : List (List ℕ)) (i : ℕ) (request : List ℕ) → i < length requests → request ≡ get_or requests i request → drop i requests ≡ request ∷ drop (i + 1) requests
 next_request requests i request below e =
     rw (add-one i) (drop-cons requests i request below ∙ ap (λ (x : List ℕ). x ∷ drop (suc i) requests) (sym e))
+
+-- what passed in a talk over a fresh link, which is closed then
+pub talks_told : (e : TalkEnd) (requests : List (List ℕ)) (sent s1 s2 taken t1 t2 written w1 : List ℕ) (over o2 : Bool) → TalksMore e requests sent s1 taken t1 written w1 over → sent ≡ [] → taken ≡ []
+    → s2 ≡ s1 → t2 ≡ t1 → o2 ≡ over → Talks requests s2 t2 (gained written w1) o2 e
+talks_told e requests sent s1 s2 taken t1 t2 written w1 over o2 m s t a b c =
+    same_talk requests m.sent_more m.taken_more m.written_more s2 t2 (gained written w1) over o2 e (a ∙ m.sent_is ∙ ap (λ (xs : List ℕ). xs ++ m.sent_more) s)
+    (b ∙ m.taken_is ∙ ap (λ (xs : List ℕ). xs ++ m.taken_more) t) (gained-by written w1 m.written_more m.written_is) c m.talks

@@ -46,3 +46,10 @@ link_faults_after _ faults = faults
 abbrev pub sink_faults_after : TalkEnd → ℕ → ℕ
 sink_faults_after end.Unwritten faults = one_more faults
 sink_faults_after _ faults = faults
+
+-- ends that no failure makes
+abbrev pub IsUnbroken : TalkEnd → Type 0
+IsUnbroken end.Done = Unit {0}
+IsUnbroken end.Ended = Unit {0}
+IsUnbroken end.Memory = Unit {0}
+IsUnbroken _ = ⊥

@@ -3,11 +3,13 @@ ghost use Rattle.std.specs.Prelude.{◌≡◌, ◌≢◌, ◌↔◌, ◌≤◌, 
 ghost use Rattle.std.specs.Io.KnownBytes.{IsAtEnd};
 ghost use Rattle.nx_io.specs.Doors.{KeepsLinks};
 ghost use Rattle.nx_io.specs.Links.{KeepsOrigin};
-ghost use Rattle.nx_io.specs.Streams.{Grows, MayRise, gained};
-ghost use Rattle.nexus_client.specs.Talks.{Talks, door_faults_after, link_faults_after, sink_faults_after, written_line};
+ghost use Rattle.nx_io.specs.Streams.{Grows, MayRise, Rose, gained};
+ghost use Rattle.nexus_client.specs.TalkLaws.{IsInOrder};
+ghost use Rattle.nexus_client.specs.Talks.{IsUnbroken, Talks, door_faults_after, link_faults_after, sink_faults_after, written_line};
 ghost use Rattle.nexus_client.specs.Inner.Talking.{Exchanges, IsWritten, TalksMore, link_faults_so_far, sink_faults_so_far};
 
 use crate::ends::{Talk, TalkEnd};
+use crate::laws::talks_keep_their_order;
 use crate::requests::Requests;
 use journal_text::reply_line;
 use nx_io::{Bytes, Dial, Door, Link, Reach, Sink, send_all, send_whole};
@@ -37,11 +39,14 @@ where
     ensures unreached { (result.dialed ≡ None) ↔ (result.end ≡ TalkEnd.Unreached) }
     ensures unheard { result.dialed ≡ None → K.sent output.new ≡ K.sent output.old }
     ensures talks { IfSome result.dialed (λ link. Talks requests.now (D.Link.sent link) (D.Link.taken link) (gained (K.sent output.old) (K.sent output.new)) (D.Link.over link) result.end) }
+    ensures in_order { IfSome result.dialed (λ link. IsInOrder requests.now (D.Link.sent link) (D.Link.taken link) (gained (K.sent output.old) (K.sent output.new)) (D.Link.over link) result.end) }
     ensures ended { IfSome result.dialed (λ link. D.Link.over link ≡ true → IsAtEnd (D.Link.left link)) }
     ensures closed { IfSome result.dialed (λ link. D.Link.closed link ≡ true) }
     ensures toward { IfSome result.dialed (λ link. D.Link.toward link ≡ Some address.now) }
     ensures place { IfSome result.dialed (λ link. D.Link.place link ≡ 0) }
     ensures link_count { IfSome result.dialed (λ link. MayRise (link_faults_after result.end 0) (D.Link.faults link)) }
+    ensures complete { ¬ Rose (D.faults door.old) (D.faults door.new) → ¬ Rose (K.faults output.old) (K.faults output.new)
+        → IfSome result.dialed (λ link. ¬ Rose 0 (D.Link.faults link)) → IsUnbroken result.end }
     ensures grows { Grows (K.sent output.old) (K.sent output.new) }
     ensures output_later { K.faults output.old ≤ K.faults output.new }
     ensures output_count { K.faults output.new ≡ sink_faults_after result.end (K.faults output.old) }
@@ -55,6 +60,8 @@ where
             let mut link = link;
             let end = exchange_all(alloc, requests.as_slice(), &mut link, output);
             link.close();
+            // For the contract alone: what every talk keeps, this one does.
+            talks_keep_their_order();
             Talk {
                 dialed: Some(link),
                 end,

@@ -176,7 +176,10 @@ fn talks_end_where_their_requests_and_replies_do(rt: HostRuntime) -> Result<(), 
             assert_eq!(rt; play_over(&rt, rt.alloc(), &play, &devices)?, wanted);
         }
     }
-    // The door fails.
+    // The link ends within the first reply; the door fails.
+    let devices = Devices { cut: 3, ..sound() };
+    let wanted = ends(TalkEnd::Ended, 14, 0, 0);
+    assert_eq!(rt; play_over(&rt, rt.alloc(), &GREETING, &devices)?, wanted);
     let devices = Devices {
         dial_fails: &[1],
         ..sound()
