@@ -1,124 +1,39 @@
 #!/usr/bin/env python3
-"""A client of `nexus serve`. What is sent and read is stated in docs/FORMATS.md, "Request lines", "Reply lines" and "Frames".
+"""A client of `nexus serve` whose requests are lines, over the module clients/python/nexus_client.py.
 
     examples/serve/client.py ADDRESS < REQUEST-LINES
 
 connects to ADDRESS, as 127.0.0.1:4000, sends each request line as a frame, and prints the line of its reply before the next is sent.
-It ends with 1 where the service ends the connection before a reply is whole.
+It ends with 1 where the service ends the connection before a reply is whole, or a line is no request line. docs/FORMATS.md states
+the lines and frames.
 """
 from __future__ import annotations
 
 import socket
-import struct
 import sys
-import time
+from pathlib import Path
 from types import TracebackType
 
-# A reply: its word, and its numbers.
-Reply = tuple[str, tuple[int, ...]]
+sys.path.insert(0, str(Path(__file__).resolve().parents[2] / "clients" / "python"))
 
-# The kind of a request's frame, and its fields in the order of its line: w a text of one word, n a number, and t a text that
-# stands behind ` : ` and goes to the end of the line.
-REQUESTS: dict[str, tuple[int, str]] = {
-    "hello": (1, "ww"),
-    "say": (2, "wt"),
-    "transfer": (3, "nw"),
-    "delete": (4, "n"),
-    "object": (5, "w"),
-    "goal": (6, "wwt"),
-    "nogoal": (7, "ww"),
-    "proof": (8, "wwt"),
-    "noproof": (9, "ww"),
-    "bind": (10, "wn"),
-    "unbind": (11, "w"),
-    "call": (12, "wwn"),
-}
+import nexus_client
+from nexus_client import Ended, Reply, encode, frame, line_of, request_of_line
 
-# The kinds of replies, with the number of their numbers.
-REPLIES: dict[int, tuple[str, int]] = {
-    65: ("welcome", 2),
-    66: ("done", 2),
-    67: ("allowed", 3),
-    68: ("denied", 4),
-    69: ("refused", 2),
-    70: ("down", 2),
-    71: ("nomemory", 0),
-    72: ("bad", 1),
-}
-
-# The names of causes, faults and refusals, by their numbers from 1 on.
-CAUSES = "GoalUnset NoProof Line LabelMissing NotBound AuthorityNo".split()
-FAULTS = (
-    "NoSuchRef NotHyp WrongShape Capture NotFresh OutOfScope NotTrue TooManyAsks NotAsk NotClosed StillOpen NotGoal"
-).split()
-REFUSALS = (
-    "NotOpen AlreadyOpen BadSecret NoSuchPrincipal NotYourPrincipal NoSuchLabel NotHolder NoSuchObject NameTaken NotOwner"
-    " NoGoal NoSuchProof NoBinding BadPort BadFormula BadProof Quota ObjectsFull CasesFull NotRecorded"
-).split()
-
-
-class Ended(Exception):
-    """The service ended the connection before a reply was whole."""
-
-
-def frame(kind: int, *fields: str | int) -> bytes:
-    """The frame of this kind with these fields: a text for each str, a number for each int."""
-    payload = bytes([kind])
-    for field in fields:
-        if isinstance(field, int):
-            payload += struct.pack(">Q", field)
-        else:
-            text = field.encode()
-            payload += struct.pack(">H", len(text)) + text
-    return struct.pack(">I", len(payload)) + payload
+__all__ = ["Client", "Ended", "frame", "frame_of_line", "line_of"]
 
 
 def frame_of_line(line: str) -> bytes:
     """The frame of a request line."""
-    word, _, rest = line.partition(" ")
-    kind, form = REQUESTS[word]
-    fields: list[str | int] = []
-    for part in form:
-        if part == "t":
-            text, rest = rest.removeprefix(": "), ""
-        else:
-            text, _, rest = rest.partition(" ")
-        fields.append(int(text) if part == "n" else text)
-    return frame(kind, *fields)
-
-
-def named(names: list[str], number: int) -> str:
-    """The name with this number, or the number where it names nothing."""
-    return names[number - 1] if 1 <= number <= len(names) else str(number)
-
-
-def line_of(reply: Reply) -> str:
-    """The line of a reply."""
-    word, numbers = reply
-    words = [str(number) for number in numbers]
-    if word == "refused":
-        words[1] = named(REFUSALS, numbers[1])
-    if word == "denied":
-        _, cause, line, fault = numbers
-        words = words[:1] + [named(CAUSES, cause)] + [str(line)] * (line > 0) + [named(FAULTS, fault)] * (fault > 0)
-    return " ".join([word] + words)
+    return encode(request_of_line(line))
 
 
 class Client:
-    """A session of `nexus serve`."""
+    """A session of `nexus serve`. A fault of the system is raised as the system's own error, and any other end as `Ended`."""
 
     def __init__(self, address: str, patience: float = 0.0) -> None:
         """Connects; where nobody listens, it tries again for so many seconds."""
-        host, _, port = address.rpartition(":")
-        end = time.monotonic() + patience
-        while True:
-            try:
-                self.socket = socket.create_connection((host, int(port)), timeout=30)
-                return
-            except ConnectionRefusedError:
-                if time.monotonic() > end:
-                    raise
-                time.sleep(0.01)
+        self.client = nexus_client.connect(address, timeout=30, patience=patience)
+        self.socket: socket.socket = self.client.socket
 
     def __enter__(self) -> "Client":
         return self
@@ -127,32 +42,26 @@ class Client:
         self.close()
 
     def close(self) -> None:
-        self.socket.close()
+        self.client.close()
 
     def send(self, data: bytes) -> None:
         """Sends bytes, which need not be a frame."""
-        self.socket.sendall(data)
+        try:
+            self.client.send_bytes(data)
+        except Ended as end:
+            raise end.__cause__ or end
 
     def read(self) -> Reply:
         """The next reply."""
-        payload = self.take(struct.unpack(">I", self.take(4))[0])
-        word, count = REPLIES[payload[0]]
-        return word, struct.unpack(f">{count}Q", payload[1:])
+        try:
+            return self.client.receive()
+        except Ended as end:
+            raise end.__cause__ or end
 
     def ask(self, line: str) -> str:
         """Sends a request line as a frame. The line of its reply."""
         self.send(frame_of_line(line))
         return line_of(self.read())
-
-    def take(self, count: int) -> bytes:
-        """So many bytes."""
-        data = b""
-        while len(data) < count:
-            piece = self.socket.recv(count - len(data))
-            if not piece:
-                raise Ended
-            data += piece
-        return data
 
 
 def main() -> int:
@@ -162,6 +71,9 @@ def main() -> int:
                 print(client.ask(line.rstrip("\n")), flush=True)
             except (Ended, ConnectionError):
                 print("the service has ended the connection", file=sys.stderr)
+                return 1
+            except ValueError as error:
+                print(f"no request: {error}", file=sys.stderr)
                 return 1
     return 0
 

@@ -1,0 +1,401 @@
+#!/usr/bin/env python3
+"""Tests of nexus_client.
+
+    clients/python/test_nexus_client.py [PROGRAM]
+
+Without PROGRAM, frames, lines and ends are tested, over pairs of sockets. With it, the client also plays sessions of `PROGRAM serve`
+over loopback. The hexadecimal rows are those of docs/FORMATS.md, "Frames", or were put together by hand from its tables. Prints
+`N tests of the client pass` and ends with 0, or what failed and ends with 1.
+"""
+from __future__ import annotations
+
+import io
+import socket
+import struct
+import subprocess
+import sys
+import tempfile
+import threading
+import unittest
+from pathlib import Path
+from typing import IO, Optional
+
+sys.path.insert(0, str(Path(__file__).resolve().parent))
+
+from nexus_client import (
+    Allowed, Bad, BadReply, Bind, Call, ClearGoal, ClearProof, Client, ClosedAtEdge, Delete, Denied, Done, Down, Ended, Hello, NewObject, NoMemory,
+    Refused, Reply, Request, Say, SetGoal, SetProof, SystemFault, TimedOut, Torn, Transfer, Unbind, Welcome, connect, decode, encode, frame, line_of,
+    request_of_line,
+)  # fmt: skip
+
+program: Optional[str] = None
+
+# A request, its line, and its frame: the length, the kind, and then the fields.
+REQUESTS: list[tuple[Request, str, str]] = [
+    (Hello("bob", "pw"), "hello bob pw", "0000000a 01 0003626f62 00027077"),
+    (Say("bob", "ok"), "say bob : ok", "0000000a 02 0003626f62 00026f6b"),
+    (Transfer(3, "bob"), "transfer 3 bob", "0000000e 03 0000000000000003 0003626f62"),
+    (Delete(258), "delete 258", "00000009 04 0000000000000102"),
+    (NewObject("f"), "object f", "00000004 05 000166"),
+    (SetGoal("read", "f", "true"), "goal read f : true", "00000010 06 000472656164 000166 000474727565"),
+    (ClearGoal("read", "f"), "nogoal read f", "0000000a 07 000472656164 000166"),
+    (SetProof("read", "f", ""), "proof read f : ", "0000000c 08 000472656164 000166 0000"),
+    (ClearProof("read", "f"), "noproof read f", "0000000a 09 000472656164 000166"),
+    (Bind("bob.x", 2**64 - 1), "bind bob.x 18446744073709551615", "00000010 0a 0005626f622e78 ffffffffffffffff"),
+    (Unbind("bob"), "unbind bob", "00000006 0b 0003626f62"),
+    (
+        Call("read", "ledger_of_2026", 7),
+        "call read ledger_of_2026 7",
+        "0000001f 0c 000472656164 000e6c65646765725f6f665f32303236 0000000000000007",
+    ),
+]
+
+# A reply, its line, and its frame.
+REPLIES: list[tuple[Reply, str, str]] = [
+    (Welcome(1, 0), "welcome 1 0", "000000114100000000000000010000000000000000"),
+    (Done(3, 3), "done 3 3", "00000011 42 0000000000000003 0000000000000003"),
+    (Allowed(4, 1, 7), "allowed 4 1 7", "00000019 43 0000000000000004 0000000000000001 0000000000000007"),
+    (Denied(1, 1, 0, 0), "denied 1 GoalUnset", "00000021 44 0000000000000001 0000000000000001 0000000000000000 0000000000000000"),
+    (Denied(5, 4, 1, 0), "denied 5 LabelMissing 1", "00000021 44 0000000000000005 0000000000000004 0000000000000001 0000000000000000"),
+    (Denied(6, 3, 1, 12), "denied 6 Line 1 NotGoal", "00000021 44 0000000000000006 0000000000000003 0000000000000001 000000000000000c"),
+    (Denied(6, 9, 1, 13), "denied 6 9 1 13", "00000021 44 0000000000000006 0000000000000009 0000000000000001 000000000000000d"),
+    (Refused(1, 20), "refused 1 NotRecorded", "00000011 45 0000000000000001 0000000000000014"),
+    (Refused(0, 21), "refused 0 21", "00000011 45 0000000000000000 0000000000000015"),
+    (Down(4, 2), "down 4 2", "00000011 46 0000000000000004 0000000000000002"),
+    (NoMemory(), "nomemory", "00000001 47"),
+    (Bad(5), "bad 5", "00000009 48 0000000000000005"),
+]
+
+NO_LINES = [
+    "", "hello", "hello bob", "hello bob ", "hello  bob pw", "hello bob pw more", "hello says pw", "hello 1bob pw", "hello bob p\x7f",
+    "hello " + "b" * 65 + " pw", "hello bob " + "p" * 65, "say alice :", "say alice", "say a b : ok", "say  : ok", "object f ", "transfer 03 bob",
+    "transfer +3 bob", "delete -1", "delete 18446744073709551616", "delete ٣", "goal read : true", "call read f", "welcome 1 0", "Object f", " object f",
+    "say alice : " + "x" * 33_689,
+]  # fmt: skip
+
+
+def pair(timeout: float = 5) -> tuple[Client, socket.socket]:
+    """A client, and the socket of its service."""
+    ours, theirs = socket.socketpair()
+    ours.settimeout(timeout)
+    return Client(ours), theirs
+
+
+class Frames(unittest.TestCase):
+    """What is sent and what is read, byte by byte."""
+
+    def test_requests(self) -> None:
+        for request, line, row in REQUESTS:
+            with self.subTest(line):
+                self.assertEqual(encode(request), bytes.fromhex(row))
+                self.assertEqual(request_of_line(line), request)
+
+    def test_replies(self) -> None:
+        for reply, line, row in REPLIES:
+            with self.subTest(line):
+                self.assertEqual(decode(bytes.fromhex(row)[4:]), reply)
+                self.assertEqual(line_of(reply), line)
+
+    def test_names_of_numbers(self) -> None:
+        denied = Denied(6, 3, 1, 5)
+        self.assertEqual((denied.cause_name, denied.fault_name), ("Line", "NotFresh"))
+        self.assertIsNone(Denied(6, 6, 3, 0).fault_name)
+        self.assertEqual(Refused(0, 1).name, "NotOpen")
+
+    def test_lines_that_are_none(self) -> None:
+        for line in NO_LINES:
+            with self.subTest(line[:40]), self.assertRaises(ValueError):
+                request_of_line(line)
+        self.assertEqual(request_of_line("say alice : " + "x" * 33_688), Say("alice", "x" * 33_688))
+        self.assertEqual(request_of_line("say alice :  ok : ok "), Say("alice", " ok : ok "))
+
+    def test_requests_that_are_none(self) -> None:
+        for request in [
+            Hello("says", "pw"), Hello("bob", ""), Hello("bob", "p w"), NewObject("1f"), NewObject("f\n"), Delete(2**64), Delete(-1), Say("a", "x" * 65_536),
+            SetGoal("read", "f.g", "true"), Say("", "x" * 33_788),
+        ]:  # fmt: skip
+            with self.subTest(str(request)[:40]), self.assertRaises(ValueError):
+                encode(request)
+        self.assertEqual(len(encode(Say("", "x" * 33_787))), 4 + 33_792)
+
+    def test_payloads_that_are_none(self) -> None:
+        for payload in ["", "40", "49", "48", "47" + "00" * 8, "41" + "00" * 8, "44" + "00" * 24]:
+            with self.subTest(payload), self.assertRaises(BadReply):
+                decode(bytes.fromhex(payload))
+
+    def test_a_frame_of_anything(self) -> None:
+        self.assertEqual(frame(13, "a", 1), bytes.fromhex("0000000c0d0001610000000000000001"))
+
+
+class Ends(unittest.TestCase):
+    """Each kind of end, over a pair of sockets."""
+
+    def end_of(self, data: bytes, kind: type[Ended]) -> None:
+        """The service sends these bytes and ends the connection. The client is to raise this end, now and again."""
+        client, service = pair()
+        with client:
+            service.sendall(data)
+            service.close()
+            for _ in range(2):
+                with self.assertRaises(kind) as raised:
+                    client.receive()
+                self.assertIs(type(raised.exception), kind)
+            with self.assertRaises(kind):
+                client.send(NewObject("f"))
+
+    def test_closed_at_an_edge(self) -> None:
+        self.end_of(b"", ClosedAtEdge)
+
+    def test_torn(self) -> None:
+        for _, line, row in REPLIES:
+            data = bytes.fromhex(row)
+            for cut in range(1, len(data)):
+                with self.subTest(line, cut=cut):
+                    self.end_of(data[:cut], Torn)
+
+    def test_bad_replies(self) -> None:
+        for row in ["00000000", "00000002", "00000008", "0000000a", "00000022", "ffffffff", "0000000140", "0000000149", "0000000148", "0000000947", "0000001944"]:
+            with self.subTest(row):
+                self.end_of(bytes.fromhex(row), BadReply)
+
+    def test_a_bad_reply_is_told_at_once(self) -> None:
+        for row in ["00000002", "0000000140"]:
+            client, service = pair()
+            with self.subTest(row), client, service:
+                service.sendall(bytes.fromhex(row))
+                with self.assertRaises(BadReply):
+                    client.receive()
+
+    def test_a_reply_before_the_end(self) -> None:
+        client, service = pair()
+        with client:
+            service.sendall(encode_reply("welcome 1 0") + encode_reply("nomemory")[:4])
+            service.close()
+            self.assertEqual(client.receive(), Welcome(1, 0))
+            with self.assertRaises(Torn):
+                client.receive()
+
+    def test_pieces(self) -> None:
+        client, service = pair()
+        data = b"".join(bytes.fromhex(row) for _, _, row in REPLIES)
+
+        def feed() -> None:
+            for byte in data:
+                service.sendall(bytes([byte]))
+
+        with client, service:
+            feeder = threading.Thread(target=feed)
+            feeder.start()
+            self.assertEqual([client.receive() for _ in REPLIES], [reply for reply, _, _ in REPLIES])
+            feeder.join()
+
+    def test_no_reply_in_time(self) -> None:
+        client, service = pair(timeout=0.05)
+        with client, service:
+            service.sendall(bytes(3))
+            with self.assertRaises(TimedOut):
+                client.ask(NewObject("f"))
+
+    def test_nothing_taken_in_time(self) -> None:
+        client, service = pair(timeout=0.05)
+        with client, service, self.assertRaises(TimedOut):
+            for _ in range(10_000):
+                client.send(Say("bob", "x" * 30_000))
+
+    def test_a_fault_of_the_system(self) -> None:
+        client, service = pair()
+        service.close()
+        with client, self.assertRaises(SystemFault) as raised:
+            for _ in range(2):
+                client.send(NewObject("f"))
+        self.assertIsInstance(raised.exception.__cause__, OSError)
+
+    def test_a_reset(self) -> None:
+        with socket.create_server(("127.0.0.1", 0)) as door:
+            with connect(f"127.0.0.1:{door.getsockname()[1]}", timeout=5) as client:
+                service, _ = door.accept()
+                service.setsockopt(socket.SOL_SOCKET, socket.SO_LINGER, struct.pack("ii", 1, 0))
+                service.close()
+                with self.assertRaises(SystemFault):
+                    client.receive()
+
+    def test_nobody_listens(self) -> None:
+        for patience in [0, 0.05]:
+            with self.subTest(patience), self.assertRaises(SystemFault):
+                connect(f"127.0.0.1:{free_port()}", patience=patience)
+
+    def test_no_address(self) -> None:
+        for address in ["", "4000", ":4000", "127.0.0.1:", "127.0.0.1:x"]:
+            with self.subTest(address), self.assertRaises(ValueError):
+                connect(address)
+
+    def test_outstanding_replies(self) -> None:
+        client, service = pair()
+        with client, service:
+            client.send(NewObject("f"))
+            client.send(NewObject("g"))
+            self.assertEqual(client.waiting, 2)
+            with self.assertRaises(ValueError):
+                client.ask(NewObject("h"))
+            service.sendall(encode_reply("done 1 0") + encode_reply("done 2 1"))
+            self.assertEqual([client.receive(), client.receive()], [Done(1, 0), Done(2, 1)])
+            self.assertEqual(client.waiting, 0)
+
+    def test_window(self) -> None:
+        client, service = pair()
+        with client, service:
+            replies = client.ask_all([NewObject("f")] * 5, window=2)
+            for _ in range(5):
+                service.sendall(encode_reply("nomemory"))
+            self.assertEqual(next(replies), NoMemory())
+            self.assertEqual(len(service.recv(1000)), 2 * len(encode(NewObject("f"))))
+            self.assertEqual(list(replies), [NoMemory()] * 4)
+            with self.assertRaises(ValueError):
+                next(client.ask_all([], window=0))
+
+
+def encode_reply(line: str) -> bytes:
+    """The frame of a reply of the table with this line, or with numbers that this line has."""
+    word, *numbers = line.split()
+    kinds = {"welcome": 65, "done": 66, "nomemory": 71}
+    return frame(kinds[word], *map(int, numbers))
+
+
+def free_port() -> int:
+    """A port on which nobody listens."""
+    with socket.socket() as free:
+        free.bind(("127.0.0.1", 0))
+        port: int = free.getsockname()[1]
+        return port
+
+
+class Service(unittest.TestCase):
+    """Sessions of the program, over loopback."""
+
+    def setUp(self) -> None:
+        if program is None:
+            self.skipTest("no program was named")
+
+    def start(self, policy: str, workers: int = 1, sessions: int = 1) -> str:
+        """Starts a service of the policy. Its address. It is killed at the end of the test where it has not ended."""
+        self.address = f"127.0.0.1:{free_port()}"
+        self.output: IO[bytes] = tempfile.TemporaryFile()
+        self.addCleanup(self.output.close)
+        words = [str(program), "serve", self.address, str(workers), str(sessions)]
+        self.process = subprocess.Popen(words, stdin=subprocess.PIPE, stdout=self.output)
+        self.addCleanup(self.process.wait)
+        self.addCleanup(self.process.kill)
+        assert self.process.stdin is not None
+        self.process.stdin.write(policy.encode())
+        self.process.stdin.close()
+        return self.address
+
+    def text(self) -> str:
+        """The policy text, once the service has ended."""
+        self.assertEqual(self.process.wait(timeout=60), 0)
+        self.output.seek(0)
+        return self.output.read().decode()
+
+    def test_each_request(self) -> None:
+        """Each kind of request once, and what is then written."""
+        head = "nexus 2\nprincipal alice pa\nprincipal bob pb\nauthority 3 clock\n"
+        with connect(self.start(head + "end\n"), timeout=20, patience=20) as client:
+            self.assertEqual(client.call("read", "f"), Refused(0, 1))
+            self.assertEqual(client.hello("alice", "pb"), Refused(0, 3))
+            self.assertEqual(client.hello("alice", "pa"), Welcome(1, 0))
+            self.assertEqual(client.new_object("f"), Done(1, 0))
+            self.assertEqual(client.call("write", "f", 7), Denied(1, 1, 0, 0))
+            self.assertEqual(client.set_goal("write", "f", "alice says ok"), Done(2, 0))
+            self.assertEqual(client.say("alice", "ok"), Done(3, 3))
+            self.assertEqual(client.set_proof("write", "f", "proof 2\n1 label : alice says ok\nend\n"), Done(4, 0))
+            self.assertEqual(client.call("write", "f", 7), Allowed(4, 0, 0))
+            self.assertEqual(client.call("write", "f", 8), Allowed(4, 1, 7))
+            self.assertEqual(client.bind("alice.clock", 3), Done(5, 0))
+            self.assertEqual(client.unbind("alice.clock"), Done(6, 0))
+            self.assertEqual(client.clear_proof("write", "f"), Done(7, 0))
+            self.assertEqual(client.call("write", "f", 7), Denied(7, 2, 0, 0))
+            self.assertEqual(client.clear_goal("write", "f"), Done(8, 0))
+            self.assertEqual(client.transfer(3, "bob"), Done(9, 0))
+            self.assertEqual(client.delete(3), Refused(9, 7))
+            self.assertEqual(client.say("alice", "no ("), Refused(9, 15))
+        entries = [
+            "object f", "goal write f : alice says ok", "say alice : ok", "proof write f : proof 2 ; 1 label : alice says ok ; end", "bind alice.clock 3",
+            "unbind alice.clock", "noproof write f", "nogoal write f", "transfer 3 bob",
+        ]  # fmt: skip
+        self.assertEqual(self.text(), head + "".join(f"1 alice {entry}\n" for entry in entries) + "end\n")
+
+    def test_denials(self) -> None:
+        """A line with a fault, a missing label, a port that isn't bound, and an authority that says No."""
+        policy = "nexus 2\nprincipal alice pa\nauthority 0 clock\n1 alice object f\nend\n"
+        with connect(self.start(policy), timeout=20, patience=20) as client:
+            self.assertEqual(client.hello("alice", "pa"), Welcome(2, 1))
+            for goal, rule, wanted in [
+                ("alice says ok", "hyp", ("Line", 1, "StillOpen")),
+                ("alice says ok", "label", ("LabelMissing", 1, None)),
+                ("alice says TimeNow < 5", "ask", ("NotBound", 1, None)),
+            ]:
+                client.set_goal("read", "f", goal)
+                client.set_proof("read", "f", f"proof 2;1 {rule}:{goal};end")
+                denied = client.call("read", "f")
+                assert isinstance(denied, Denied)
+                self.assertEqual((denied.cause_name, denied.line, denied.fault_name), wanted)
+            self.assertIsInstance(client.bind("alice", 0), Done)
+            self.assertEqual(line_of(client.call("read", "f")), "denied 8 AuthorityNo 1")
+        self.text()
+
+    def test_pipelining(self) -> None:
+        """Three thousand requests, with many outstanding, are answered in their order."""
+        with connect(self.start("nexus 2\nprincipal alice pa\nend\n"), timeout=20, patience=20) as client:
+            requests: list[Request] = [Hello("alice", "pa")]
+            requests += [Say("alice", f"ok({k})") for k in range(3000)]
+            wanted: list[Reply] = [Welcome(1, 0)]
+            wanted += [Done(k + 1, k + 1) for k in range(3000)]
+            self.assertEqual(list(client.ask_all(requests)), wanted)
+            self.assertEqual(client.ask(Delete(3001)), Refused(3000, 6))
+        self.assertEqual(self.text().count("\n"), 2 + 3000 + 1)
+
+    def test_what_is_no_frame(self) -> None:
+        """A frame that is too long and one of an unknown kind are told, and the session is over."""
+        address = self.start("nexus 2\nend\n", sessions=3)
+        for data, wanted in [(bytes.fromhex("00008401"), Bad(0)), (frame(13), Bad(4)), (frame(1, "1ob", "pw"), Bad(5))]:
+            with connect(address, timeout=20, patience=20) as client:
+                client.send_bytes(data)
+                self.assertEqual(client.receive(), wanted)
+                with self.assertRaises(ClosedAtEdge):
+                    client.receive()
+        self.assertEqual(self.text(), "nexus 2\nend\n")
+
+    def test_a_cut_frame(self) -> None:
+        """Where the client ends within a frame there is no reply."""
+        with connect(self.start("nexus 2\nend\n"), timeout=20, patience=20) as client:
+            client.send_bytes(bytes(3))
+            client.socket.shutdown(socket.SHUT_WR)
+            with self.assertRaises(ClosedAtEdge):
+                client.receive()
+        self.text()
+
+    def test_a_killed_service(self) -> None:
+        """The end of a service that is killed is an end of the connection."""
+        with connect(self.start("nexus 2\nprincipal alice pa\nend\n"), timeout=20, patience=20) as client:
+            self.assertEqual(client.hello("alice", "pa"), Welcome(1, 0))
+            self.process.kill()
+            self.process.wait()
+            with self.assertRaises(Ended):
+                for _ in range(2):
+                    client.call("read", "f")
+
+
+def main() -> int:
+    global program
+    program = sys.argv[1] if len(sys.argv) > 1 else None
+    told = io.StringIO()
+    result = unittest.TextTestRunner(stream=told).run(unittest.defaultTestLoader.loadTestsFromModule(sys.modules[__name__]))
+    if not result.wasSuccessful():
+        print(told.getvalue(), end="")
+        return 1
+    print(f"{result.testsRun - len(result.skipped)} tests of the client pass")
+    return 0
+
+
+if __name__ == "__main__":
+    sys.exit(main())
