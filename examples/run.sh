@@ -138,6 +138,21 @@ elif ! python3 -B "$examples/serve/run.py" "$built"; then
     failed=$((failed + 1))
 fi
 
+# The recipes of docs/OPERATING.md, the client for programs, and the manual page.
+if ! "$examples/operating/run.sh" "$built"; then
+    failed=$((failed + 1))
+fi
+if ! python3 -c 'import sys; sys.exit(sys.version_info < (3, 9))' 2>/dev/null; then
+    echo "clients/python: skipped, since there is no python3 of 3.9 or later"
+elif ! python3 -B "$examples/../clients/python/test_nexus_client.py" "$built"; then
+    failed=$((failed + 1))
+fi
+if ! command -v mandoc >/dev/null; then
+    echo "man/nexus.1: skipped, since there is no mandoc"
+elif ! mandoc -T lint -W warning "$examples/../man/nexus.1"; then
+    failed=$((failed + 1))
+fi
+
 if [ "$failed" -gt 0 ] || [ "$passed" -eq 0 ]; then
     echo "$passed runs pass, $failed differ"
     exit 1
