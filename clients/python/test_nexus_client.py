@@ -354,6 +354,15 @@ class Service(unittest.TestCase):
             self.assertEqual(client.ask(Delete(3001)), Refused(3000, 6))
         self.assertEqual(self.text().count("\n"), 2 + 3000 + 1)
 
+    def test_pipelining_of_large_requests(self) -> None:
+        """Requests that together are larger than what the system keeps for a connection: none waits for the other side for ever."""
+        policy = "nexus 2\nprincipal alice pa\n1 alice object f\nend\n"
+        with connect(self.start(policy), timeout=20, patience=20) as client:
+            self.assertEqual(client.hello("alice", "pa"), Welcome(2, 1))
+            large = SetProof("read", "f", "x" * 32_000)
+            self.assertEqual(list(client.ask_all([large] * 300)), [Refused(1, 16)] * 300)
+        self.text()
+
     def test_what_is_no_frame(self) -> None:
         """A frame that is too long and one of an unknown kind are told, and the session is over."""
         address = self.start("nexus 2\nend\n", sessions=3)

@@ -155,7 +155,7 @@ def play_signal(work: Path) -> None:
     """A service that is ended by a signal leaves what was answered `done`, and no `end`. The document's lines make it a policy again,
     also where its last line was cut."""
     after = work / "after"
-    for number in [signal.SIGTERM, signal.SIGINT, signal.SIGKILL]:
+    for number in [signal.SIGTERM, signal.SIGKILL]:
         with start_service(HEAD + "end\n", 1, 1, after) as service, connect(service.address, patience=20) as alice:
             check("a hello", told(alice, "hello alice pa"), "welcome 1 0")
             check("a change", told(alice, "object f"), "done 1 0")
