@@ -63,6 +63,9 @@ class Peer:
         return self
 
     def __exit__(self, *_: object) -> None:
+        self.kill()
+
+    def kill(self) -> None:
         self.process.kill()
         self.process.wait()
 
@@ -120,12 +123,12 @@ def play_rota(work: Path) -> None:
             check("off duty", told(bob, "call open hall 0"), "denied 4 AuthorityNo 1")
             rota.write_text("on_duty(bob)\n")
             check("on duty again", told(bob, "call open hall 0"), "allowed 4 0 0")
-            authority.__exit__()
+            authority.kill()
             check("nobody answers", told(bob, "call open hall 0"), "down 4 1")
             authority = start_authority(port, rota)
             check("somebody answers again", told(bob, "call open hall 0"), "allowed 4 0 0")
     finally:
-        authority.__exit__()
+        authority.kill()
 
 
 HEAD = "nexus 2\nprincipal alice pa\n"
