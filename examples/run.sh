@@ -1,6 +1,7 @@
 #!/usr/bin/env bash
 # Runs each example of `nexus check`, `nexus script` and `nexus trust` and compares what it prints, byte for byte, and its exit status;
-# then the other ways in which the program ends; then plays `nexus serve`, where there is a Python of 3.9 or later.
+# then the other ways in which the program ends; then plays `nexus serve`, where there is a Python of 3.9 or later; then the recipes of
+# docs/OPERATING.md, the client for programs, and the manual page.
 #
 #   examples/run.sh [PROGRAM]     PROGRAM is ./nexus at the top of the repository where none is given
 #

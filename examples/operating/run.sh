@@ -41,6 +41,7 @@ answer() {
 }
 
 answer 'a voice that is lent' trust no_further/trust 1 'label 3'
+answer 'a comparison of two names' check scoped/two_names 0 allowed
 answer 'a chain, from the desk' trust chain/from_desk 1 'label 2'
 answer 'a chain, from the agency' trust chain/from_agency 1 'label 1'
 answer 'a whole chain' trust chain/whole 1 goal
