@@ -1,7 +1,7 @@
 #!/usr/bin/env bash
-# Runs each example of `nexus check`, `nexus script` and `nexus trust` and compares what it prints, byte for byte, and its exit status;
-# then the other ways in which the program ends; then plays `nexus serve`, where there is a Python of 3.9 or later; then the recipes of
-# docs/OPERATING.md, the client for programs, and the manual page.
+# Runs each example of `nexus check`, `script`, `trust`, `prove` and `recover` and compares what it prints, byte for byte, and its exit
+# status; has `nexus check` check each proof that was found; then the other ways in which the program ends; then plays `nexus serve`,
+# where there is a Python of 3.9 or later; then the recipes of docs/OPERATING.md, the client for programs, and the manual page.
 #
 #   examples/run.sh [PROGRAM]     PROGRAM is ./nexus at the top of the repository where none is given
 #
@@ -15,7 +15,7 @@ trap 'rm -rf "$work"' EXIT
 
 passed=0
 failed=0
-for folder in "$examples"/check/*/ "$examples"/script/*/ "$examples"/trust/*/; do
+for folder in "$examples"/check/*/ "$examples"/script/*/ "$examples"/trust/*/ "$examples"/prove/*/ "$examples"/recover/*/; do
     name=$(basename "$folder")
     command=$(basename "$(dirname "$folder")")
     "$program" "$command" <"$folder/input" >"$work/output"
@@ -46,6 +46,14 @@ expect() {
         passed=$((passed + 1))
     fi
 }
+
+# A proof that was found is allowed for what it was found for.
+for folder in "$examples"/prove/*/; do
+    if [ "$(cat "$folder/status")" = 0 ]; then
+        { sed -e 's/^nexus prove 1$/nexus check 1/' -e '/^end$/d' "$folder/input"; "$program" prove <"$folder/input"; } | "$program" check >"$work/output"
+        expect "the proof of $(basename "$folder")" 0 allowed
+    fi
+done
 
 share=$examples/check/share/input
 day=$examples/script/storage/input

@@ -1,9 +1,11 @@
-// A load for `nexus serve`, without a pipeline: each connection sends a request when the reply to the one before was read.
+// A load for `nexus serve`: each connection sends DEPTH requests at once, and the next when the replies to all of them were read.
 //
-//   load PORT CONNECTIONS COUNT call|miss|say
+//   load PORT CONNECTIONS COUNT DEPTH call|miss|say
+//   load PORT churn
 //
 // Connection K is principal pK with the secret sK, and asks COUNT times: for a call of `read oK` that is allowed, of `miss oK` that is denied,
-// or to say a label. Prints the requests a second of all connections. Ends with 1 at a reply of another kind than the due one.
+// or to say a label. Prints the requests a second of all connections, and how many microseconds 99 of 100 requests waited at most. With
+// `churn` principal pC says a label and takes it back until it is killed. Ends with 1 at a reply of another kind than the due one.
 #include <arpa/inet.h>
 #include <netinet/tcp.h>
 #include <pthread.h>
@@ -13,15 +15,16 @@
 #include <time.h>
 #include <unistd.h>
 
-enum { WELCOME = 65, DONE = 66, ALLOWED = 67, DENIED = 68, HELLO = 1, SAY = 2, CALL = 12 };
+enum { WELCOME = 65, DONE = 66, ALLOWED = 67, DENIED = 68, HELLO = 1, SAY = 2, DELETE = 4, CALL = 12, MOST_DEPTH = 64 };
 
 struct Frame {
     unsigned char bytes[256];
     int length;
 };
 
-static int port, count;
+static int port, count, depth;
 static const char *kind;
+static double *waits;
 static pthread_barrier_t admitted;
 
 static void begin(struct Frame *frame, int request) {
@@ -50,16 +53,34 @@ static void take(int link, unsigned char *into, int wanted) {
     }
 }
 
-// Sends a request and reads its reply, which has to be of this kind. The third of its bytes' numbers is left in `reply`.
-static void ask(int link, const struct Frame *frame, int due, unsigned char *reply) {
+static void send_all(int link, const unsigned char *bytes, int length) {
+    for (int sent = 0; sent < length;) {
+        int n = write(link, bytes + sent, length - sent);
+        if (n <= 0) exit(1);
+        sent += n;
+    }
+}
+
+// Reads a reply, which has to be of this kind.
+static void expect(int link, int due, unsigned char *reply) {
     unsigned length;
-    if (write(link, frame->bytes, frame->length) != frame->length) exit(1);
     take(link, (unsigned char *)&length, 4);
     take(link, reply, ntohl(length));
     if (reply[0] != due) {
         fprintf(stderr, "load: a reply of kind %d, where %d was due\n", reply[0], due);
         exit(1);
     }
+}
+
+static void ask(int link, const struct Frame *frame, int due, unsigned char *reply) {
+    send_all(link, frame->bytes, frame->length);
+    expect(link, due, reply);
+}
+
+static double now(void) {
+    struct timespec time;
+    clock_gettime(CLOCK_MONOTONIC, &time);
+    return time.tv_sec * 1e6 + time.tv_nsec / 1e3;
 }
 
 static int dial(void) {
@@ -77,56 +98,103 @@ static int dial(void) {
     exit(1);
 }
 
-static void *run(void *place) {
-    long k = (long)place;
-    char name[8], secret[8], object[8];
+// A link on which this principal was admitted.
+static int admit(const char *name, const char *secret) {
     unsigned char reply[64];
     struct Frame frame;
-    snprintf(name, sizeof name, "p%ld", k);
-    snprintf(secret, sizeof secret, "s%ld", k);
-    snprintf(object, sizeof object, "o%ld", k);
-    int link = dial(), due = strcmp(kind, "say") == 0 ? DONE : strcmp(kind, "call") == 0 ? ALLOWED : DENIED;
+    int link = dial();
     begin(&frame, HELLO);
     add_text(&frame, name);
     add_text(&frame, secret);
     end(&frame);
     ask(link, &frame, WELCOME, reply);
+    return link;
+}
+
+static void say(struct Frame *frame, const char *name) {
+    begin(frame, SAY);
+    add_text(frame, name);
+    add_text(frame, "ok");
+    end(frame);
+}
+
+static void *run(void *place) {
+    long k = (long)place;
+    char name[8], secret[8], object[8];
+    unsigned char reply[64], burst[MOST_DEPTH * 256];
+    struct Frame frame;
+    snprintf(name, sizeof name, "p%ld", k);
+    snprintf(secret, sizeof secret, "s%ld", k);
+    snprintf(object, sizeof object, "o%ld", k);
+    int due = strcmp(kind, "say") == 0 ? DONE : strcmp(kind, "call") == 0 ? ALLOWED : DENIED;
+    int link = admit(name, secret);
     if (due == DONE) {
-        begin(&frame, SAY);
-        add_text(&frame, name);
-        add_text(&frame, "ok");
+        say(&frame, name);
     } else {
         begin(&frame, CALL);
         add_text(&frame, due == ALLOWED ? "read" : "miss");
         add_text(&frame, object);
         memset(frame.bytes + frame.length, 0, 8);
         frame.length += 8;
+        end(&frame);
     }
-    end(&frame);
+    for (int n = 0; n < depth; n++) memcpy(burst + n * frame.length, frame.bytes, frame.length);
     pthread_barrier_wait(&admitted);
-    for (int n = 0; n < count; n++) ask(link, &frame, due, reply);
-    if (due == ALLOWED && reply[16] != 1) {
-        fprintf(stderr, "load: the last call was not answered from the cache\n");
-        exit(1);
+    for (int asked = 0; asked < count; asked += depth) {
+        double sent = now();
+        send_all(link, burst, depth * frame.length);
+        for (int n = 0; n < depth; n++) {
+            expect(link, due, reply);
+            waits[k * count + asked + n] = now() - sent;
+        }
     }
     close(link);
     return NULL;
 }
 
+// Says a label and takes it back, until it is killed.
+static void churn(void) {
+    unsigned char reply[64];
+    struct Frame frame;
+    int link = admit("pC", "sC");
+    for (;;) {
+        say(&frame, "pC");
+        ask(link, &frame, DONE, reply);
+        begin(&frame, DELETE);
+        memcpy(frame.bytes + frame.length, reply + 9, 8);
+        frame.length += 8;
+        end(&frame);
+        ask(link, &frame, DONE, reply);
+    }
+}
+
+static int by_size(const void *a, const void *b) {
+    double x = *(const double *)a, y = *(const double *)b;
+    return (x > y) - (x < y);
+}
+
 int main(int words, char **word) {
-    if (words != 5) return 2;
+    if (words == 3) {
+        port = atoi(word[1]);
+        churn();
+    }
+    if (words != 6) return 2;
     port = atoi(word[1]);
     int connections = atoi(word[2]);
     count = atoi(word[3]);
-    kind = word[4];
+    depth = atoi(word[4]);
+    kind = word[5];
+    if (depth < 1 || depth > MOST_DEPTH || count % depth != 0) return 2;
+    waits = malloc(sizeof *waits * connections * count);
     pthread_t threads[64];
-    struct timespec begun, over;
     pthread_barrier_init(&admitted, NULL, connections + 1);
     for (long k = 0; k < connections; k++) pthread_create(&threads[k], NULL, run, (void *)k);
     pthread_barrier_wait(&admitted);
-    clock_gettime(CLOCK_MONOTONIC, &begun);
+    double begun = now();
     for (int k = 0; k < connections; k++) pthread_join(threads[k], NULL);
-    clock_gettime(CLOCK_MONOTONIC, &over);
-    printf("%.0f\n", (double)connections * count / (over.tv_sec - begun.tv_sec + (over.tv_nsec - begun.tv_nsec) / 1e9));
+    double over = now();
+    long all = (long)connections * count;
+    qsort(waits, all, sizeof *waits, by_size);
+    printf("%.0f %.0f\n", all / (over - begun) * 1e6, waits[all - 1 - all / 100]);
     return 0;
 }

@@ -1,36 +1,46 @@
 #!/bin/sh
-# Requests a second of `nexus serve` over loopback TCP, with 1 and with 4 connections, each of which waits for the reply to one request before
-# the next: calls that a kept verdict answers, calls of a proof of four lines that is checked anew each time (a label of it is missing, and such a
-# denial is not kept), and writes. Beside them what redis-server does with GET and, with an append-only file that is not synced, with SET.
+# Requests a second of `nexus serve` over loopback TCP, and how many microseconds 99 of 100 of them waited at most: calls that a kept verdict
+# answers, calls of a proof of four lines that is checked anew each time (a label of it is missing, and such a denial is not kept), and writes; with
+# 1 and with 4 connections, each of which waits for the reply to one request before the next, and kept calls also 32 at a time; with a journal of
+# few entries and with one of 200,000; and calls while another session changes the policy all the time. Beside them what redis-server does
+# with GET and, with an append-only file that is not synced, with SET.
 # It needs the built program (./nexus builds it), a C compiler and, for the ratios, redis-server and redis-benchmark (Debian's redis-server).
-# CALLS is how many calls a connection makes (50000). The writes of a connection are 4,000, as one principal may have few more.
+# CALLS is how many calls a connection makes (64000). The writes of a connection are 3,840, as one principal may have few more.
 set -eu
 here=$(cd "$(dirname "$0")" && pwd)
 program=${1:-$here/../../crates/nexus_main/out/nexus_main}
-calls=${CALLS:-50000}
-writes=4000
+calls=${CALLS:-64000}
+writes=3840
 port=${PORT:-42917}
 work=$(mktemp -d)
-redis=
-trap '[ -z "$redis" ] || kill "$redis"; rm -rf "$work"' EXIT
+redis= service= other=
+trap '[ -z "$redis$service$other" ] || kill $redis $service $other 2>/dev/null; rm -rf "$work"' EXIT
 ${CC:-cc} -O2 -o "$work/load" "$here/load.c" -lpthread
 
-# policy COUNT: the text of a policy of so many principals, each with an object and a proof.
+# policy COUNT ENTRIES: the text of a policy of so many principals, each with an object and a proof, of one more that changes the policy, and
+# of so many entries more, 4,000 for each of further principals.
 policy() {
-    echo 'nexus 2'
-    for k in $(seq 0 $(($1 - 1))); do echo "principal p$k s$k"; done
-    for k in $(seq 0 $(($1 - 1))); do
-        echo "1 p$k object o$k"
-        for goal in 'read b' 'miss c'; do
-            name=${goal#* } goal=${goal% *}
-            both="p$k says a and p$k says $name"
-            echo "1 p$k goal $goal o$k : $both or false"
-            echo "1 p$k proof $goal o$k : proof 2 ; 1 label : p$k says a ; 2 label : p$k says $name ; 3 and_i 1 2 : $both ; 4 or_l 3 : $both or false ; end"
-        done
-        echo "1 p$k say p$k : a"
-        echo "1 p$k say p$k : b"
-    done
-    echo end
+    awk -v count="$1" -v entries="$2" 'BEGIN {
+        fillers = entries / 4000
+        print "nexus 2"
+        for (k = 0; k < count; k++) print "principal p" k " s" k
+        print "principal pC sC"
+        for (k = 0; k < fillers; k++) print "principal q" k " t" k
+        for (k = 0; k < count; k++) {
+            print "1 p" k " object o" k
+            for (turn = 0; turn < 2; turn++) {
+                goal = turn ? "miss" : "read"
+                both = "p" k " says a and p" k " says " (turn ? "c" : "b")
+                print "1 p" k " goal " goal " o" k " : " both " or false"
+                print "1 p" k " proof " goal " o" k " : proof 2 ; 1 label : p" k " says a ; 2 label : p" k " says " (turn ? "c" : "b") \
+                    " ; 3 and_i 1 2 : " both " ; 4 or_l 3 : " both " or false ; end"
+            }
+            print "1 p" k " say p" k " : a"
+            print "1 p" k " say p" k " : b"
+        }
+        for (k = 0; k < fillers; k++) for (n = 0; n < 4000; n++) print "1 q" k " say q" k " : ok"
+        print "end"
+    }'
 }
 
 if command -v redis-server >/dev/null && command -v redis-benchmark >/dev/null; then
@@ -40,23 +50,38 @@ else
     echo "without redis, as there is no redis-server or no redis-benchmark here"
 fi
 
-# row TEXT RATE COMMAND CONNECTIONS COUNT: prints a row of the table, with what redis does in place of it.
+# row TEXT "RATE WAIT" COMMAND CONNECTIONS COUNT DEPTH: prints a row of the table, with what redis does in place of it.
 row() {
-    peer=-
-    [ -z "$redis" ] || peer=$(redis-benchmark -p $((port + 1)) -t "$3" -c "$4" -n $(($4 * $5)) --csv | awk -F'"' 'tolower($2) == "'"$3"'" { print int($4) }')
-    awk -v text="$1" -v rate="$2" -v peer="$peer" 'BEGIN {
-        printf "%-32s %10d %10s %8s\n", text, rate, peer, peer == "-" ? "-" : sprintf("%.2f", rate / peer) }'
+    peer='- -'
+    [ -z "$redis" ] || peer=$(redis-benchmark -p $((port + 1)) -t "$3" -c "$4" -P "$6" -n $(($4 * $5)) --csv |
+        awk -F'"' 'tolower($2) == "'"$3"'" { print int($4), int($14 * 1000) }')
+    echo "$2 $peer" | awk -v text="$1" '{
+        printf "%-44s %9d %9s %6s %9d %9s\n", text, $1, $3, $3 == "-" ? "-" : sprintf("%.2f", $1 / $3), $2, $4 }'
 }
 
-printf '%-32s %10s %10s %8s\n' 'a second' nexus redis ratio
-for connections in 1 4; do
-    policy "$connections" | "$program" serve "127.0.0.1:$port" "$connections" 3 >"$work/after" &
-    service=$!
-    kept=$("$work/load" "$port" "$connections" "$calls" call)
-    anew=$("$work/load" "$port" "$connections" "$calls" miss)
-    said=$("$work/load" "$port" "$connections" "$writes" say)
-    wait "$service"
-    row "kept calls, $connections connections" "$kept" get "$connections" "$calls"
-    row "calls checked anew, $connections connections" "$anew" get "$connections" "$calls"
-    row "writes, $connections connections" "$said" set "$connections" "$writes"
+printf '%-44s %9s %9s %6s %9s %9s\n' '' 'a second' redis ratio '99 in 100' redis
+for entries in 0 200000; do
+    for connections in 1 4; do
+        # The sessions of the churn take a worker of their own.
+        policy "$connections" "$entries" | "$program" serve "127.0.0.1:$port" $((connections + 1)) 64 >"$work/after" &
+        service=$!
+        kept=$("$work/load" "$port" "$connections" "$calls" 1 call)
+        many=$("$work/load" "$port" "$connections" "$calls" 32 call)
+        anew=$("$work/load" "$port" "$connections" "$calls" 1 miss)
+        said=$("$work/load" "$port" "$connections" "$writes" 1 say)
+        "$work/load" "$port" churn &
+        other=$!
+        busy=$("$work/load" "$port" "$connections" "$calls" 1 call)
+        busy_anew=$("$work/load" "$port" "$connections" "$calls" 1 miss)
+        kill "$other" "$service"
+        wait "$other" "$service" || true
+        other= service=
+        of="$connections connections, $entries entries"
+        row "kept calls, $of" "$kept" get "$connections" "$calls" 1
+        row "kept calls by 32, $of" "$many" get "$connections" "$calls" 32
+        row "calls checked anew, $of" "$anew" get "$connections" "$calls" 1
+        row "writes, $of" "$said" set "$connections" "$writes" 1
+        row "kept calls amid changes, $of" "$busy" get "$connections" "$calls" 1
+        row "calls anew amid changes, $of" "$busy_anew" get "$connections" "$calls" 1
+    done
 done

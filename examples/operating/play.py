@@ -11,6 +11,7 @@ from __future__ import annotations
 
 import os
 import re
+import shlex
 import signal
 import socket
 import subprocess
@@ -155,7 +156,7 @@ def shell_of(heading: str) -> str:
 
 
 def play_signal(work: Path) -> None:
-    """A service that is ended by a signal leaves what was answered `done`, and no `end`. The document's lines make it a policy again,
+    """A service that is ended by a signal leaves what was answered `done`, and no `end`. The document's line makes it a policy again,
     also where its last line was cut."""
     after = work / "after"
     for number in [signal.SIGTERM, signal.SIGKILL]:
@@ -166,13 +167,13 @@ def play_signal(work: Path) -> None:
             check(f"the status after signal {number}", service.process.wait(timeout=60), -number)
         check(f"the text after signal {number}", after.read_text(), HEAD + "1 alice object f\n")
     lines = shell_of("### After a signal")
-    check("that the document has lines for it", "after" in lines, True)
+    check("that the document has a line for it", "after" in lines, True)
     whole = HEAD + "1 alice object f\nend\n"
     for cut in ["", "1 ali", "1 alice object", "end"]:
         after.write_text(HEAD + "1 alice object f\n" + cut)
-        subprocess.run(["sh", "-e", "-c", lines], cwd=work, check=True)
-        check(f"the text that was cut within '{cut}'", after.read_text(), whole)
-    check("a policy again", script(after.read_text()), (0, whole))
+        subprocess.run(["sh", "-e", "-c", lines.replace("./nexus", shlex.quote(program))], cwd=work, check=True)
+        check(f"the text that was cut within '{cut}'", (work / "policy").read_text(), whole)
+    check("a policy again", script((work / "policy").read_text()), (0, whole))
 
 
 def play_why() -> None:

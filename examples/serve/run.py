@@ -426,7 +426,21 @@ def play_killed_service(delay: float) -> int:
             check("the lines of a session", mine, wanted[: len(mine)])
             session.close()
         check("the lines of nobody", len(whole), sum(line.startswith(f"{s.number} {s.name} ") for line in whole for s in sessions))
-        return sum(len(session.lines) for session in sessions)
+    play_restart(names, text, front + "".join(whole) + "end\n")
+    return sum(len(session.lines) for session in sessions)
+
+
+def play_restart(names: list[str], cut: str, whole: str) -> None:
+    """What a killed service had written is made a policy text again, from which a service starts that goes on behind it."""
+    recovered = subprocess.run([program, "recover"], input=cut.encode(), stdout=subprocess.PIPE, timeout=60)
+    check("what is recovered of a killed service", (recovered.returncode, recovered.stdout.decode()), (0, whole))
+    with Service(whole, 1, 1) as service:
+        session = Session(service.address, names[0])
+        at = whole.count("\n") - len(names) - 2
+        session.change("object later")
+        check("the first change behind a restart", list(session.lines), [at + 1])
+        session.close()
+        check("the end of a service that was started again", service.end()[0], 0)
 
 
 def play_kills() -> None:
@@ -501,11 +515,75 @@ def play_broken_output() -> None:
         process.wait()
 
 
+# The client of the program
+
+
+def talk(address: str, lines: str, output: IO[bytes] | int = subprocess.PIPE) -> tuple[int, str]:
+    """The status with which `client` ends, and what it writes."""
+    ended = subprocess.run([program, "client", address], input=lines.encode(), stdout=output, timeout=60)
+    return ended.returncode, (ended.stdout or b"").decode()
+
+
+def talk_when_ready(address: str, lines: str) -> tuple[int, str]:
+    """The same, once somebody listens there."""
+    for _ in range(500):
+        told = talk(address, lines)
+        if told[0] != 7:
+            return told
+        time.sleep(0.02)
+    return told
+
+
+def answer_with(data: bytes) -> tuple[str, threading.Thread]:
+    """The address of a peer that takes one connection, reads something, sends these bytes and closes it."""
+    taken = socket.create_server(("127.0.0.1", 0))
+
+    def answer() -> None:
+        link, _ = taken.accept()
+        with taken, link:
+            link.recv(1)
+            link.sendall(data)
+            link.shutdown(socket.SHUT_WR)
+            while link.recv(4096):
+                pass
+
+    thread = threading.Thread(target=answer)
+    thread.start()
+    return f"127.0.0.1:{taken.getsockname()[1]}", thread
+
+
+def play_client() -> None:
+    """The program's own client against a service, with the tour's request lines; and its other ends."""
+    with Service((FOLDER / "policy").read_text(), 1, 3) as service:
+        told = talk_when_ready(service.address, (FOLDER / "storage.requests").read_text())
+        check("what the storage service is told", told, (0, "welcome 1 0\ndone 1 0\ndone 2 0\ndone 3 3\ndone 4 0\n"))
+        told = talk(service.address, (FOLDER / "bob.requests").read_text())
+        check("what bob is told", told, (0, "welcome 2 4\ndenied 4 NoProof\ndone 5 0\nallowed 5 0 0\nallowed 5 1 0\n"))
+        with open("/dev/full", "wb") as full:
+            check("replies that cannot be written", talk(service.address, "hello bob bob-secret\n", full), (5, ""))
+        check("the end of a service of clients", service.end()[0], 0)
+    check("a line that is no request", talk("127.0.0.1:1", "hello bob pb\nhello\n"), (3, "refused line 2\n"))
+    check("nobody listens", talk(f"127.0.0.1:{free_port()}", "hello bob pb"), (7, ""))
+    welcome = bytes.fromhex("0000001141" + "0000000000000001" + "0000000000000000")
+    for what, data, lines, wanted in [
+        ("a reply", welcome, "hello bob pw", (0, "welcome 1 0\n")),
+        ("a part of a reply", welcome[:3], "hello bob pw", (9, "")),
+        ("one reply to two requests", welcome, "hello bob pw\nobject f\n", (9, "welcome 1 0\n")),
+        ("what is no reply", bytes.fromhex("0000000100"), "hello bob pw", (9, "")),
+    ]:
+        address, thread = answer_with(data)
+        check(what, talk(address, lines), wanted)
+        thread.join()
+    for words in [[], ["a", "b"], ["help"], ["-a"], [""], ["a b"]]:
+        ended = subprocess.run([program, "client", *words], input=b"", stdout=subprocess.PIPE, timeout=60)
+        check(f"the words client {words}", (ended.returncode, ended.stdout), (2, b""))
+
+
 def main() -> int:
     global program
     program = sys.argv[1]
     try:
-        for play in [play_day, play_killed_client, play_hostile, play_kills, play_statuses, play_broken_output]:
+        for play in [play_day, play_killed_client, play_hostile, play_kills, play_statuses, play_broken_output, play_client]:
             play()
     except Differs as differs:
         print(f"serve: {differs}")

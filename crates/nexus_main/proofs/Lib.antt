@@ -9,5 +9,9 @@ pub mod Only
 pub mod Programs
 pub mod Justified
 mod ScriptEnds
-mod TrustEnds
+mod Refusals
+mod AnswerEnds
+mod CoreEnds
+mod Commanded
 mod ServiceEnds
+mod ClientEnds

@@ -10,7 +10,8 @@ use Rattle.nexus_main.specs.declared.outcomes.Outcome.TheVariants.{Told, Refused
 use Rattle.run_streams.specs.Runs.{SinkRun, SourceRun, most_bytes}
 use Rattle.run_streams.proofs.ForCallers.{known_large, known_whole}
 use Rattle.nexus_main.specs.Outcomes.{IsOutcome, output_of, status_of}
-use Rattle.nexus_main.specs.Program.{Ends, told, source_failed, sink_failed, no_memory, IsComplete, IsOutcomeOf, IsRefusedInput, RefusesExactly, RunsCheck}
+use Rattle.nexus_main.specs.Program.{Ends, told, source_failed, sink_failed, no_memory, IsComplete, IsOutcomeOf, RunsCheck, check_form}
+use Rattle.nexus_main.specs.Refusals.{IsRefusedInput, RefusesExactly}
 use Rattle.nexus_main.specs.Inner.Ends.{Tells, whole, part, nothing}
 
 -- the outcome of a text that was read whole is that of what the source gave
@@ -71,21 +72,21 @@ ends_complete source sink status (sink_failed outcome e o s f g) = λ p q. absur
 ends_complete source sink status (no_memory e s f g) = λ p q. inl e
 
 -- the status of an outcome is 3 exactly where the input is refused
-refused_by : (text : List ℕ) (outcome : Outcome) → IsOutcome text outcome → (status_of outcome ≡ 3) ↔ IsRefusedInput text
+refused_by : (text : List ℕ) (outcome : Outcome) → IsOutcome text outcome → (status_of outcome ≡ 3) ↔ IsRefusedInput check_form text
 refused_by text TooLarge o = (λ e. inl o, λ r. refl)
-refused_by text (Refused k) o = (λ e. inr (λ form h. o.2 form h), λ r. refl)
+refused_by text (Refused k) o = (λ e. inr (λ has. o.2 has.0 has.1), λ r. refl)
 refused_by text (Told Allowed) o = (λ e. absurd (apart (status_of (Told Allowed)) 0 3 refl e refl), λ r. absurd (accepted r))
   where
-    accepted : IsRefusedInput text → ⊥
+    accepted : IsRefusedInput check_form text → ⊥
     accepted (inl large) = omega (arith, large, o.0)
-    accepted (inr none) = none o.1.0 o.1.1
+    accepted (inr none) = none (o.1.0, o.1.1)
 refused_by text (Told (Denied cause)) o = (λ e. absurd (apart (status_of (Told (Denied cause))) 1 3 refl e refl), λ r. absurd (accepted r))
   where
-    accepted : IsRefusedInput text → ⊥
+    accepted : IsRefusedInput check_form text → ⊥
     accepted (inl large) = omega (arith, large, o.0)
-    accepted (inr none) = none o.1.0 o.1.1
+    accepted (inr none) = none (o.1.0, o.1.1)
 
-ends_refuse : (source : SourceRun) (sink : SinkRun) (status : ℕ) → Ends source sink status → RefusesExactly source status
+ends_refuse : (source : SourceRun) (sink : SinkRun) (status : ℕ) → Ends source sink status → RefusesExactly check_form source status
 ends_refuse source sink status (told outcome e o s f g) = λ a b c. rw e (refused_by source.given outcome o.outcome_of_given)
 ends_refuse source sink status (source_failed e s f g) = λ a b c. absurd (a e)
 ends_refuse source sink status (sink_failed outcome e o s f g) = λ a b c. absurd (b e)

@@ -22,9 +22,11 @@ use Rattle.policy_script.specs.Inner.Reading.{IsWrongInput}
 use Rattle.run_streams.specs.Runs.{SinkRun, SourceRun, most_bytes}
 use Rattle.run_streams.proofs.ForCallers.{read_whole}
 use Rattle.nexus_main.specs.declared.outcomes.Outcome.{Outcome}
-use Rattle.nexus_main.specs.declared.outcomes.Outcome.TheVariants.{Told as ToldOutcome, Refused, TooLarge}
-use Rattle.nexus_main.specs.Outcomes.{output_of, status_of}
-use Rattle.nexus_main.specs.Scripts.{EndsScript, answered, cut_off, refused, refusal_cut_off, source_failed, unreached, no_memory, IsAnswered, IsCompleteScript, IsIdle, IsRefusal, IsRefusalOf, IsRefusedScript, IsScriptOf, PanelRun, RefusesScripts, RunsScript, panel_run}
+use Rattle.nexus_main.specs.declared.outcomes.Outcome.TheVariants.{Refused}
+use Rattle.nexus_main.specs.Outcomes.{output_of}
+use Rattle.nexus_main.specs.Refusals.{IsRefusal, IsRefusalOf, RefusesExactly}
+use Rattle.nexus_main.proofs.Refusals.{not_refused, refusal_status, refused_by}
+use Rattle.nexus_main.specs.Scripts.{EndsScript, answered, cut_off, refused, refusal_cut_off, source_failed, unreached, no_memory, IsAnswered, IsCompleteScript, IsIdle, IsScriptOf, PanelRun, RunsScript, panel_run, script_form}
 use Rattle.nexus_main.specs.Inner.Ends.{Tells, whole, part, nothing}
 use Rattle.nexus_main.specs.Inner.ScriptEnds.{script_of, AreAnswered, EndsReached, replied, replied_in_part, not_replied, EndsReplies, reached_and_replied, reached_and_replied_in_part, not_reached, reached_and_not_replied, EndsAnswers, answered as was_answered, cut_off as was_cut_off, unreached as was_unreached, no_memory as had_no_memory}
 use Rattle.nexus_main.proofs.Programs.{apart}
@@ -120,71 +122,46 @@ pub places : {text : List ℕ} {askings : List Asking} → AreAskings text askin
 places none = All-nil (λ (a : Asking). a.place < 64)
 places (next {asking = asking} {askings = askings} some line behind) = All-cons (λ (a : Asking). a.place < 64) asking askings line.place (places behind)
 
--- an input in its form, and one that is refused, as the source gave it
+-- an input in its form, as the source gave it
 pub script_given : (source : SourceRun) (left_now : Option (List ℕ)) (script : ScriptTree) (bytes : List ℕ) → source.known ≡ prepended source.given left_now → source.given ≡ bytes
     → IsTrue source.over → IsAtEnd left_now → IsScript bytes script → IsScriptOf source script
 script_given source left_now script bytes taken same over end form =
     record { form = subst (λ (b : List ℕ). IsScript b script) (sym same) form; whole = read_whole source left_now taken over end }
 
-pub refusal_given : (source : SourceRun) (left_now : Option (List ℕ)) (outcome : Outcome) (bytes : List ℕ) → source.known ≡ prepended source.given left_now → source.given ≡ bytes
-    → IsTrue source.over → IsAtEnd left_now → IsRefusal bytes outcome → IsRefusalOf source outcome
-refusal_given source left_now outcome bytes taken same over end refusal =
-    record { refusal = subst (λ (b : List ℕ). IsRefusal b outcome) (sym same) refusal; whole = λ small. read_whole source left_now taken over end }
-
-pub too_large : (source : SourceRun) → most_bytes < length source.given → IsRefusalOf source TooLarge
-too_large source large = record { refusal = large; whole = λ other. absurd (other refl) }
-
 -- a text in which a line is wrong is refused
 pub wrong_refusal : {text : List ℕ} {error : ScriptError} {k : ℕ} → error ≡ Wrong k → length text ≤ most_bytes → IsWrongInput text error
-    → (error ≢ Memory → (script : ScriptTree) → ¬ IsScript text script) → IsRefusal text (Refused k)
-wrong_refusal {text = text} {k = k} e small w no_form = (small, subst (IsWrongInput text) e w, no_form (λ m. cc (sym e ∙ m)))
-
--- the status of a refusal
-refusal_status : (text : List ℕ) (outcome : Outcome) → IsRefusal text outcome → status_of outcome ≡ 3
-refusal_status text TooLarge r = refl
-refusal_status text (Refused k) r = refl
-refusal_status text (ToldOutcome verdict) r = absurd r
+    → (error ≢ Memory → (script : ScriptTree) → ¬ IsScript text script) → IsRefusal script_form text (Refused k)
+wrong_refusal {text = text} {k = k} e small w no_form = (small, subst (IsWrongInput text) e w, λ has. no_form (λ m. cc (sym e ∙ m)) has.0 has.1)
 
 -- a refusal that was told ends the run
 pub refusal_ends : (source : SourceRun) (panel : PanelRun) (journal : Option History) (status : ℕ) (outcome : Outcome) (before now : List ℕ) (u v : ℕ)
-    → IsRefusalOf source outcome → source.faults_now ≡ source.faults → IsIdle panel → journal ≡ None → Tells outcome before now u v status
+    → IsRefusalOf script_form source outcome → source.faults_now ≡ source.faults → IsIdle panel → journal ≡ None → Tells outcome before now u v status
     → EndsScript source (record { sent = gained before now; faults = u; faults_now = v }) panel journal status
 refusal_ends source panel journal status outcome before now u v r still i j (whole e w f) =
-    refused outcome (e ∙ refusal_status source.given outcome r.refusal) r i j (gained-by before now (output_of outcome) w) still f
+    refused outcome (e ∙ refusal_status script_form source.given outcome r.refusal) r i j (gained-by before now (output_of outcome) w) still f
 refusal_ends source panel journal status outcome before now u v r still i j (part e w f) = refusal_cut_off outcome e r i j (w.0, w.1, gained-by before now _ w.2) still f
 refusal_ends source panel journal status outcome before now u v r still i j (nothing e w f) = no_memory e (rw w (gained-nothing before)) still f
-
--- what is refused of an input
-refused_by : (text : List ℕ) (outcome : Outcome) → IsRefusal text outcome → IsRefusedScript text
-refused_by text TooLarge r = inl r
-refused_by text (Refused k) r = inr r.2
-refused_by text (ToldOutcome verdict) r = absurd r
-
--- an input in its form is not refused
-not_refused : (text : List ℕ) (script : ScriptTree) → IsScript text script → IsRefusedScript text → ⊥
-not_refused text script s (inl large) = omega (arith, large, s.0)
-not_refused text script s (inr no_form) = no_form script s
 
 complete : (source : SourceRun) (sink : SinkRun) (panel : PanelRun) (journal : Option History) (status : ℕ) → EndsScript source sink panel journal status
     → IsCompleteScript source sink panel journal status
 complete source sink panel journal status (answered script e s a f g) = λ p q r form. inr (e, script, s, a)
 complete source sink panel journal status (cut_off script text e s a cut f g) = λ p q r form. absurd (q (rw g (omega arith)))
-complete source sink panel journal status (refused outcome e r i j s f g) = λ p q t form. absurd (form (refused_by source.given outcome r.refusal))
+complete source sink panel journal status (refused outcome e r i j s f g) = λ p q t form. absurd (form (refused_by script_form source.given outcome r.refusal))
 complete source sink panel journal status (refusal_cut_off outcome e r i j s f g) = λ p q t form. absurd (q (rw g (omega arith)))
 complete source sink panel journal status (source_failed e i j s f g) = λ p q r form. absurd (p (rw f (omega arith)))
 complete source sink panel journal status (unreached script e s u j n f g) = λ p q r form. absurd (r ((rw u.faults (omega arith)), u.asks))
 complete source sink panel journal status (no_memory e s f g) = λ p q r form. inl e
 
 refuses : (source : SourceRun) (sink : SinkRun) (panel : PanelRun) (journal : Option History) (status : ℕ) → EndsScript source sink panel journal status
-    → RefusesScripts source status
+    → RefusesExactly script_form source status
 refuses source sink panel journal status (answered script e s a f g) = λ x y z.
-    ((λ h. absurd (apart status 0 3 e h refl)), λ r. absurd (not_refused source.given script s.form r))
+    ((λ h. absurd (apart status 0 3 e h refl)), λ r. absurd (not_refused script_form source.given s.form.0 (script, s.form) r))
 refuses source sink panel journal status (cut_off script text e s a cut f g) = λ x y z. absurd (y e)
-refuses source sink panel journal status (refused outcome e r i j s f g) = λ x y z. ((λ h. refused_by source.given outcome r.refusal), λ h. e)
+refuses source sink panel journal status (refused outcome e r i j s f g) = λ x y z. ((λ h. refused_by script_form source.given outcome r.refusal), λ h. e)
 refuses source sink panel journal status (refusal_cut_off outcome e r i j s f g) = λ x y z. absurd (y e)
 refuses source sink panel journal status (source_failed e i j s f g) = λ x y z. absurd (x e)
 refuses source sink panel journal status (unreached script e s u j n f g) = λ x y z.
-    ((λ h. absurd (apart status 8 3 e h refl)), λ r. absurd (not_refused source.given script s.form r))
+    ((λ h. absurd (apart status 8 3 e h refl)), λ r. absurd (not_refused script_form source.given s.form.0 (script, s.form) r))
 refuses source sink panel journal status (no_memory e s f g) = λ x y z. absurd (z e)
 
 -- what ends a run of `script` is a run of `script`

@@ -1,8 +1,8 @@
 -- How the ends of a run of `serve` come from those of its parts.
-use Rattle.std.proofs.Common.{◌≡◌, ◌≢◌, ◌<◌, ◌≤◌, ◌+◌, ◌==◌, ◌⊎◌, inl, inr, ℕ, Bool, true, false, List, [], ◌∷◌, ◌++◌, length, Option, Some, None, IsTrue, refl, sym, ap, subst, ◌∙◌, arith}
+use Rattle.std.proofs.Common.{◌≡◌, ◌≢◌, ◌≤◌, ◌==◌, ◌⊎◌, inl, inr, ℕ, Bool, true, false, List, [], ◌∷◌, length, Option, Some, IsTrue, refl, sym, ap, subst, ◌∙◌, arith}
 use Rattle.std.proofs.lemmas.Bool.Decides.{Decides-eqb}
 use Rattle.std.specs.Io.KnownBytes.{IsAtEnd}
-use Rattle.nx_io.specs.Streams.{Rose, one_more, prepended}
+use Rattle.nx_io.specs.Streams.{Rose, prepended}
 use Rattle.policy_history.specs.declared.events.Entry.{Entry}
 use Rattle.policy_history.specs.declared.heads.Head.{Head}
 use Rattle.policy_history.specs.Events.{EntryTree}
@@ -18,13 +18,14 @@ use Rattle.nexus_serve.specs.Hosting.{AreReady, Hosts, Plan, served, status_of, 
 use Rattle.run_streams.specs.Runs.{SourceRun, most_bytes}
 use Rattle.run_streams.proofs.ForCallers.{read_whole}
 use Rattle.nexus_main.specs.declared.outcomes.Outcome.{Outcome}
-use Rattle.nexus_main.specs.declared.outcomes.Outcome.TheVariants.{Told as ToldOutcome, Refused, TooLarge}
+use Rattle.nexus_main.specs.declared.outcomes.Outcome.TheVariants.{Refused}
 use Rattle.nexus_main.specs.declared.service.PolicyTextError.{PolicyTextError}
 use Rattle.nexus_main.specs.declared.service.PolicyTextError.TheVariants.{Wrong as WrongText, Memory as TextMemory}
-use Rattle.nexus_main.specs.Outcomes.{output_of, status_of as outcome_status}
+use Rattle.nexus_main.specs.Refusals.{IsRefusal, IsRefusalOf, RefusesExactly}
+use Rattle.nexus_main.proofs.Refusals.{not_refused, refusal_status, refused_by}
 use Rattle.nexus_main.specs.Inner.Ends.{Tells, whole, part, nothing}
 use Rattle.nexus_main.specs.Inner.ServiceEnds.{IsWrongText}
-use Rattle.nexus_main.specs.Services.{EndedView, EndsService, IsCompleteService, IsPolicy, IsPolicyOf, IsPolicyRefusal, IsPolicyRefusalOf, IsRefusedPolicy, IsServedWhole, IsUnbegun, IsWrongPolicy, RefusesPolicies, RunsService, behind, hosted, hosted_of, in_policy, most_session, no_memory, refusal_cut_off, refused, source_failed}
+use Rattle.nexus_main.specs.Services.{EndedView, EndsService, IsCompleteService, IsPolicy, IsPolicyOf, IsServedWhole, IsUnbegun, IsWrongPolicy, RunsService, hosted, hosted_of, in_policy, most_session, no_memory, policy_form, refusal_cut_off, refused, source_failed}
 use Rattle.nexus_main.proofs.Programs.{apart}
 
 -- ---- The input
@@ -54,31 +55,9 @@ pub policy_given : (source : SourceRun) (left_now : Option (List ℕ)) (most : �
 policy_given source left_now most h es bytes taken same over end form =
     record { form = subst (λ (b : List ℕ). IsPolicy most b h es) (sym same) form; whole = read_whole source left_now taken over end }
 
-pub policy_refusal_given : (source : SourceRun) (left_now : Option (List ℕ)) (most : ℕ) (outcome : Outcome) (bytes : List ℕ) → source.known ≡ prepended source.given left_now → source.given ≡ bytes
-    → IsTrue source.over → IsAtEnd left_now → IsPolicyRefusal most bytes outcome → IsPolicyRefusalOf source most outcome
-policy_refusal_given source left_now most outcome bytes taken same over end is =
-    record { refusal = subst (λ (b : List ℕ). IsPolicyRefusal most b outcome) (sym same) is; whole = λ small. read_whole source left_now taken over end }
-
-pub policy_too_large : (source : SourceRun) (most : ℕ) → most_bytes < length source.given → IsPolicyRefusalOf source most TooLarge
-policy_too_large source most large = record { refusal = large; whole = λ other. absurd (other refl) }
-
 pub wrong_policy : {most : ℕ} {text : List ℕ} {error : PolicyTextError} {k : ℕ} → error ≡ WrongText k → length text ≤ most_bytes → IsWrongText most text error
-    → (error ≢ TextMemory → (h : Head) (es : List EntryTree) → ¬ IsPolicy most text h es) → IsPolicyRefusal most text (Refused k)
-wrong_policy {most = most} {text = text} {k = k} e small w no_form = (small, subst (IsWrongText most text) e w, no_form (λ m. cc (sym e ∙ m)))
-
-policy_refusal_status : (most : ℕ) (text : List ℕ) (outcome : Outcome) → IsPolicyRefusal most text outcome → outcome_status outcome ≡ 3
-policy_refusal_status most text TooLarge r = refl
-policy_refusal_status most text (Refused k) r = refl
-policy_refusal_status most text (ToldOutcome verdict) r = absurd r
-
-policy_refused_by : (most : ℕ) (text : List ℕ) (outcome : Outcome) → IsPolicyRefusal most text outcome → IsRefusedPolicy most text
-policy_refused_by most text TooLarge r = inl r
-policy_refused_by most text (Refused k) r = inr r.2
-policy_refused_by most text (ToldOutcome verdict) r = absurd r
-
-policy_not_refused : (most : ℕ) (text : List ℕ) (h : Head) (es : List EntryTree) → IsPolicy most text h es → IsRefusedPolicy most text → ⊥
-policy_not_refused most text h es is (inl large) = let small = is.0 in omega (arith, large, small)
-policy_not_refused most text h es is (inr no_form) = no_form h es is
+    → (error ≢ TextMemory → (h : Head) (es : List EntryTree) → ¬ IsPolicy most text h es) → IsRefusal (policy_form most) text (Refused k)
+wrong_policy {most = most} {text = text} {k = k} e small w no_form = (small, subst (IsWrongText most text) e w, λ has. no_form (λ m. cc (sym e ∙ m)) has.0 has.1 has.2)
 
 -- ---- The statuses of a service
 
@@ -98,10 +77,10 @@ never_three false Memory e = apart (status_of false Memory) 6 3 refl e refl
 
 module _ {P : Type 0} (panel : P → PanelView) (plan : Plan) (source : SourceRun) (sink : SinkView) (door : DoorView) (asked : P) (ended : EndedView P) where
   -- a refusal that was told
-  pub policy_refusal_ends : (outcome : Outcome) (sink_now : SinkView) → IsPolicyRefusalOf source (most_session plan) outcome → source.faults_now ≡ source.faults → IsUnbegun door asked ended
+  pub policy_refusal_ends : (outcome : Outcome) (sink_now : SinkView) → IsRefusalOf (policy_form (most_session plan)) source outcome → source.faults_now ≡ source.faults → IsUnbegun door asked ended
       → ended.output ≡ Some sink_now → Tells outcome sink.sent sink_now.sent sink.faults sink_now.faults ended.status → EndsService panel plan source sink door asked ended
   policy_refusal_ends outcome sink_now r still idle output (whole e w f) =
-      refused outcome sink_now (e ∙ policy_refusal_status (most_session plan) source.given outcome r.refusal) r idle output w still f
+      refused outcome sink_now (e ∙ refusal_status (policy_form (most_session plan)) source.given outcome r.refusal) r idle output w still f
   policy_refusal_ends outcome sink_now r still idle output (part e w f) = refusal_cut_off outcome sink_now e r idle output w still f
   policy_refusal_ends outcome sink_now r still idle output (nothing e w f) =
       let same : sink_now ≡ sink = ap (λ s. record { sent = s; faults = sink_now.faults }) w ∙ ap (λ n. record { sent = sink.sent; faults = n }) f in
@@ -142,12 +121,12 @@ module _ {P : Type 0} (panel : P → PanelView) (plan : Plan) (source : SourceRu
       → Hosts panel plan head opening sink door asked (hosted_of ended written end) → (ended.status ≡ 6) ⊎ IsServedWhole panel plan source sink door asked ended
   complete_hosts sunk shut down head opening written end policy (served ds ps ready serves status) = complete_serves sunk head opening written end policy ds ps ready status serves
   complete_hosts sunk shut down head opening written end policy (unreached status idle d s a rose) = absurd (down rose)
-  complete_hosts sunk shut down head opening written end policy (unheard status idle reached rose) = absurd (shut rose)
-  complete_hosts sunk shut down head opening written end policy (unready status idle) = inl status
+  complete_hosts sunk shut down head opening written end policy (unheard status idle reached failed) = absurd (shut failed.faults)
+  complete_hosts sunk shut down head opening written end policy (unready status idle reached held) = inl status
 
   complete : EndsService panel plan source sink door asked ended → IsCompleteService panel plan source sink door asked ended
   complete (hosted h es written end policy still hosts) = λ p q r s form. complete_hosts q r s h es written end policy hosts
-  complete (refused outcome sink_now e r idle output sent f g) = λ p q u v form. absurd (form (policy_refused_by (most_session plan) source.given outcome r.refusal))
+  complete (refused outcome sink_now e r idle output sent f g) = λ p q u v form. absurd (form (refused_by (policy_form (most_session plan)) source.given outcome r.refusal))
   complete (refusal_cut_off outcome sink_now e r idle output sent f g) = λ p q u v form. absurd (q sink_now output (rw g (omega arith)))
   complete (source_failed e idle output f) = λ p q u v form. absurd (p (rw f (omega arith)))
   complete (no_memory e idle output f) = λ p q u v form. inl e
@@ -155,13 +134,13 @@ module _ {P : Type 0} (panel : P → PanelView) (plan : Plan) (source : SourceRu
   not_three : (h : Head) (opening : List Entry) (written : Bool) (end : ServeEnd) → Hosts panel plan h opening sink door asked (hosted_of ended written end) → ended.status ≡ 3 → ⊥
   not_three h opening written end (served ds ps ready serves status) e = never_three written end (sym status ∙ e)
   not_three h opening written end (unreached status idle d s a rose) e = apart ended.status 8 3 status e refl
-  not_three h opening written end (unheard status idle reached rose) e = apart ended.status 7 3 status e refl
-  not_three h opening written end (unready status idle) e = apart ended.status 6 3 status e refl
+  not_three h opening written end (unheard status idle reached failed) e = apart ended.status 7 3 status e refl
+  not_three h opening written end (unready status idle reached held) e = apart ended.status 6 3 status e refl
 
-  refuses : EndsService panel plan source sink door asked ended → RefusesPolicies plan source ended.status
+  refuses : EndsService panel plan source sink door asked ended → RefusesExactly (policy_form (most_session plan)) source ended.status
   refuses (hosted h opening written end policy still hosts) = λ x y z.
-      ((λ three. absurd (not_three h opening written end hosts three)), λ r. absurd (policy_not_refused (most_session plan) source.given h (entry_trees opening) policy.form r))
-  refuses (refused outcome sink_now e r idle output sent f g) = λ x y z. ((λ three. policy_refused_by (most_session plan) source.given outcome r.refusal), λ is. e)
+      ((λ three. absurd (not_three h opening written end hosts three)), λ r. absurd (not_refused (policy_form (most_session plan)) source.given policy.form.0 (h, entry_trees opening, policy.form) r))
+  refuses (refused outcome sink_now e r idle output sent f g) = λ x y z. ((λ three. refused_by (policy_form (most_session plan)) source.given outcome r.refusal), λ is. e)
   refuses (refusal_cut_off outcome sink_now e r idle output sent f g) = λ x y z. absurd (y e)
   refuses (source_failed e idle output f) = λ x y z. absurd (x e)
   refuses (no_memory e idle output f) = λ x y z. absurd (z e)
@@ -169,3 +148,17 @@ module _ {P : Type 0} (panel : P → PanelView) (plan : Plan) (source : SourceRu
   -- what ends a run of `serve` is a run of `serve`
   pub runs_service : EndsService panel plan source sink door asked ended → RunsService panel plan source sink door asked ended
   runs_service e = record { ends = e; complete = complete e; refuses = refuses e }
+
+  -- the panel that is handed back was asked nothing: its shares were
+  hosts_said : (h : Head) (opening : List Entry) (written : Bool) (end : ServeEnd) → Hosts panel plan h opening sink door asked (hosted_of ended written end) → (panel ended.panel).said ≡ (panel asked).said
+  hosts_said h opening written end (served ds ps ready serves status) = ready.reached.said
+  hosts_said h opening written end (unreached status idle d s a rose) = s
+  hosts_said h opening written end (unheard status idle reached failed) = reached.said
+  hosts_said h opening written end (unready status idle reached held) = reached.said
+
+  pub service_said : EndsService panel plan source sink door asked ended → (panel ended.panel).said ≡ (panel asked).said
+  service_said (hosted h es written end policy still hosts) = hosts_said h es written end hosts
+  service_said (refused outcome sink_now e r idle output sent f g) = ap (λ p. (panel p).said) idle.panel_is
+  service_said (refusal_cut_off outcome sink_now e r idle output sent f g) = ap (λ p. (panel p).said) idle.panel_is
+  service_said (source_failed e idle output f) = ap (λ p. (panel p).said) idle.panel_is
+  service_said (no_memory e idle output f) = ap (λ p. (panel p).said) idle.panel_is

@@ -1,5 +1,5 @@
 -- The words of a call, as bytes and as texts.
-use Rattle.std.proofs.Common.{◌≡◌, ◌≢◌, ◌<◌, ◌^◌, ◌++◌, ◌+◌, ℕ, Bool, true, false, IsTrue, List, [], ◌∷◌, map, take, length, get_or, refl, sym, ap, subst, ◌∙◌, codes, arith}
+use Rattle.std.proofs.Common.{◌≡◌, ◌<◌, ◌^◌, ◌++◌, ◌+◌, ℕ, Bool, true, false, IsTrue, List, [], ◌∷◌, map, take, length, get_or, inl, inr, refl, sym, ap, subst, ◌∙◌, codes, arith}
 use Rattle.std.proofs.lemmas.List.{take_more, length-map, map-append, get_or-map}
 use Rattle.std.proofs.lemmas.List.Elements.{All-cons, All-get_or, All-nil}
 use Rattle.std.specs.List.{All}
@@ -11,7 +11,9 @@ use Rattle.std.proofs.lemmas.Str.Ascii.{IsAscii-from_all}
 use Rattle.std.specs.List.{list_all}
 use Rattle.std.specs.Prelude.{nat_le, ◌&&◌}
 use Rattle.nal_term.specs.Secrets.{is_secret_byte}
-use Rattle.nexus_main.specs.Commands.{IsAddress, IsLoad, IsService, check_words, core_words, most_steps, script_words, serve_words, trust_words}
+use Rattle.nexus_main.specs.Commands.{IsAddress, IsCommand, IsLoad, IsService, IsWithin, check_words, client_words, command_words, core_words, prove_words, recover_words, script_words, serve_words, trust_words}
+use Rattle.nexus_main.specs.declared.commands.Command.{Command}
+use Rattle.nexus_main.specs.declared.commands.Command.TheVariants.{Check, Script, Core, Trust, Prove, Recover}
 
 -- one text more
 pub next_text : {T W : Type 0} (f : T → List ℕ) (g : W → List ℕ) (ts us : List T) (ws : List W) (t : T) (w : W) (k : ℕ) → map f ts ≡ take k (map g ws)
@@ -33,6 +35,14 @@ script_words_are_texts = All-cons IsUtf8 (codes "script") [] (codes "script", (r
 trust_words_are_texts : All IsUtf8 trust_words
 unfolding lib.Utf8.encode
 trust_words_are_texts = All-cons IsUtf8 (codes "trust") [] (codes "trust", (refl, refl)) (All-nil IsUtf8)
+
+prove_words_are_texts : All IsUtf8 prove_words
+unfolding lib.Utf8.encode
+prove_words_are_texts = All-cons IsUtf8 (codes "prove") [] (codes "prove", (refl, refl)) (All-nil IsUtf8)
+
+recover_words_are_texts : All IsUtf8 recover_words
+unfolding lib.Utf8.encode
+recover_words_are_texts = All-cons IsUtf8 (codes "recover") [] (codes "recover", (refl, refl)) (All-nil IsUtf8)
 
 core_is_text : IsUtf8 (codes "core")
 unfolding lib.Utf8.encode
@@ -128,19 +138,6 @@ pub not_so : (b : Bool) → b ≡ false → IsTrue b → ⊥
 not_so true other is = cc other
 not_so false other is = cc is
 
--- words that are not all texts are not those of a command
-pub not_check : (words : List (List ℕ)) → (All IsUtf8 words → ⊥) → words ≢ check_words
-not_check words n e = n (rw e check_words_are_texts)
-
-pub not_script : (words : List (List ℕ)) → (All IsUtf8 words → ⊥) → words ≢ script_words
-not_script words n e = n (rw e script_words_are_texts)
-
-pub not_trust : (words : List (List ℕ)) → (All IsUtf8 words → ⊥) → words ≢ trust_words
-not_trust words n e = n (rw e trust_words_are_texts)
-
-pub not_core : (words : List (List ℕ)) (number steps : ℕ) → (All IsUtf8 words → ⊥) → IsLoad number steps → words ≢ core_words number steps
-not_core words number steps n within e = n (rw e (core_words_are_texts number steps within))
-
 -- a word that is no text is not among texts
 pub not_all_texts : {W : Type 0} (g : W → List ℕ) (ws : List W) (w : W) (k : ℕ) → k < length ws → w ≡ get_or ws k w → (IsUtf8 (g w) → ⊥) → All IsUtf8 (map g ws) → ⊥
 not_all_texts g ws w k room at n all =
@@ -148,5 +145,24 @@ not_all_texts g ws w k room at n all =
     let item : get_or (map g ws) k (g w) ≡ g w = get_or-map g ws k w (g w) room ∙ ap g (sym at) in
     n (subst IsUtf8 item (All-get_or IsUtf8 (map g ws) k (g w) within all))
 
-pub not_serve : (words : List (List ℕ)) (address : List ℕ) (workers sessions : ℕ) → (All IsUtf8 words → ⊥) → IsService address workers sessions → words ≢ serve_words address workers sessions
-not_serve words address workers sessions n within e = n (rw e (serve_words_are_texts address workers sessions within))
+plain_is_text : (command : Command) → IsWithin command → All IsUtf8 (command_words command)
+plain_is_text Check within = check_words_are_texts
+plain_is_text Script within = script_words_are_texts
+plain_is_text Trust within = trust_words_are_texts
+plain_is_text Prove within = prove_words_are_texts
+plain_is_text Recover within = recover_words_are_texts
+plain_is_text (Core number steps) within = core_words_are_texts number steps within
+
+client_is_text : IsUtf8 (codes "client")
+unfolding lib.Utf8.encode
+client_is_text = (codes "client", (refl, refl))
+
+client_words_are_texts : (address : List ℕ) → IsAddress address → All IsUtf8 (client_words address)
+client_words_are_texts address is =
+    All-cons IsUtf8 (codes "client") (address ∷ []) client_is_text (All-cons IsUtf8 address [] (address_is_text address is) (All-nil IsUtf8))
+
+-- words that are not all texts are not those of a command
+pub not_command : (words : List (List ℕ)) → (All IsUtf8 words → ⊥) → IsCommand words → ⊥
+not_command words n (inl (command, within, e)) = n (rw e (plain_is_text command within))
+not_command words n (inr (inl (address, workers, sessions, within, e))) = n (rw e (serve_words_are_texts address workers sessions within))
+not_command words n (inr (inr (address, is, e))) = n (rw e (client_words_are_texts address is))

@@ -3,7 +3,7 @@ use Rattle.std.specs.Prelude.{◌≡◌, ◌≢◌, ◌<◌, ◌≤◌, ◌^◌,
 use Rattle.std.specs.Fmt.{decimal}
 use Rattle.nal_term.specs.Secrets.{IsSecret}
 use Rattle.nexus_main.specs.declared.commands.Command.{Command}
-use Rattle.nexus_main.specs.declared.commands.Command.TheVariants.{Check, Script, Core, Trust}
+use Rattle.nexus_main.specs.declared.commands.Command.TheVariants.{Check, Script, Core, Trust, Prove, Recover}
 
 abbrev pub check_words : List (List ℕ)
 check_words = codes "check" ∷ []
@@ -13,6 +13,12 @@ script_words = codes "script" ∷ []
 
 abbrev pub trust_words : List (List ℕ)
 trust_words = codes "trust" ∷ []
+
+abbrev pub prove_words : List (List ℕ)
+prove_words = codes "prove" ∷ []
+
+abbrev pub recover_words : List (List ℕ)
+recover_words = codes "recover" ∷ []
 
 -- a number from which a load is drawn, and how many steps it has
 abbrev pub core_words : ℕ → ℕ → List (List ℕ)
@@ -32,6 +38,8 @@ abbrev pub command_words : Command → List (List ℕ)
 command_words Check = check_words
 command_words Script = script_words
 command_words Trust = trust_words
+command_words Prove = prove_words
+command_words Recover = recover_words
 command_words (Core number steps) = core_words number steps
 
 -- the numbers of a command, if it has some, are within their bounds
@@ -63,6 +71,14 @@ pub record IsService (address : List ℕ) (workers sessions : ℕ) : Type 0 wher
 abbrev pub IsServiceCall : List (List ℕ) → Type 0
 IsServiceCall words = (address : List ℕ) × (workers : ℕ) × (sessions : ℕ) × IsService address workers sessions × (words ≡ serve_words address workers sessions)
 
+-- where the service is that a client talks to
+abbrev pub client_words : List ℕ → List (List ℕ)
+client_words address = codes "client" ∷ address ∷ []
+
+-- the words are those of a client
+abbrev pub IsClientCall : List (List ℕ) → Type 0
+IsClientCall words = (address : List ℕ) × IsAddress address × (words ≡ client_words address)
+
 -- the words are those of a command
 abbrev pub IsCommand : List (List ℕ) → Type 0
-IsCommand words = IsPlain words ⊎ IsServiceCall words
+IsCommand words = IsPlain words ⊎ IsServiceCall words ⊎ IsClientCall words

@@ -4,5 +4,5 @@ pub mod Forms
 pub mod Hashes
 pub mod Support
 pub mod ScriptEnds
-pub mod TrustEnds
+pub mod Answering
 pub mod ServiceEnds

@@ -7,5 +7,11 @@ pub mod Program
 pub mod Inner
 pub mod Scripts
 pub mod Cores
+pub mod Refusals
+pub mod Answers
 pub mod Trusts
+pub mod Proves
+pub mod Recovers
 pub mod Services
+pub mod Commanded
+pub mod Clients

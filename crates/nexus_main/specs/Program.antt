@@ -1,11 +1,16 @@
 -- How a run of `check` ends: the status, what the source gave, and what was written.
-use Rattle.std.specs.Prelude.{◌≡◌, ◌≢◌, ◌<◌, ◌↔◌, ◌⊎◌, ℕ, List, [], length, Some}
+use Rattle.std.specs.Prelude.{◌≡◌, ◌≢◌, ◌⊎◌, ℕ, List, [], Some}
 use Rattle.nx_io.specs.Streams.{Rose, one_more}
-use Rattle.run_streams.specs.Runs.{IsProperPart, IsReadWhole, SinkRun, SourceRun, most_bytes}
+use Rattle.run_streams.specs.Runs.{IsProperPart, IsReadWhole, SinkRun, SourceRun}
 use Rattle.nexus_main.specs.declared.outcomes.Outcome.{Outcome}
 use Rattle.nexus_main.specs.declared.outcomes.Outcome.TheVariants.{TooLarge}
-use Rattle.nexus_main.specs.CheckForm.{CheckForm, IsCheckForm}
+use Rattle.nexus_main.specs.CheckForm.{CheckForm, IsCheckForm, IsWrongAt}
+use Rattle.nexus_main.specs.Refusals.{Form, RefusesExactly, form_of}
 use Rattle.nexus_main.specs.Outcomes.{IsOutcome, output_of, status_of}
+
+-- the form of the inputs of `check`
+abbrev pub check_form : Form
+check_form = form_of (λ text. (form : CheckForm) × IsCheckForm text form) IsWrongAt
 
 -- the outcome is that of the bytes that the source gave, and it gave all, but for an input that is too large
 pub record IsOutcomeOf (source : SourceRun) (outcome : Outcome) : Type 0 where
@@ -30,16 +35,8 @@ IsComplete source sink status =
     ¬ Rose source.faults source.faults_now → ¬ Rose sink.faults sink.faults_now
     → (status ≡ 6) ⊎ ((outcome : Outcome) × IsOutcome source.given outcome × (status ≡ status_of outcome) × (sink.sent ≡ output_of outcome))
 
--- an input that is refused: it is too large, or has not the form
-abbrev pub IsRefusedInput : List ℕ → Type 0
-IsRefusedInput text = (most_bytes < length text) ⊎ ((form : CheckForm) → ¬ IsCheckForm text form)
-
--- the status is 3 exactly where the input is refused, unless a stream failed or there was no memory
-abbrev pub RefusesExactly : SourceRun → ℕ → Type 0
-RefusesExactly source status = status ≢ 4 → status ≢ 5 → status ≢ 6 → (status ≡ 3) ↔ IsRefusedInput source.given
-
 -- a run of `check`
 pub record RunsCheck (source : SourceRun) (sink : SinkRun) (status : ℕ) : Type 0 where
   pub ends : Ends source sink status
   pub complete : IsComplete source sink status
-  pub refuses : RefusesExactly source status
+  pub refuses : RefusesExactly check_form source status

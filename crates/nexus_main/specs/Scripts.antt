@@ -1,6 +1,6 @@
 -- How a run of `script` ends: the status, what the source gave, what authorities were asked, the journal that is handed
 -- back, and what was written.
-use Rattle.std.specs.Prelude.{◌≡◌, ◌≢◌, ◌+◌, ◌⊎◌, ◌↔◌, ◌<◌, ◌≤◌, ℕ, List, [], length, Option, Some, None}
+use Rattle.std.specs.Prelude.{◌≡◌, ◌+◌, ◌⊎◌, ℕ, List, [], Option, Some, None}
 use Rattle.nx_io.specs.Streams.{Rose, gained, one_more}
 use Rattle.policy_history.specs.declared.heads.Head.{Head}
 use Rattle.policy_history.specs.Events.{EntryTree}
@@ -12,10 +12,10 @@ use Rattle.session_core.specs.Reaching.{reached_all}
 use Rattle.session_core.specs.Sessions.{Point, Told1, at_start, faults_after_replies}
 use Rattle.policy_script.specs.ScriptForm.{IsScript, IsWrongScript, ScriptTree}
 use Rattle.policy_script.specs.ScriptText.{script_text}
-use Rattle.run_streams.specs.Runs.{IsProperPart, IsReadWhole, SinkRun, SourceRun, most_bytes}
+use Rattle.run_streams.specs.Runs.{IsProperPart, IsReadWhole, SinkRun, SourceRun}
 use Rattle.nexus_main.specs.declared.outcomes.Outcome.{Outcome}
-use Rattle.nexus_main.specs.declared.outcomes.Outcome.TheVariants.{Told as ToldOutcome, Refused, TooLarge}
 use Rattle.nexus_main.specs.Outcomes.{output_of}
+use Rattle.nexus_main.specs.Refusals.{Form, IsRefusalOf, IsRefusedInput, RefusesExactly, form_of}
 
 -- a panel in a run: what it was asked, and its counts and addresses, before and after
 pub record PanelRun : Type 0 where
@@ -57,17 +57,11 @@ pub record IsAnswered (script : ScriptTree) (panel : PanelRun) (journal : Option
   pub asks : panel.asks_now ≡ asks_after panel.said panel.asks
   pub faults : panel.faults_now ≡ faults_after_replies replies panel.faults
 
--- what is written of an input that is refused: it is too large, or this line is the lowest that is wrong
-abbrev pub IsRefusal : List ℕ → Outcome → Type 0
-IsRefusal text TooLarge = most_bytes < length text
-IsRefusal text (Refused k) = (length text ≤ most_bytes) × IsWrongScript text k × ((script : ScriptTree) → ¬ IsScript text script)
-IsRefusal text (ToldOutcome verdict) = ⊥
+-- the form of a script's inputs
+abbrev pub script_form : Form
+script_form = form_of (λ text. (script : ScriptTree) × IsScript text script) IsWrongScript
 
--- the input is the bytes that the source gave, and it gave all, but for an input that is too large
-pub record IsRefusalOf (source : SourceRun) (outcome : Outcome) : Type 0 where
-  pub refusal : IsRefusal source.given outcome
-  pub whole : outcome ≢ TooLarge → IsReadWhole source
-
+-- the input is that of this script
 pub record IsScriptOf (source : SourceRun) (script : ScriptTree) : Type 0 where
   pub form : IsScript source.given script
   pub whole : IsReadWhole source
@@ -93,9 +87,9 @@ pub data EndsScript (source : SourceRun) (sink : SinkRun) (panel : PanelRun) (jo
       → source.faults_now ≡ source.faults → sink.faults_now ≡ sink.faults → EndsScript source sink panel journal status
   cut_off : (script : ScriptTree) (text : List ℕ) → status ≡ 5 → IsScriptOf source script → IsAnswered script panel journal text → IsProperPart sink.sent text
       → source.faults_now ≡ source.faults → sink.faults_now ≡ one_more sink.faults → EndsScript source sink panel journal status
-  refused : (outcome : Outcome) → status ≡ 3 → IsRefusalOf source outcome → IsIdle panel → journal ≡ None → sink.sent ≡ output_of outcome
+  refused : (outcome : Outcome) → status ≡ 3 → IsRefusalOf script_form source outcome → IsIdle panel → journal ≡ None → sink.sent ≡ output_of outcome
       → source.faults_now ≡ source.faults → sink.faults_now ≡ sink.faults → EndsScript source sink panel journal status
-  refusal_cut_off : (outcome : Outcome) → status ≡ 5 → IsRefusalOf source outcome → IsIdle panel → journal ≡ None → IsProperPart sink.sent (output_of outcome)
+  refusal_cut_off : (outcome : Outcome) → status ≡ 5 → IsRefusalOf script_form source outcome → IsIdle panel → journal ≡ None → IsProperPart sink.sent (output_of outcome)
       → source.faults_now ≡ source.faults → sink.faults_now ≡ one_more sink.faults → EndsScript source sink panel journal status
   source_failed : status ≡ 4 → IsIdle panel → journal ≡ None → sink.sent ≡ []
       → source.faults_now ≡ one_more source.faults → sink.faults_now ≡ sink.faults → EndsScript source sink panel journal status
@@ -103,24 +97,16 @@ pub data EndsScript (source : SourceRun) (sink : SinkRun) (panel : PanelRun) (jo
       → source.faults_now ≡ source.faults → sink.faults_now ≡ sink.faults → EndsScript source sink panel journal status
   no_memory : status ≡ 6 → sink.sent ≡ [] → source.faults_now ≡ source.faults → sink.faults_now ≡ sink.faults → EndsScript source sink panel journal status
 
--- an input that is refused: it is too large, or has not the form
-abbrev pub IsRefusedScript : List ℕ → Type 0
-IsRefusedScript text = (most_bytes < length text) ⊎ ((script : ScriptTree) → ¬ IsScript text script)
-
 -- Where neither the source nor the sink failed, and the panel did not before it was asked, an input that is not refused is
 -- answered whole, or there was no memory.
 abbrev pub IsCompleteScript : SourceRun → SinkRun → PanelRun → Option History → ℕ → Type 0
 IsCompleteScript source sink panel journal status =
     ¬ Rose source.faults source.faults_now → ¬ Rose sink.faults sink.faults_now → ¬ (Rose panel.faults panel.faults_now × (panel.asks_now ≡ panel.asks))
-    → ¬ IsRefusedScript source.given
+    → ¬ IsRefusedInput script_form source.given
     → (status ≡ 6) ⊎ ((status ≡ 0) × (script : ScriptTree) × IsScriptOf source script × IsAnswered script panel journal sink.sent)
-
--- the status is 3 exactly where the input is refused, unless a stream failed or there was no memory
-abbrev pub RefusesScripts : SourceRun → ℕ → Type 0
-RefusesScripts source status = status ≢ 4 → status ≢ 5 → status ≢ 6 → (status ≡ 3) ↔ IsRefusedScript source.given
 
 -- a run of `script`
 pub record RunsScript (source : SourceRun) (sink : SinkRun) (panel : PanelRun) (journal : Option History) (status : ℕ) : Type 0 where
   pub ends : EndsScript source sink panel journal status
   pub complete : IsCompleteScript source sink panel journal status
-  pub refuses : RefusesScripts source status
+  pub refuses : RefusesExactly script_form source status

@@ -1,5 +1,5 @@
 -- How a run of `serve` ends: the status, what the source gave, what is handed back, and what was written.
-use Rattle.std.specs.Prelude.{◌≡◌, ◌≢◌, ◌*◌, ◌+◌, ◌-◌, ◌^◌, ◌⊎◌, ◌↔◌, ◌<◌, ◌≤◌, ℕ, List, [], length, Bool, true, Option, Some, None}
+use Rattle.std.specs.Prelude.{◌≡◌, ◌≢◌, ◌*◌, ◌+◌, ◌-◌, ◌^◌, ◌⊎◌, ◌≤◌, ℕ, List, [], length, Bool, true, Option, Some, None}
 use Rattle.nx_io.specs.Streams.{Rose, Sends, SendsPart, one_more}
 use Rattle.policy_history.specs.declared.events.Entry.{Entry}
 use Rattle.policy_history.specs.declared.heads.Head.{Head}
@@ -12,8 +12,8 @@ use Rattle.nexus_serve.specs.Services.{Serves, SinkView}
 use Rattle.nexus_serve.specs.Hosting.{AreReady, HostedView, Hosts, Plan, status_of}
 use Rattle.run_streams.specs.Runs.{IsReadWhole, SourceRun, most_bytes}
 use Rattle.nexus_main.specs.declared.outcomes.Outcome.{Outcome}
-use Rattle.nexus_main.specs.declared.outcomes.Outcome.TheVariants.{Told as ToldOutcome, Refused, TooLarge}
 use Rattle.nexus_main.specs.Outcomes.{output_of}
+use Rattle.nexus_main.specs.Refusals.{Form, IsRefusalOf, IsRefusedInput, RefusesExactly, form_of}
 
 -- it is handed back, and this holds of it
 abbrev pub HandsBack : {K : Type 0} → Option K → (K → Type 0) → Type 0
@@ -33,20 +33,14 @@ pub data IsWrongPolicy (most : ℕ) (text : List ℕ) (k : ℕ) : Type 0 where
   in_policy : IsWrongFront most text k → IsWrongPolicy most text k
   behind : {n : ℕ} {h : Head} {es : List EntryTree} {rest : List ℕ} → IsFront most text h es n rest → rest ≢ [] → k ≡ n + 1 → IsWrongPolicy most text k
 
--- what is written of an input that is refused: it is too large, or this line is the lowest that is wrong
-abbrev pub IsPolicyRefusal : ℕ → List ℕ → Outcome → Type 0
-IsPolicyRefusal most text TooLarge = most_bytes < length text
-IsPolicyRefusal most text (Refused k) = (length text ≤ most_bytes) × IsWrongPolicy most text k × ((h : Head) (es : List EntryTree) → ¬ IsPolicy most text h es)
-IsPolicyRefusal most text (ToldOutcome verdict) = ⊥
+-- the form of the policies in which no session has a greater number than this
+abbrev pub policy_form : ℕ → Form
+policy_form most = form_of (λ text. (h : Head) × (es : List EntryTree) × IsPolicy most text h es) (IsWrongPolicy most)
 
--- the input is the bytes that the source gave, and it gave all, but for an input that is too large
+-- the input is that of this policy
 pub record IsPolicyOf (source : SourceRun) (most : ℕ) (h : Head) (es : List EntryTree) : Type 0 where
   pub form : IsPolicy most source.given h es
   pub whole : IsReadWhole source
-
-pub record IsPolicyRefusalOf (source : SourceRun) (most : ℕ) (outcome : Outcome) : Type 0 where
-  pub refusal : IsPolicyRefusal most source.given outcome
-  pub whole : outcome ≢ TooLarge → IsReadWhole source
 
 -- what the program hands back behind a service
 pub record EndedView (P : Type 0) : Type 0 where
@@ -90,18 +84,14 @@ pub record IsUnbegun {P : Type 0} (door : DoorView) (panel : P) (ended : EndedVi
 pub data EndsService {P : Type 0} (panel : P → PanelView) (plan : Plan) (source : SourceRun) (sink : SinkView) (door : DoorView) (asked : P) (ended : EndedView P) : Type 0 where
   hosted : (h : Head) (opening : List Entry) (written : Bool) (end : ServeEnd) → IsPolicyOf source (most_session plan) h (entry_trees opening) → source.faults_now ≡ source.faults
       → Hosts panel plan h opening sink door asked (hosted_of ended written end) → EndsService panel plan source sink door asked ended
-  refused : (outcome : Outcome) (sink_now : SinkView) → ended.status ≡ 3 → IsPolicyRefusalOf source (most_session plan) outcome → IsUnbegun door asked ended
+  refused : (outcome : Outcome) (sink_now : SinkView) → ended.status ≡ 3 → IsRefusalOf (policy_form (most_session plan)) source outcome → IsUnbegun door asked ended
       → ended.output ≡ Some sink_now → Sends sink.sent sink_now.sent (output_of outcome) → source.faults_now ≡ source.faults → sink_now.faults ≡ sink.faults
       → EndsService panel plan source sink door asked ended
-  refusal_cut_off : (outcome : Outcome) (sink_now : SinkView) → ended.status ≡ 5 → IsPolicyRefusalOf source (most_session plan) outcome → IsUnbegun door asked ended
+  refusal_cut_off : (outcome : Outcome) (sink_now : SinkView) → ended.status ≡ 5 → IsRefusalOf (policy_form (most_session plan)) source outcome → IsUnbegun door asked ended
       → ended.output ≡ Some sink_now → SendsPart sink.sent sink_now.sent (output_of outcome) → source.faults_now ≡ source.faults → sink_now.faults ≡ one_more sink.faults
       → EndsService panel plan source sink door asked ended
   source_failed : ended.status ≡ 4 → IsUnbegun door asked ended → ended.output ≡ Some sink → source.faults_now ≡ one_more source.faults → EndsService panel plan source sink door asked ended
   no_memory : ended.status ≡ 6 → IsUnbegun door asked ended → ended.output ≡ Some sink → source.faults_now ≡ source.faults → EndsService panel plan source sink door asked ended
-
--- an input that is refused: it is too large, or has not the form
-abbrev pub IsRefusedPolicy : ℕ → List ℕ → Type 0
-IsRefusedPolicy most text = (most_bytes < length text) ⊎ ((h : Head) (es : List EntryTree) → ¬ IsPolicy most text h es)
 
 -- a policy was read and served by the plan, and this is how: its whole text was written
 pub record IsServedWhole {P : Type 0} (panel : P → PanelView) (plan : Plan) (source : SourceRun) (sink : SinkView) (door : DoorView) (asked : P) (ended : EndedView P) : Type 0 where
@@ -120,15 +110,11 @@ pub record IsServedWhole {P : Type 0} (panel : P → PanelView) (plan : Plan) (s
 abbrev pub IsCompleteService : {P : Type 0} → (P → PanelView) → Plan → SourceRun → SinkView → DoorView → P → EndedView P → Type 0
 IsCompleteService panel plan source sink door asked ended =
     ¬ Rose source.faults source.faults_now → ((sink_now : SinkView) → ended.output ≡ Some sink_now → ¬ Rose sink.faults sink_now.faults) → ¬ Rose door.faults ended.door.faults
-    → ¬ Rose (panel asked).faults (panel ended.panel).faults → ¬ IsRefusedPolicy (most_session plan) source.given
+    → ¬ Rose (panel asked).faults (panel ended.panel).faults → ¬ IsRefusedInput (policy_form (most_session plan)) source.given
     → (ended.status ≡ 6) ⊎ IsServedWhole panel plan source sink door asked ended
-
--- the status is 3 exactly where the input is refused, unless a stream failed or there was no memory
-abbrev pub RefusesPolicies : Plan → SourceRun → ℕ → Type 0
-RefusesPolicies plan source status = status ≢ 4 → status ≢ 5 → status ≢ 6 → (status ≡ 3) ↔ IsRefusedPolicy (most_session plan) source.given
 
 -- a run of `serve`
 pub record RunsService {P : Type 0} (panel : P → PanelView) (plan : Plan) (source : SourceRun) (sink : SinkView) (door : DoorView) (asked : P) (ended : EndedView P) : Type 0 where
   pub ends : EndsService panel plan source sink door asked ended
   pub complete : IsCompleteService panel plan source sink door asked ended
-  pub refuses : RefusesPolicies plan source ended.status
+  pub refuses : RefusesExactly (policy_form (most_session plan)) source ended.status

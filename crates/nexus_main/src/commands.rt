@@ -1,6 +1,6 @@
 //! The words by which commands are called.
 ghost use Rattle.std.specs.Prelude.{◌≡◌, ◌≢◌, ◌↔◌, ◌<◌, ◌≤◌, ◌^◌, ◌∷◌, [], ℕ, List, IsTrue, MatchOption, map};
-ghost use Rattle.nexus_main.specs.Commands.{IsAddress, IsLoad, IsPlain, IsService, IsWithin, command_words, core_words, most_steps, serve_words};
+ghost use Rattle.nexus_main.specs.Commands.{IsAddress, IsClientCall, IsLoad, IsPlain, IsService, IsWithin, client_words, command_words, core_words, most_steps, serve_words};
 
 use nal_term::is_secret;
 use text_lines::read_number;
@@ -32,6 +32,10 @@ pub enum Command {
     Script,
     /// Says whether the untrusted can reach a goal.
     Trust,
+    /// Finds a chain of delegations.
+    Prove,
+    /// Makes a policy text of one that was cut.
+    Recover,
     /// Takes so many steps of a load that is drawn from a number.
     Core { number: u64, steps: u64 },
 }
@@ -56,6 +60,34 @@ pub fn service_of<'a>(words: &'a [&'a str]) -> Option<Service<'a>>
             workers,
             sessions,
         })
+    } else {
+        None
+    }
+}
+
+/// The address of the service that a client is to talk to, by these words. None exactly where they are not those of a client.
+/// `docs/FORMATS.md`, "Commands", states them.
+pub fn client_of<'a>(words: &'a [&'a str]) -> Option<&'a [u8]>
+    ensures { MatchOption result (¬ IsClientCall (map (λ w. w.now) words.now))
+        (λ address. IsAddress address.now × (map (λ w. w.now) words.now ≡ client_words address.now)) }
+{
+    let (word, address) = two(words)?;
+    let address = address.as_bytes();
+    if is_same(word, "client") && is_address(address) {
+        Some(address)
+    } else {
+        None
+    }
+}
+
+/// The words, where they are two.
+fn two<'a>(words: &'a [&'a str]) -> Option<(&'a str, &'a str)>
+    ensures { MatchOption result ((a b : List ℕ) → map (λ w. w.now) words.now ≢ a ∷ b ∷ []) (λ r. map (λ w. w.now) words.now ≡ r.0.now ∷ r.1.now ∷ []) }
+{
+    let (first, rest) = words.split_first()?;
+    let (second, rest) = rest.split_first()?;
+    if rest.is_empty() {
+        Some((first, second))
     } else {
         None
     }
@@ -89,6 +121,10 @@ pub fn command_of(words: &[&str]) -> Option<Command>
         Some(Command::Script)
     } else if is_word(words, "trust") {
         Some(Command::Trust)
+    } else if is_word(words, "prove") {
+        Some(Command::Prove)
+    } else if is_word(words, "recover") {
+        Some(Command::Recover)
     } else {
         core_of(words)
     }

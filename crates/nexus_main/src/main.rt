@@ -1,9 +1,12 @@
 //! `nexus`: an authorization service by logical attestation.
 #![tactic(auto)]
 
+mod answering;
+mod answers;
 mod arguments;
 mod check;
 mod check_form;
+mod client;
 mod commands;
 mod judge;
 #[cfg(test)]
@@ -14,11 +17,12 @@ mod outcomes;
 mod places;
 mod plain;
 mod program;
-mod reach;
 mod script;
 #[cfg(test)]
 mod script_tests;
 mod service;
+#[cfg(test)]
+mod service_rows;
 #[cfg(test)]
 mod service_tests;
 mod stages;

@@ -2,16 +2,15 @@
 ghost use Rattle.std.specs.Prelude.{◌≡◌, ◌≢◌, ◌⊎◌, ℕ, None, map};
 ghost use Rattle.nx_io.specs.Streams.{Gave, Grows, gained};
 ghost use Rattle.run_streams.specs.Runs.{sink_run, source_run};
-ghost use Rattle.nexus_main.specs.Commands.{IsLoad, IsPlain, check_words, core_words, script_words, trust_words};
-ghost use Rattle.nexus_main.specs.Cores.{RunsCore};
-ghost use Rattle.nexus_main.specs.Program.{RunsCheck};
-ghost use Rattle.nexus_main.specs.Scripts.{RunsScript, panel_run};
-ghost use Rattle.nexus_main.specs.Trusts.{RunsTrust};
+ghost use Rattle.nexus_main.specs.Commanded.{RunsCommand};
+ghost use Rattle.nexus_main.specs.Commands.{IsPlain, core_words, script_words};
+ghost use Rattle.nexus_main.specs.Scripts.{panel_run};
 
+use crate::answering::answer_input;
+use crate::answers::{Found, Recovered};
 use crate::check::check;
 use crate::commands::{Command, command_of};
 use crate::load::load;
-use crate::reach::reach;
 use crate::script::script;
 use authority_ask::Panel;
 use nx_io::{Sink, Source};
@@ -19,6 +18,7 @@ use policy_history::Journal;
 use std::alloc::Global;
 use std::net::{Net, TcpListener, TcpStream};
 use std::rt::Clock;
+use trust_check::Trust;
 
 /// How a command ended that is no service.
 #[derive(Drop)]
@@ -59,22 +59,13 @@ where
     ensures sent { Grows (K.sent output.old) (K.sent output.new) }
     ensures said { Grows (P.said panel) (P.said result.panel) }
     ensures untouched { (result.status ≡ 4) ⊎ (result.status ≡ 6) → output.new ≡ output.old }
-    ensures check { map (λ w. w.now) words.now ≡ check_words → RunsCheck
-        (source_run (S.left input.old) (S.given input.old) (S.given input.new) (S.over input.new) (S.faults input.old) (S.faults input.new))
-        (sink_run (K.sent output.old) (K.sent output.new) (K.faults output.old) (K.faults output.new))
-        result.status }
-    ensures script { map (λ w. w.now) words.now ≡ script_words → RunsScript
+    ensures command { RunsCommand (map (λ w. w.now) words.now)
         (source_run (S.left input.old) (S.given input.old) (S.given input.new) (S.over input.new) (S.faults input.old) (S.faults input.new))
         (sink_run (K.sent output.old) (K.sent output.new) (K.faults output.old) (K.faults output.new))
         (panel_run (P.said panel) (P.said result.panel) (P.asks panel) (P.asks result.panel) (P.reached panel) (P.reached result.panel)
         (P.faults panel) (P.faults result.panel))
         result.journal result.status }
-    ensures trust { map (λ w. w.now) words.now ≡ trust_words → RunsTrust
-        (source_run (S.left input.old) (S.given input.old) (S.given input.new) (S.over input.new) (S.faults input.old) (S.faults input.new))
-        (sink_run (K.sent output.old) (K.sent output.new) (K.faults output.old) (K.faults output.new))
-        result.status }
-    ensures core { (number steps : ℕ) → map (λ w. w.now) words.now ≡ core_words number steps → IsLoad number steps
-        → RunsCore number steps (sink_run (K.sent output.old) (K.sent output.new) (K.faults output.old) (K.faults output.new)) result.status × (input.new ≡ input.old) }
+    ensures core_reads_nothing { (number steps : ℕ) → map (λ w. w.now) words.now ≡ core_words number steps → input.new ≡ input.old }
     ensures other_panel { map (λ w. w.now) words.now ≢ script_words → (result.panel ≡ panel) × (result.journal ≡ None) }
 {
     match command_of(words) {
@@ -90,7 +81,17 @@ where
         },
         Some(Command::Script) => script(rt, alloc, input, output, panel),
         Some(Command::Trust) => PlainEnd {
-            status: reach(alloc, input, output),
+            status: answer_input::<Trust, S, K>(alloc, input, output),
+            journal: None,
+            panel,
+        },
+        Some(Command::Prove) => PlainEnd {
+            status: answer_input::<Found, S, K>(alloc, input, output),
+            journal: None,
+            panel,
+        },
+        Some(Command::Recover) => PlainEnd {
+            status: answer_input::<Recovered, S, K>(alloc, input, output),
             journal: None,
             panel,
         },

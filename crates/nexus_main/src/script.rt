@@ -7,8 +7,9 @@ ghost use Rattle.journal_text.specs.PolicyFronts.{AreBelow};
 ghost use Rattle.policy_script.specs.ScriptForm.{most_session};
 ghost use Rattle.policy_script.specs.Inner.Reading.{script_tree};
 ghost use Rattle.run_streams.specs.Runs.{sink_run, source_run};
-ghost use Rattle.nexus_main.specs.Inner.ScriptEnds.{EndsAnswers, EndsReached, EndsReplies, IsUnread, faults_after_input, script_of};
-ghost use Rattle.nexus_main.specs.Scripts.{EndsScript, IsScriptOf, panel_run};
+ghost use Rattle.nexus_main.specs.Inner.ScriptEnds.{EndsAnswers, EndsReached, EndsReplies, faults_after_input, script_of};
+ghost use Rattle.nexus_main.specs.Inner.Answering.{IsUnread};
+ghost use Rattle.nexus_main.specs.Scripts.{EndsScript, IsScriptOf, panel_run, script_form};
 
 use crate::outcomes::Outcome;
 use crate::plain::PlainEnd;
@@ -76,7 +77,7 @@ fn read_input<S: Source>(alloc: Global, input: &mut S) -> Result<Script, Unread>
         (source_run (S.left input.old) (S.given input.old) (S.given input.new) (S.over input.new) (S.faults input.old) (S.faults input.new)) (script_tree script)) }
     ensures below { IfOk result (λ script. AreBelow most_session (entry_trees script.journal.entries)) }
     ensures places { IfOk result (λ script. All (λ a. a.place < 64) script.askings.items) }
-    ensures err { IfErr result (IsUnread
+    ensures err { IfErr result (IsUnread script_form
         (source_run (S.left input.old) (S.given input.old) (S.given input.new) (S.over input.new) (S.faults input.old) (S.faults input.new))) }
     ensures count { S.faults input.new ≡ faults_after_input result (S.faults input.old) }
 {

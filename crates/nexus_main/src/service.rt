@@ -9,8 +9,9 @@ ghost use Rattle.run_streams.specs.Runs.{most_bytes, source_run};
 ghost use Rattle.nexus_serve.specs.Views.{door_view, link_view, panel_view, report_view};
 ghost use Rattle.nexus_main.specs.Commands.{IsService};
 ghost use Rattle.nexus_main.specs.Inner.ScriptEnds.{faults_after_input};
-ghost use Rattle.nexus_main.specs.Inner.ServiceEnds.{IsUnreadPolicy, IsWrongText};
-ghost use Rattle.nexus_main.specs.Services.{EndsService, IsPolicy, IsPolicyOf, IsUnbegun, hosted_of};
+ghost use Rattle.nexus_main.specs.Inner.Answering.{IsUnread};
+ghost use Rattle.nexus_main.specs.Inner.ServiceEnds.{IsWrongText};
+ghost use Rattle.nexus_main.specs.Services.{EndsService, IsPolicy, IsPolicyOf, IsUnbegun, hosted_of, policy_form};
 
 use crate::commands::Service;
 use crate::outcomes::Outcome;
@@ -94,7 +95,7 @@ fn read_policy_input<S: Source>(alloc: Global, input: &mut S, most: u64) -> Resu
     ensures ok { IfOk result (λ journal. IsPolicyOf
         (source_run (S.left input.old) (S.given input.old) (S.given input.new) (S.over input.new) (S.faults input.old) (S.faults input.new)) most journal.head (entry_trees journal.entries)) }
     ensures below { IfOk result (λ journal. AreBelow most (entry_trees journal.entries)) }
-    ensures err { IfErr result (IsUnreadPolicy most
+    ensures err { IfErr result (IsUnread (policy_form most)
         (source_run (S.left input.old) (S.given input.old) (S.given input.new) (S.over input.new) (S.faults input.old) (S.faults input.new))) }
     ensures count { S.faults input.new ≡ faults_after_input result (S.faults input.old) }
 {

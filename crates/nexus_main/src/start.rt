@@ -4,12 +4,11 @@ ghost use Rattle.nx_io.specs.Streams.{Gave, Grows, gained};
 ghost use Rattle.run_streams.specs.Runs.{sink_run, source_run};
 ghost use Rattle.nexus_serve.specs.Views.{door_view, link_view, panel_view, report_view};
 ghost use Rattle.nexus_main.specs.Arguments.{words_of_call};
-ghost use Rattle.nexus_main.specs.Commands.{IsCommand, IsLoad, IsService, IsServiceCall, check_words, core_words, script_words, serve_words, trust_words};
-ghost use Rattle.nexus_main.specs.Cores.{RunsCore};
-ghost use Rattle.nexus_main.specs.Program.{RunsCheck};
-ghost use Rattle.nexus_main.specs.Scripts.{RunsScript, panel_run};
+ghost use Rattle.nexus_main.specs.Clients.{RunsClient};
+ghost use Rattle.nexus_main.specs.Commanded.{RunsCommand};
+ghost use Rattle.nexus_main.specs.Commands.{IsAddress, IsClientCall, IsCommand, IsService, IsServiceCall, client_words, core_words, script_words, serve_words};
+ghost use Rattle.nexus_main.specs.Scripts.{panel_run};
 ghost use Rattle.nexus_main.specs.Services.{HandsBack, RunsService};
-ghost use Rattle.nexus_main.specs.Trusts.{RunsTrust};
 
 use crate::arguments::{Arguments, texts, words_of_call};
 use crate::program::run;
@@ -63,24 +62,22 @@ where
         → ((exit_status result.code ≡ 2) ⊎ (exit_status result.code ≡ 6)) × (input.new ≡ input.old) × HandsBack result.output (λ k. k ≡ output) }
     ensures gave { Gave (S.left input.old) (S.left input.new) (S.given input.old) (S.given input.new) }
     ensures sent { ¬ IsServiceCall (words_of_call (gained (A.told arguments.old) (A.told arguments.new))) → HandsBack result.output (λ k. Grows (K.sent output) (K.sent k)) }
-    ensures said { ¬ IsServiceCall (words_of_call (gained (A.told arguments.old) (A.told arguments.new))) → Grows (P.said panel) (P.said result.panel) }
-    ensures untouched { ¬ IsServiceCall (words_of_call (gained (A.told arguments.old) (A.told arguments.new))) → (exit_status result.code ≡ 4) ⊎ (exit_status result.code ≡ 6) → HandsBack result.output (λ k. k ≡ output) }
-    ensures check { words_of_call (gained (A.told arguments.old) (A.told arguments.new)) ≡ check_words → HandsBack result.output (λ k. RunsCheck
-        (source_run (S.left input.old) (S.given input.old) (S.given input.new) (S.over input.new) (S.faults input.old) (S.faults input.new))
-        (sink_run (K.sent output) (K.sent k) (K.faults output) (K.faults k))
-        (exit_status result.code)) }
-    ensures script { words_of_call (gained (A.told arguments.old) (A.told arguments.new)) ≡ script_words → HandsBack result.output (λ k. RunsScript
+    ensures said { Grows (P.said panel) (P.said result.panel) }
+    ensures untouched { ¬ IsServiceCall (words_of_call (gained (A.told arguments.old) (A.told arguments.new))) → ¬ IsClientCall (words_of_call (gained (A.told arguments.old) (A.told arguments.new))) → (exit_status result.code ≡ 4) ⊎ (exit_status result.code ≡ 6) → HandsBack result.output (λ k. k ≡ output) }
+    ensures command { ¬ IsServiceCall (words_of_call (gained (A.told arguments.old) (A.told arguments.new))) → HandsBack result.output (λ k. RunsCommand (words_of_call (gained (A.told arguments.old) (A.told arguments.new)))
         (source_run (S.left input.old) (S.given input.old) (S.given input.new) (S.over input.new) (S.faults input.old) (S.faults input.new))
         (sink_run (K.sent output) (K.sent k) (K.faults output) (K.faults k))
         (panel_run (P.said panel) (P.said result.panel) (P.asks panel) (P.asks result.panel) (P.reached panel) (P.reached result.panel)
         (P.faults panel) (P.faults result.panel))
         result.journal (exit_status result.code)) }
-    ensures trust { words_of_call (gained (A.told arguments.old) (A.told arguments.new)) ≡ trust_words → HandsBack result.output (λ k. RunsTrust
+    ensures core_reads_nothing { (number steps : ℕ) → words_of_call (gained (A.told arguments.old) (A.told arguments.new)) ≡ core_words number steps → input.new ≡ input.old }
+    ensures client { (address : List ℕ) → words_of_call (gained (A.told arguments.old) (A.told arguments.new)) ≡ client_words address → IsAddress address → HandsBack result.output (λ k. RunsClient address
         (source_run (S.left input.old) (S.given input.old) (S.given input.new) (S.over input.new) (S.faults input.old) (S.faults input.new))
         (sink_run (K.sent output) (K.sent k) (K.faults output) (K.faults k))
+        (door_view (link_view D.Link.left D.Link.taken D.Link.sent D.Link.over D.Link.closed D.Link.place D.Link.toward D.Link.faults) D.links D.over D.gave D.listened D.faults door)
+        (door_view (link_view D.Link.left D.Link.taken D.Link.sent D.Link.over D.Link.closed D.Link.place D.Link.toward D.Link.faults) D.links D.over D.gave D.listened D.faults result.door)
+        (option_map (link_view D.Link.left D.Link.taken D.Link.sent D.Link.over D.Link.closed D.Link.place D.Link.toward D.Link.faults) result.dialed)
         (exit_status result.code)) }
-    ensures core { (number steps : ℕ) → words_of_call (gained (A.told arguments.old) (A.told arguments.new)) ≡ core_words number steps → IsLoad number steps
-        → HandsBack result.output (λ k. RunsCore number steps (sink_run (K.sent output) (K.sent k) (K.faults output) (K.faults k)) (exit_status result.code)) × (input.new ≡ input.old) }
     ensures serve { (address : List ℕ) (workers sessions : ℕ) → words_of_call (gained (A.told arguments.old) (A.told arguments.new)) ≡ serve_words address workers sessions → IsService address workers sessions
         → RunsService (panel_view P.said P.asks P.reached P.faults) (record { address = address; workers = workers; sessions = sessions })
         (source_run (S.left input.old) (S.given input.old) (S.given input.new) (S.over input.new) (S.faults input.old) (S.faults input.new))
@@ -95,9 +92,10 @@ where
           panel = result.panel;
           panels = result.panels.items;
         }) }
-    ensures other_door { ¬ IsServiceCall (words_of_call (gained (A.told arguments.old) (A.told arguments.new))) → (result.door ≡ door) × (result.reports.items ≡ []) × (result.doors.items ≡ []) × (result.panels.items ≡ []) }
+    ensures other_door { ¬ IsServiceCall (words_of_call (gained (A.told arguments.old) (A.told arguments.new))) → ¬ IsClientCall (words_of_call (gained (A.told arguments.old) (A.told arguments.new))) → result.door ≡ door }
+    ensures unshared { ¬ IsServiceCall (words_of_call (gained (A.told arguments.old) (A.told arguments.new))) → (result.reports.items ≡ []) × (result.doors.items ≡ []) × (result.panels.items ≡ []) }
     ensures other_panel { words_of_call (gained (A.told arguments.old) (A.told arguments.new)) ≢ script_words → ¬ IsServiceCall (words_of_call (gained (A.told arguments.old) (A.told arguments.new))) → (result.panel ≡ panel) × (result.journal ≡ None) }
-    ensures dialed { result.dialed ≡ None }
+    ensures dialed { ¬ IsClientCall (words_of_call (gained (A.told arguments.old) (A.told arguments.new))) → result.dialed ≡ None }
 {
     let Ok(words) = words_of_call(alloc, arguments) else {
         return stopped(alloc, 6, output, door, panel);

@@ -218,6 +218,48 @@ fn faults_end_a_question_of_trust(rt: HostRuntime) -> Result<(), AllocError> {
     Ok(())
 }
 
+// Delegations by which what bob says counts as said by dave.
+const CHAIN: &str =
+    "nexus prove 1\nsubject bob\nlabel bob says ok\nlabel carol says bob speaksfor carol\nlabel dave says carol speaksfor dave on ok\ngoal dave says ok\nend\n";
+
+#[test]
+fn chains_are_found(rt: HostRuntime) -> Result<(), AllocError> {
+    let alloc = rt.alloc();
+    let cases = [
+        Case {
+            input: CHAIN,
+            written: "proof 2 ; 1 label : bob says ok ; 2 label : carol says bob speaksfor carol ; 3 handoff 2 : bob speaksfor carol ; 4 sf_e 3 1 : carol says ok ; 5 label : dave says carol speaksfor dave on ok ; 6 handoff_on 5 : carol speaksfor dave on ok ; 7 sf_on_e 6 4 : dave says ok ; end\n",
+            status: 0,
+        },
+        Case {
+            input: "nexus prove 1\nsubject bob\nlabel bob says ok\nlabel dave says carol speaksfor dave on ok\ngoal dave says ok\nend\n",
+            written: "no chain\n",
+            status: 1,
+        },
+        Case {
+            input: "nexus prove 1\nsubject bob\nlabel bob says ok\ngoal ?subject.x says ok\nend",
+            written: "proof 2 ; 1 label : bob says ok ; 2 sf_sub : bob speaksfor bob.x ; 3 sf_e 2 1 : bob.x says ok ; end\n",
+            status: 0,
+        },
+        Case {
+            input: "nexus prove 1\nsubject bob\nlabel bob says ok\ngoal true\nend\n",
+            written: "refused line 4\n",
+            status: 3,
+        },
+    ];
+    for case in cases {
+        let mut source = MemSource::new(alloc, case.input.as_bytes(), 7, &[])?;
+        let mut sink = MemSink::new(alloc, 512, 3, &[])?;
+        assert_eq!(rt;
+            status_of(&rt, alloc, &["prove"], &mut source, &mut sink)?,
+            case.status
+        );
+        assert!(rt; sink.sent() == case.written.as_bytes());
+        assert!(rt; source.left().is_empty());
+    }
+    Ok(())
+}
+
 // A load, and its line. That of a thousand steps was worked out by a program written apart from this one.
 #[derive(Clone, Copy)]
 struct LoadCase {

@@ -1,5 +1,5 @@
 -- A service at an address: what was made ready for it, and how it ended.
-use Rattle.std.specs.Prelude.{◌≡◌, ℕ, List, [], ◌∷◌, ◌++◌, length, All, Bool, true, false, Some, None}
+use Rattle.std.specs.Prelude.{◌≡◌, ◌⊎◌, ℕ, List, [], ◌∷◌, ◌++◌, length, All, Bool, true, false, Some, None}
 use Rattle.nx_io.specs.Streams.{Rose}
 use Rattle.nx_io.specs.Doors.{IsFreshDoor, KeepsLinks}
 use Rattle.authority_ask.specs.Panels.{IsFresh}
@@ -47,6 +47,17 @@ pub record Listens (address : List ℕ) (door door_now : DoorView) : Type 0 wher
   pub links : KeepsLinks door.links door_now.links door.over door_now.over door.gave door_now.gave
   pub faults : door_now.faults ≡ door.faults
 
+-- the door has given no link and not failed, and may listen at this address too
+pub record IsHeld (address : List ℕ) (door door_now : DoorView) : Type 0 where
+  pub listened : (door_now.listened ≡ door.listened) ⊎ (door_now.listened ≡ door.listened ++ address ∷ [])
+  pub links : KeepsLinks door.links door_now.links door.over door_now.over door.gave door_now.gave
+  pub faults : door_now.faults ≡ door.faults
+
+-- the door failed as it was to listen or to be shared, and has given no link
+pub record HasFailed (door door_now : DoorView) : Type 0 where
+  pub links : KeepsLinks door.links door_now.links door.over door_now.over door.gave door_now.gave
+  pub faults : Rose door.faults door_now.faults
+
 -- the status with which a service ends: 5 where its text was not written whole, then 7 where a door has failed, and else 0; but 6 where there was no memory
 abbrev pub status_of : Bool → ServeEnd → ℕ
 status_of written Memory = 6
@@ -79,6 +90,7 @@ pub data Hosts {P : Type 0} (panel : P → PanelView) (plan : Plan) (h : Head) (
       → Hosts panel plan h opening sink door asked hosted
   unreached : hosted.status ≡ 8 → IsIdle sink hosted.served → hosted.door ≡ door → (panel hosted.panel).said ≡ (panel asked).said → (panel hosted.panel).asks ≡ (panel asked).asks
       → Rose (panel asked).faults (panel hosted.panel).faults → Hosts panel plan h opening sink door asked hosted
-  unheard : hosted.status ≡ 7 → IsIdle sink hosted.served → HasReached h (panel asked) (panel hosted.panel) → Rose door.faults hosted.door.faults
+  unheard : hosted.status ≡ 7 → IsIdle sink hosted.served → HasReached h (panel asked) (panel hosted.panel) → HasFailed door hosted.door
       → Hosts panel plan h opening sink door asked hosted
-  unready : hosted.status ≡ 6 → IsIdle sink hosted.served → Hosts panel plan h opening sink door asked hosted
+  unready : hosted.status ≡ 6 → IsIdle sink hosted.served → HasReached h (panel asked) (panel hosted.panel) → IsHeld plan.address door hosted.door
+      → Hosts panel plan h opening sink door asked hosted

@@ -2,7 +2,7 @@
 ghost use Rattle.std.specs.Prelude.{◌≡◌, ◌≢◌, ◌∷◌, ◌++◌, ℕ, [], length, map, All, IfErr, IfOk};
 ghost use Rattle.nx_io.specs.Doors.{IsFreshDoor, KeepsLinks};
 ghost use Rattle.authority_ask.specs.Panels.{IsFresh};
-ghost use Rattle.nexus_serve.specs.Inner.Sharing.{IsMade, door_faults_after, panel_faults_after};
+ghost use Rattle.nexus_serve.specs.Inner.Sharing.{IsMade, door_faults_after, listens_after, panel_faults_after};
 ghost use Rattle.nexus_serve.specs.Views.{door_view, link_view, panel_view};
 
 use authority_ask::Panel;
@@ -94,7 +94,7 @@ where
     requires none { shares.old.items ≡ [] }
     ensures count { IfOk result (λ _. length shares.new.items ≡ count) }
     ensures shared { IfOk result (λ _. All (λ share. IsFreshDoor (D.over share) (D.gave share) (D.faults share) × (D.listened share ≡ D.listened door.new)) shares.new.items) }
-    ensures listened { IfOk result (λ _. D.listened door.new ≡ D.listened door.old ++ address.now ∷ []) }
+    ensures listened { listens_after result address.now (D.listened door.old) (D.listened door.new) }
     ensures links { KeepsLinks (D.links door.old) (D.links door.new) (D.over door.old) (D.over door.new) (D.gave door.old) (D.gave door.new) }
     ensures faults { D.faults door.new ≡ door_faults_after result (D.faults door.old) }
     ensures other { IfErr result (λ e. e ≢ Unready.Panel) }

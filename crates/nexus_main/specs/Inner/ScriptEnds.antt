@@ -8,20 +8,14 @@ use Rattle.session_core.specs.declared.lines.Asking.{Asking}
 use Rattle.session_core.specs.Sessions.{Point, Told1, at_start, faults_after_replies}
 use Rattle.policy_script.specs.ScriptForm.{ScriptTree}
 use Rattle.policy_script.specs.ScriptText.{script_text}
-use Rattle.run_streams.specs.Runs.{IsProperPart, SinkRun, SourceRun}
+use Rattle.run_streams.specs.Runs.{IsProperPart, SinkRun}
 use Rattle.nexus_main.specs.declared.script.Unread.{Unread}
 use Rattle.nexus_main.specs.declared.script.Unread.TheVariants.{Refused, Failed, Memory}
-use Rattle.nexus_main.specs.Scripts.{IsAnswered, IsRefusalOf, IsUnreached, PanelRun}
+use Rattle.nexus_main.specs.Scripts.{IsAnswered, IsUnreached, PanelRun}
 
 -- the script of a journal and requests
 abbrev pub script_of : History → List Asking → ScriptTree
 script_of journal askings = record { head = journal.head; entries = entry_trees journal.entries; askings = askings }
-
--- why there is no script is so
-abbrev pub IsUnread : SourceRun → Unread → Type 0
-IsUnread source (Refused outcome) = IsRefusalOf source outcome
-IsUnread source Failed = Unit {0}
-IsUnread source Memory = Unit {0}
 
 -- how often a source has failed after an input was to be read
 abbrev pub faults_after_input : {A : Type 0} → Result A Unread → ℕ → ℕ

@@ -1,26 +1,32 @@
-use Rattle.std.proofs.Common.{sym, ◌∙◌, refl}
+use Rattle.std.specs.Prelude.{option_map}
+use Rattle.policy_history.specs.Values.{entry_trees}
+use Rattle.proof_lines.specs.Lines.{line_trees}
+use Rattle.nexus_main.proofs.AnswerEnds.{runs_as}
+use Rattle.nexus_main.proofs.Commanded.{check_commanded, core_commanded, none_commanded, prove_commanded, recover_commanded, script_commanded, trust_commanded}
+use Rattle.nexus_main.proofs.CoreEnds.{runs_core}
 use Rattle.nexus_main.proofs.Programs.{runs_check}
-use Rattle.nexus_main.proofs.TrustEnds.{runs_core, runs_trust}
-use Rattle.nexus_main.proofs.Words.{core_same}
 use Rattle.nexus_main.proofs.ScriptEnds.{runs_script}
-use Rattle.nexus_main.specs.declared.commands.Command.TheVariants.{Core}
 use Rattle.nexus_main.proofs.plain.run_plain.Goals as goal
 
-pub returns-in-Some-Check-clause-check : goal.returns-in-Some-Check-clause-check
-returns-in-Some-Check-clause-check g c = λ words. runs_check c.check.ensures.ends
+pub returns-in-None-clause-command : goal.returns-in-None-clause-command
+returns-in-None-clause-command g c = none_commanded c.in-None.ensures
 
-pub returns-in-Some-Script-clause-script : goal.returns-in-Some-Script-clause-script
-returns-in-Some-Script-clause-script g c = λ words. runs_script c.script.ensures.ends
+pub returns-in-Some-Check-clause-command : goal.returns-in-Some-Check-clause-command
+returns-in-Some-Check-clause-command g c = check_commanded (rw c.in-Some-Check.field-0-is at c.in-Some-Check.ensures).1 (runs_check c.check.ensures.ends)
 
-pub returns-in-Some-Trust-clause-trust : goal.returns-in-Some-Trust-clause-trust
-returns-in-Some-Trust-clause-trust g c = λ words. runs_trust c.reach.ensures.ends
+pub returns-in-Some-Script-clause-command : goal.returns-in-Some-Script-clause-command
+returns-in-Some-Script-clause-command g c = script_commanded (rw c.in-Some-Script.field-0-is at c.in-Some-Script.ensures).1 (runs_script c.script.ensures.ends)
 
-pub returns-in-Some-Core-clause-core : goal.returns-in-Some-Core-clause-core
-returns-in-Some-Core-clause-core g c =
+pub returns-in-Some-Trust-clause-command : goal.returns-in-Some-Trust-clause-command
+returns-in-Some-Trust-clause-command g c = trust_commanded (rw c.in-Some-Trust.field-0-is at c.in-Some-Trust.ensures).1 c.answer_input.ensures.runs
+
+pub returns-in-Some-Prove-clause-command : goal.returns-in-Some-Prove-clause-command
+returns-in-Some-Prove-clause-command g c = prove_commanded (rw c.in-Some-Prove.field-0-is at c.in-Some-Prove.ensures).1 (runs_as (λ found. option_map line_trees found.proof) c.answer_input-in-Some-Prove.ensures.runs)
+
+pub returns-in-Some-Recover-clause-command : goal.returns-in-Some-Recover-clause-command
+returns-in-Some-Recover-clause-command g c = recover_commanded (rw c.in-Some-Recover.field-0-is at c.in-Some-Recover.ensures).1 (runs_as (λ recovered. record { head = recovered.journal.head; entries = entry_trees recovered.journal.entries }) c.answer_input-in-Some-Recover.ensures.runs)
+
+pub returns-in-Some-Core-clause-command : goal.returns-in-Some-Core-clause-command
+returns-in-Some-Core-clause-command g c =
     let of_words = rw c.in-Some-Core.field-0-is at c.in-Some-Core.ensures in
-    λ number steps words within.
-    let same = core_same number steps c.in-Some-Core.number c.in-Some-Core.steps within of_words.0 (sym words ∙ of_words.1) in
-    (rw (same.0, same.1) (runs_core c.load.ensures.ends), refl)
-
-pub returns-in-None-clause-core : goal.returns-in-None-clause-core
-returns-in-None-clause-core g c = λ number steps words within. absurd (c.in-None.ensures (Core number steps, within, words))
+    core_commanded c.in-Some-Core.number c.in-Some-Core.steps of_words.1 of_words.0 (runs_core c.load.ensures.ends)

@@ -1,8 +1,10 @@
 use Rattle.nexus_main.specs.declared.outcomes.Outcome.TheVariants.{Refused}
-use Rattle.nexus_main.specs.Scripts.{IsRefusal}
+use Rattle.nexus_main.specs.Refusals.{IsRefusal}
+use Rattle.nexus_main.specs.Scripts.{script_form}
 use Rattle.policy_script.specs.ScriptForm.{IsScript}
 use Rattle.policy_script.specs.Inner.Reading.{script_tree}
-use Rattle.nexus_main.proofs.ScriptEnds.{places, refusal_given, script_given, too_large, wrong_refusal}
+use Rattle.nexus_main.proofs.Refusals.{refusal_given, too_large}
+use Rattle.nexus_main.proofs.ScriptEnds.{places, script_given, wrong_refusal}
 use Rattle.nexus_main.proofs.script.read_input.Goals as goal
 
 pub returns-in-Ok-read_script-clause-ok : goal.returns-in-Ok-read_script-clause-ok
@@ -17,7 +19,7 @@ returns-in-Ok-read_script-clause-places g c = places c.in-Ok-read_script.ensures
 pub returns-in-Err-Wrong-clause-err : goal.returns-in-Err-Wrong-clause-err
 returns-in-Err-Wrong-clause-err g c =
     let read = c.in-Ok.ensures.whole in
-    let refusal : IsRefusal c.in-Ok.text.items (Refused c.in-Err-Wrong.line) = rw c.as_slice.ensures.value at
+    let refusal : IsRefusal script_form c.in-Ok.text.items (Refused c.in-Err-Wrong.line) = rw c.as_slice.ensures.value at
     (wrong_refusal c.in-Err-Wrong.field-0-is (rw (← c.as_slice.ensures.value) at read.0) c.in-Err-Wrong.ensures.wrong c.in-Err-Wrong.ensures.refused) in
     refusal_given _ (g.S.Source.left c.read_whole.new.source) _ c.in-Ok.text.items c.read_whole.ensures.gave.taken read.1 read.2 read.3 refusal
 

@@ -1,13 +1,10 @@
-use Rattle.std.proofs.Common.{inl, refl, subst, sym, ◌∙◌}
+use Rattle.std.proofs.Common.{inl, inr, refl, subst, sym, ◌∙◌}
 use Rattle.nx_io.proofs.ForCallers.{gained-nothing}
-use Rattle.nexus_main.specs.Commands.{IsCommand, IsServiceCall}
-use Rattle.nexus_main.specs.Program.{no_memory as check_memory}
-use Rattle.nexus_main.specs.Scripts.{no_memory as script_memory}
-use Rattle.nexus_main.specs.Trusts.{no_memory as trust_memory}
-use Rattle.nexus_main.proofs.Programs.{runs_check}
-use Rattle.nexus_main.proofs.ScriptEnds.{runs_script}
-use Rattle.nexus_main.proofs.TrustEnds.{runs_trust}
-use Rattle.nexus_main.proofs.Words.{not_check, not_core, not_script, not_serve, not_trust}
+use Rattle.nexus_main.specs.Clients.{no_memory}
+use Rattle.nexus_main.specs.Commands.{IsClientCall, IsCommand, IsPlain, IsServiceCall}
+use Rattle.nexus_main.proofs.ClientEnds.{runs_client}
+use Rattle.nexus_main.proofs.Commanded.{memory_commanded, none_commanded}
+use Rattle.nexus_main.proofs.Words.{not_command}
 use Rattle.nexus_main.proofs.start.start.Goals as goal
 
 pub returns-in-Ok-Some-clause-other_words : goal.returns-in-Ok-Some-clause-other_words
@@ -23,41 +20,23 @@ returns-in-Ok-Some-clause-sent g c =
     let same = texts ∙ c.in-Ok.ensures.words in
     λ plain. c.run-ended.ensures.sent (λ call. plain (subst IsServiceCall same call))
 
-pub returns-in-Ok-Some-clause-said : goal.returns-in-Ok-Some-clause-said
-returns-in-Ok-Some-clause-said g c =
-    let texts = rw (c.in-Ok-Some.field-0-is, c.as_slice.ensures.value, ← c.as_slice-in-Ok-Some.ensures.value) at c.in-Ok-Some.ensures in
-    let same = texts ∙ c.in-Ok.ensures.words in
-    λ plain. c.run-ended.ensures.said (λ call. plain (subst IsServiceCall same call))
-
 pub returns-in-Ok-Some-clause-untouched : goal.returns-in-Ok-Some-clause-untouched
 returns-in-Ok-Some-clause-untouched g c =
     let texts = rw (c.in-Ok-Some.field-0-is, c.as_slice.ensures.value, ← c.as_slice-in-Ok-Some.ensures.value) at c.in-Ok-Some.ensures in
     let same = texts ∙ c.in-Ok.ensures.words in
-    λ plain failed. c.run-ended.ensures.untouched (λ call. plain (subst IsServiceCall same call)) (rw (c.from.ensures) at failed)
+    λ plain quiet failed. c.run-ended.ensures.untouched (λ call. plain (subst IsServiceCall same call)) (λ call. quiet (subst IsClientCall same call)) (rw (c.from.ensures) at failed)
 
-pub returns-in-Ok-Some-clause-check : goal.returns-in-Ok-Some-clause-check
-returns-in-Ok-Some-clause-check g c =
+pub returns-in-Ok-Some-clause-command : goal.returns-in-Ok-Some-clause-command
+returns-in-Ok-Some-clause-command g c =
     let texts = rw (c.in-Ok-Some.field-0-is, c.as_slice.ensures.value, ← c.as_slice-in-Ok-Some.ensures.value) at c.in-Ok-Some.ensures in
     let same = texts ∙ c.in-Ok.ensures.words in
-    λ words. rw c.from.ensures (c.run-ended.ensures.check (same ∙ words))
+    λ plain. rw (c.from.ensures, ← same) (c.run-ended.ensures.command (λ call. plain (subst IsServiceCall same call)))
 
-pub returns-in-Ok-Some-clause-script : goal.returns-in-Ok-Some-clause-script
-returns-in-Ok-Some-clause-script g c =
+pub returns-in-Ok-Some-clause-core_reads_nothing : goal.returns-in-Ok-Some-clause-core_reads_nothing
+returns-in-Ok-Some-clause-core_reads_nothing g c =
     let texts = rw (c.in-Ok-Some.field-0-is, c.as_slice.ensures.value, ← c.as_slice-in-Ok-Some.ensures.value) at c.in-Ok-Some.ensures in
     let same = texts ∙ c.in-Ok.ensures.words in
-    λ words. rw c.from.ensures (c.run-ended.ensures.script (same ∙ words))
-
-pub returns-in-Ok-Some-clause-trust : goal.returns-in-Ok-Some-clause-trust
-returns-in-Ok-Some-clause-trust g c =
-    let texts = rw (c.in-Ok-Some.field-0-is, c.as_slice.ensures.value, ← c.as_slice-in-Ok-Some.ensures.value) at c.in-Ok-Some.ensures in
-    let same = texts ∙ c.in-Ok.ensures.words in
-    λ words. rw c.from.ensures (c.run-ended.ensures.trust (same ∙ words))
-
-pub returns-in-Ok-Some-clause-core : goal.returns-in-Ok-Some-clause-core
-returns-in-Ok-Some-clause-core g c =
-    let texts = rw (c.in-Ok-Some.field-0-is, c.as_slice.ensures.value, ← c.as_slice-in-Ok-Some.ensures.value) at c.in-Ok-Some.ensures in
-    let same = texts ∙ c.in-Ok.ensures.words in
-    λ number steps words within. rw c.from.ensures (c.run-ended.ensures.core number steps (same ∙ words) within)
+    λ number steps words. c.run-ended.ensures.core_reads_nothing number steps (same ∙ words)
 
 pub returns-in-Ok-Some-clause-serve : goal.returns-in-Ok-Some-clause-serve
 returns-in-Ok-Some-clause-serve g c =
@@ -69,7 +48,25 @@ pub returns-in-Ok-Some-clause-other_door : goal.returns-in-Ok-Some-clause-other_
 returns-in-Ok-Some-clause-other_door g c =
     let texts = rw (c.in-Ok-Some.field-0-is, c.as_slice.ensures.value, ← c.as_slice-in-Ok-Some.ensures.value) at c.in-Ok-Some.ensures in
     let same = texts ∙ c.in-Ok.ensures.words in
-    λ plain. c.run-ended.ensures.other_door (λ call. plain (subst IsServiceCall same call))
+    λ plain quiet. c.run-ended.ensures.other_door (λ call. plain (subst IsServiceCall same call)) (λ call. quiet (subst IsClientCall same call))
+
+pub returns-in-Ok-Some-clause-unshared : goal.returns-in-Ok-Some-clause-unshared
+returns-in-Ok-Some-clause-unshared g c =
+    let texts = rw (c.in-Ok-Some.field-0-is, c.as_slice.ensures.value, ← c.as_slice-in-Ok-Some.ensures.value) at c.in-Ok-Some.ensures in
+    let same = texts ∙ c.in-Ok.ensures.words in
+    λ plain. c.run-ended.ensures.unshared (λ call. plain (subst IsServiceCall same call))
+
+pub returns-in-Ok-Some-clause-dialed : goal.returns-in-Ok-Some-clause-dialed
+returns-in-Ok-Some-clause-dialed g c =
+    let texts = rw (c.in-Ok-Some.field-0-is, c.as_slice.ensures.value, ← c.as_slice-in-Ok-Some.ensures.value) at c.in-Ok-Some.ensures in
+    let same = texts ∙ c.in-Ok.ensures.words in
+    λ quiet. c.run-ended.ensures.dialed (λ call. quiet (subst IsClientCall same call))
+
+pub returns-in-Ok-Some-clause-client : goal.returns-in-Ok-Some-clause-client
+returns-in-Ok-Some-clause-client g c =
+    let texts = rw (c.in-Ok-Some.field-0-is, c.as_slice.ensures.value, ← c.as_slice-in-Ok-Some.ensures.value) at c.in-Ok-Some.ensures in
+    let same = texts ∙ c.in-Ok.ensures.words in
+    λ address words is. rw c.from.ensures (c.run-ended.ensures.client address (same ∙ words) is)
 
 pub returns-in-Ok-Some-clause-other_panel : goal.returns-in-Ok-Some-clause-other_panel
 returns-in-Ok-Some-clause-other_panel g c =
@@ -77,35 +74,33 @@ returns-in-Ok-Some-clause-other_panel g c =
     let same = texts ∙ c.in-Ok.ensures.words in
     λ others plain. c.run-ended.ensures.other_panel (λ words. others (sym same ∙ words)) (λ call. plain (subst IsServiceCall same call))
 
-pub returns-in-Ok-None-clause-check : goal.returns-in-Ok-None-clause-check
-returns-in-Ok-None-clause-check g c = λ words. absurd (not_check _ (rw (c.in-Ok-None.field-0-is, c.as_slice.ensures.value) at c.in-Ok-None.ensures) (c.in-Ok.ensures.words ∙ words))
-
-pub returns-in-Ok-None-clause-script : goal.returns-in-Ok-None-clause-script
-returns-in-Ok-None-clause-script g c = λ words. absurd (not_script _ (rw (c.in-Ok-None.field-0-is, c.as_slice.ensures.value) at c.in-Ok-None.ensures) (c.in-Ok.ensures.words ∙ words))
-
-pub returns-in-Ok-None-clause-trust : goal.returns-in-Ok-None-clause-trust
-returns-in-Ok-None-clause-trust g c = λ words. absurd (not_trust _ (rw (c.in-Ok-None.field-0-is, c.as_slice.ensures.value) at c.in-Ok-None.ensures) (c.in-Ok.ensures.words ∙ words))
-
-pub returns-in-Ok-None-clause-core : goal.returns-in-Ok-None-clause-core
-returns-in-Ok-None-clause-core g c = λ number steps words within. absurd (not_core _ number steps (rw (c.in-Ok-None.field-0-is, c.as_slice.ensures.value) at c.in-Ok-None.ensures) within (c.in-Ok.ensures.words ∙ words))
+pub returns-in-Ok-None-clause-command : goal.returns-in-Ok-None-clause-command
+returns-in-Ok-None-clause-command g c =
+    let none = not_command _ (rw (c.in-Ok-None.field-0-is, c.as_slice.ensures.value) at c.in-Ok-None.ensures) in
+    λ plain. rw (c.stopped-in-Ok-None.ensures.output) (none_commanded (λ is. none (inl (subst IsPlain (sym c.in-Ok.ensures.words) is))))
 
 pub returns-in-Ok-None-clause-serve : goal.returns-in-Ok-None-clause-serve
-returns-in-Ok-None-clause-serve g c = λ address workers sessions words within. absurd (not_serve _ address workers sessions (rw (c.in-Ok-None.field-0-is, c.as_slice.ensures.value) at c.in-Ok-None.ensures) within (c.in-Ok.ensures.words ∙ words))
+returns-in-Ok-None-clause-serve g c =
+    let none = not_command _ (rw (c.in-Ok-None.field-0-is, c.as_slice.ensures.value) at c.in-Ok-None.ensures) in
+    λ address workers sessions words within. absurd (none (inr (inl (address, workers, sessions, within, c.in-Ok.ensures.words ∙ words))))
 
-pub returns-in_default-clause-check : goal.returns-in_default-clause-check
-returns-in_default-clause-check g c = λ words. rw (c.stopped.ensures.output) (runs_check (check_memory c.stopped.ensures.code (gained-nothing (g.K.Sink.sent c.args.output)) refl refl))
+pub returns-in-Ok-None-clause-client : goal.returns-in-Ok-None-clause-client
+returns-in-Ok-None-clause-client g c =
+    let none = not_command _ (rw (c.in-Ok-None.field-0-is, c.as_slice.ensures.value) at c.in-Ok-None.ensures) in
+    λ address words is. absurd (none (inr (inr (address, is, c.in-Ok.ensures.words ∙ words))))
 
-pub returns-clause-check : goal.returns-clause-check
-returns-clause-check g c = λ words. rw (c.stopped-in-Err.ensures.output) (runs_check (check_memory c.stopped-in-Err.ensures.code (gained-nothing (g.K.Sink.sent c.args.output)) refl refl))
+pub returns-in_default-clause-command : goal.returns-in_default-clause-command
+returns-in_default-clause-command g c = λ plain. rw (c.stopped.ensures.output, c.stopped.ensures.unused.0) (memory_commanded c.stopped.ensures.code (gained-nothing (g.K.Sink.sent c.args.output)) refl refl)
 
-pub returns-in_default-clause-script : goal.returns-in_default-clause-script
-returns-in_default-clause-script g c = λ words. rw (c.stopped.ensures.output) (runs_script (script_memory c.stopped.ensures.code (gained-nothing (g.K.Sink.sent c.args.output)) refl refl))
+pub returns-clause-command : goal.returns-clause-command
+returns-clause-command g c = λ plain. rw (c.stopped-in-Err.ensures.output, c.stopped-in-Err.ensures.unused.0) (memory_commanded c.stopped-in-Err.ensures.code (gained-nothing (g.K.Sink.sent c.args.output)) refl refl)
 
-pub returns-clause-script : goal.returns-clause-script
-returns-clause-script g c = λ words. rw (c.stopped-in-Err.ensures.output) (runs_script (script_memory c.stopped-in-Err.ensures.code (gained-nothing (g.K.Sink.sent c.args.output)) refl refl))
+pub returns-in_default-clause-client : goal.returns-in_default-clause-client
+returns-in_default-clause-client g c =
+    let unused = c.stopped.ensures.unused in
+    λ address words is. rw (c.stopped.ensures.output, unused.2, unused.3) (runs_client (no_memory refl c.stopped.ensures.code refl (gained-nothing (g.K.Sink.sent c.args.output)) refl refl))
 
-pub returns-in_default-clause-trust : goal.returns-in_default-clause-trust
-returns-in_default-clause-trust g c = λ words. rw (c.stopped.ensures.output) (runs_trust (trust_memory c.stopped.ensures.code (gained-nothing (g.K.Sink.sent c.args.output)) refl refl))
-
-pub returns-clause-trust : goal.returns-clause-trust
-returns-clause-trust g c = λ words. rw (c.stopped-in-Err.ensures.output) (runs_trust (trust_memory c.stopped-in-Err.ensures.code (gained-nothing (g.K.Sink.sent c.args.output)) refl refl))
+pub returns-clause-client : goal.returns-clause-client
+returns-clause-client g c =
+    let unused = c.stopped-in-Err.ensures.unused in
+    λ address words is. rw (c.stopped-in-Err.ensures.output, unused.2, unused.3) (runs_client (no_memory refl c.stopped-in-Err.ensures.code refl (gained-nothing (g.K.Sink.sent c.args.output)) refl refl))

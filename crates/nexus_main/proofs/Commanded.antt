@@ -1,0 +1,124 @@
+-- What a run of a command is, by the words that call it.
+use Rattle.std.proofs.Common.{◌≡◌, ◌==◌, ◌∷◌, false, ℕ, List, [], Option, None, refl, sym, ap, ◌∙◌}
+use Rattle.std.proofs.lemmas.Bool.Decides.{Decides-eqb}
+use Rattle.policy_history.specs.Values.{History}
+use Rattle.run_streams.specs.Runs.{SinkRun, SourceRun}
+use Rattle.nexus_main.specs.declared.commands.Command.TheVariants.{Check, Script, Core, Trust, Prove, Recover}
+use Rattle.nexus_main.specs.Commands.{IsLoad, IsPlain, check_words, core_words, prove_words, recover_words, script_words, trust_words}
+use Rattle.nexus_main.specs.Commanded.{RunsCommand}
+use Rattle.nexus_main.specs.Cores.{RunsCore}
+use Rattle.nexus_main.specs.Program.{RunsCheck}
+use Rattle.nexus_main.specs.Proves.{RunsProve}
+use Rattle.nexus_main.specs.Recovers.{RunsRecover}
+use Rattle.nexus_main.specs.Scripts.{PanelRun, RunsScript}
+use Rattle.nexus_main.specs.Trusts.{RunsTrust}
+use Rattle.nexus_main.specs.Answers.{no_memory as answer_memory}
+use Rattle.nexus_main.specs.Cores.{no_memory as core_memory}
+use Rattle.nexus_main.specs.Program.{no_memory as check_memory}
+use Rattle.nexus_main.specs.Scripts.{no_memory as script_memory}
+use Rattle.nexus_main.proofs.AnswerEnds.{runs_answer}
+use Rattle.nexus_main.proofs.CoreEnds.{runs_core}
+use Rattle.nexus_main.proofs.Programs.{apart, runs_check}
+use Rattle.nexus_main.proofs.ScriptEnds.{runs_script}
+use Rattle.nexus_main.proofs.Words.{core_same}
+
+-- the words of no command, whatever is done
+pub none_commanded : {words : List (List ℕ)} {source : SourceRun} {sink : SinkRun} {panel : PanelRun} {journal : Option History} {status : ℕ} → (IsPlain words → ⊥)
+    → RunsCommand words source sink panel journal status
+none_commanded none = record {
+  check = λ e. absurd (none (Check, tt, e));
+  script = λ e. absurd (none (Script, tt, e));
+  trust = λ e. absurd (none (Trust, tt, e));
+  prove = λ e. absurd (none (Prove, tt, e));
+  recover = λ e. absurd (none (Recover, tt, e));
+  core = λ number steps e within. absurd (none (Core number steps, within, e));
+}
+
+-- ---- The words of one command are not those of another
+
+-- the first letter of the first word
+abbrev letter : List (List ℕ) → ℕ
+letter ((x ∷ xs) ∷ ws) = x
+letter _ = 0
+
+other_letter : {words : List (List ℕ)} (a b : List (List ℕ)) → words ≡ a → words ≡ b → (letter a == letter b) ≡ false → ⊥
+other_letter a b are e h = let t = (Decides-eqb (letter a) (letter b)).1 (ap letter (sym are ∙ e)) in cc (t, h)
+
+pub check_commanded : {words : List (List ℕ)} {source : SourceRun} {sink : SinkRun} {panel : PanelRun} {journal : Option History} {status : ℕ} → words ≡ check_words
+    → RunsCheck source sink status → RunsCommand words source sink panel journal status
+check_commanded are runs = record {
+  check = λ e. runs;
+  script = λ e. absurd (other_letter check_words script_words are e refl);
+  trust = λ e. absurd (other_letter check_words trust_words are e refl);
+  prove = λ e. absurd (other_letter check_words prove_words are e refl);
+  recover = λ e. absurd (other_letter check_words recover_words are e refl);
+  core = λ number steps e within. absurd (cc (sym are ∙ e));
+}
+
+pub script_commanded : {words : List (List ℕ)} {source : SourceRun} {sink : SinkRun} {panel : PanelRun} {journal : Option History} {status : ℕ} → words ≡ script_words
+    → RunsScript source sink panel journal status → RunsCommand words source sink panel journal status
+script_commanded are runs = record {
+  check = λ e. absurd (other_letter script_words check_words are e refl);
+  script = λ e. runs;
+  trust = λ e. absurd (other_letter script_words trust_words are e refl);
+  prove = λ e. absurd (other_letter script_words prove_words are e refl);
+  recover = λ e. absurd (other_letter script_words recover_words are e refl);
+  core = λ number steps e within. absurd (cc (sym are ∙ e));
+}
+
+pub trust_commanded : {words : List (List ℕ)} {source : SourceRun} {sink : SinkRun} {panel : PanelRun} {journal : Option History} {status : ℕ} → words ≡ trust_words
+    → RunsTrust source sink status → RunsCommand words source sink panel journal status
+trust_commanded are runs = record {
+  check = λ e. absurd (other_letter trust_words check_words are e refl);
+  script = λ e. absurd (other_letter trust_words script_words are e refl);
+  trust = λ e. runs;
+  prove = λ e. absurd (other_letter trust_words prove_words are e refl);
+  recover = λ e. absurd (other_letter trust_words recover_words are e refl);
+  core = λ number steps e within. absurd (cc (sym are ∙ e));
+}
+
+pub prove_commanded : {words : List (List ℕ)} {source : SourceRun} {sink : SinkRun} {panel : PanelRun} {journal : Option History} {status : ℕ} → words ≡ prove_words
+    → RunsProve source sink status → RunsCommand words source sink panel journal status
+prove_commanded are runs = record {
+  check = λ e. absurd (other_letter prove_words check_words are e refl);
+  script = λ e. absurd (other_letter prove_words script_words are e refl);
+  trust = λ e. absurd (other_letter prove_words trust_words are e refl);
+  prove = λ e. runs;
+  recover = λ e. absurd (other_letter prove_words recover_words are e refl);
+  core = λ number steps e within. absurd (cc (sym are ∙ e));
+}
+
+pub recover_commanded : {words : List (List ℕ)} {source : SourceRun} {sink : SinkRun} {panel : PanelRun} {journal : Option History} {status : ℕ} → words ≡ recover_words
+    → RunsRecover source sink status → RunsCommand words source sink panel journal status
+recover_commanded are runs = record {
+  check = λ e. absurd (other_letter recover_words check_words are e refl);
+  script = λ e. absurd (other_letter recover_words script_words are e refl);
+  trust = λ e. absurd (other_letter recover_words trust_words are e refl);
+  prove = λ e. absurd (other_letter recover_words prove_words are e refl);
+  recover = λ e. runs;
+  core = λ number steps e within. absurd (cc (sym are ∙ e));
+}
+
+pub core_commanded : {words : List (List ℕ)} {source : SourceRun} {sink : SinkRun} {panel : PanelRun} {journal : Option History} {status : ℕ} (m n : ℕ) → words ≡ core_words m n → IsLoad m n
+    → RunsCore m n sink status → RunsCommand words source sink panel journal status
+core_commanded {sink = sink} {status = status} m n are mine runs = record {
+  check = λ e. absurd (cc (sym are ∙ e));
+  script = λ e. absurd (cc (sym are ∙ e));
+  trust = λ e. absurd (cc (sym are ∙ e));
+  prove = λ e. absurd (cc (sym are ∙ e));
+  recover = λ e. absurd (cc (sym are ∙ e));
+  core = λ number steps e within. (let same = core_same number steps m n within mine (sym e ∙ are) in rw (same.0, same.1) runs);
+}
+
+-- ---- Where there was no memory for the words, nothing was read or written
+
+pub memory_commanded : {words : List (List ℕ)} {source : SourceRun} {sink : SinkRun} {panel : PanelRun} {status : ℕ} → status ≡ 6 → sink.sent ≡ [] → source.faults_now ≡ source.faults
+    → sink.faults_now ≡ sink.faults → RunsCommand words source sink panel None status
+memory_commanded {source = source} {sink = sink} {panel = panel} {status = status} six none still still_too = record {
+  check = λ e. runs_check (check_memory six none still still_too);
+  script = λ e. runs_script (script_memory six none still still_too);
+  trust = λ e. runs_answer (λ answer is e three. apart status 6 3 six three refl) (answer_memory six none still still_too);
+  prove = λ e. runs_answer (λ answer is e three. apart status 6 3 six three refl) (answer_memory six none still still_too);
+  recover = λ e. runs_answer (λ answer is e three. apart status 6 3 six three refl) (answer_memory six none still still_too);
+  core = λ number steps e within. runs_core (core_memory six none still_too);
+}

@@ -1,0 +1,20 @@
+-- How a run of a command ends that is no service.
+use Rattle.std.specs.Prelude.{◌≡◌, ℕ, List, Option}
+use Rattle.policy_history.specs.Values.{History}
+use Rattle.run_streams.specs.Runs.{SinkRun, SourceRun}
+use Rattle.nexus_main.specs.Commands.{IsLoad, check_words, core_words, prove_words, recover_words, script_words, trust_words}
+use Rattle.nexus_main.specs.Cores.{RunsCore}
+use Rattle.nexus_main.specs.Program.{RunsCheck}
+use Rattle.nexus_main.specs.Proves.{RunsProve}
+use Rattle.nexus_main.specs.Recovers.{RunsRecover}
+use Rattle.nexus_main.specs.Scripts.{PanelRun, RunsScript}
+use Rattle.nexus_main.specs.Trusts.{RunsTrust}
+
+-- what a run with these words is, for each command
+pub record RunsCommand (words : List (List ℕ)) (source : SourceRun) (sink : SinkRun) (panel : PanelRun) (journal : Option History) (status : ℕ) : Type 0 where
+  pub check : words ≡ check_words → RunsCheck source sink status
+  pub script : words ≡ script_words → RunsScript source sink panel journal status
+  pub trust : words ≡ trust_words → RunsTrust source sink status
+  pub prove : words ≡ prove_words → RunsProve source sink status
+  pub recover : words ≡ recover_words → RunsRecover source sink status
+  pub core : (number steps : ℕ) → words ≡ core_words number steps → IsLoad number steps → RunsCore number steps sink status
