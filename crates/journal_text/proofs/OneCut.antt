@@ -1,12 +1,15 @@
 -- No text that may be cut reads as two policies, and one that has an error has no other and reads as none.
-use Rattle.std.proofs.Common.{◌≡◌, ◌≢◌, ◌≤◌, ◌⊎◌, ℕ, List, [], length, inl, inr, Result, Ok, Err, IfOk, IfErr, refl, sym, ap, ◌∙◌, subst, arith}
+use Rattle.std.proofs.Common.{◌≡◌, ◌≢◌, ◌≤◌, ◌⊎◌, ℕ, List, [], ◌∷◌, length, inl, inr, Result, Ok, Err, IfOk, IfErr, refl, sym, ap, ◌∙◌, subst, arith}
+use Rattle.std.specs.List.{All}
+use Rattle.std.proofs.lemmas.List.Elements.{All-append, All-cons, All-nil}
 use Rattle.policy_history.specs.declared.heads.Head.{Head}
 use Rattle.policy_history.specs.Events.{EntryTree}
 use Rattle.policy_history.specs.Laws.{refusal_number}
 use Rattle.policy_history.specs.Values.{History, entry_trees}
 use Rattle.journal_text.specs.CutPolicies.{IsCutErrorOf, IsKept, IsWrongCut, IsWrongOpen, ReadsCut, ReadsOpen}
 use Rattle.journal_text.specs.CutLaws.{NoCutPolicyWithError, OneCutError, OneCutPolicy}
-use Rattle.journal_text.specs.PolicyText.{Fault, IsFaultAt, Leads, Stage, ended_with, header_due, here, most_bytes, on, open_with}
+use Rattle.journal_text.specs.PolicyLaws.{IsInSession}
+use Rattle.journal_text.specs.PolicyText.{Fault, Follows, IsFaultAt, Leads, Stage, authority, end, ended_with, entry, header, header_due, here, most_bytes, on, open_with, principal}
 use Rattle.journal_text.specs.Inner.PolicyReading.{IsOpenError}
 use Rattle.journal_text.specs.declared.policy_reader.PolicyError.{PolicyError}
 use Rattle.journal_text.specs.declared.policy_reader.PolicyError.TheVariants.{Bad, Refused, TooLong, Memory}
@@ -99,6 +102,32 @@ sole_cut text (Err e) read = tt
 pub no_cut : (text : List ℕ) (r : Result History PolicyError) → IfErr r (IsCutErrorOf text) → IfErr r (λ e. e ≢ Memory → (h : Head) (es : List EntryTree) → ReadsCut text h es → ⊥)
 no_cut text (Ok j) told = tt
 no_cut text (Err e) told = λ some h es. no_cut_policy_with_error text e h es some told
+
+-- ---- Each entry that is read has a session
+
+abbrev IsTold : Stage → Type 0
+IsTold header_due = Unit {0}
+IsTold (open_with h es) = All IsInSession es
+IsTold (ended_with h es) = All IsInSession es
+
+told_by : {stage next : Stage} {line : List ℕ} → Follows stage line next → IsTold stage → IsTold next
+told_by (header is) told = All-nil IsInSession
+told_by (principal p is n s are) told = All-nil IsInSession
+told_by (authority a is are) told = All-nil IsInSession
+told_by (entry {es = es} e l acc) told = All-append IsInSession es (e ∷ []) told (All-cons IsInSession e [] l.session.0 (All-nil IsInSession))
+told_by (end is) told = told
+
+all_told : {stage last : Stage} {text rest : List ℕ} {n : ℕ} → Leads stage text n last rest → IsTold stage → IsTold last
+all_told here told = told
+all_told (on some f k) told = all_told k (told_by f told)
+
+open_told : {kept : List ℕ} {h : Head} {es : List EntryTree} → ReadsOpen kept h es → All IsInSession es
+open_told (n, inl k) = all_told k tt
+open_told (n, inr k) = all_told k tt
+
+pub cut_sessions : (text : List ℕ) (r : Result History PolicyError) → IfOk r (λ j. ReadsCut text j.head (entry_trees j.entries)) → IfOk r (λ j. All IsInSession (entry_trees j.entries))
+cut_sessions text (Ok j) read = open_told read.reads
+cut_sessions text (Err e) read = tt
 
 -- ---- What is kept of a text reads as the text
 

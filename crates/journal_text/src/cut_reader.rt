@@ -1,9 +1,11 @@
 //! Reading the text of a policy that may be cut anywhere.
 ghost use Rattle.std.specs.Prelude.{◌≡◌, ◌≢◌, ◌<◌, ◌≤◌, ℕ, List, IfErr, IfOk, drop, length, take};
+ghost use Rattle.std.specs.List.{All};
 ghost use Rattle.policy_history.specs.Events.{EntryTree};
 ghost use Rattle.policy_history.specs.Values.{entry_trees};
 ghost use Rattle.policy_history.specs.declared.heads.Head.{Head};
 ghost use Rattle.journal_text.specs.CutPolicies.{IsCutErrorOf, IsCutInto, IsKept, ReadsCut, ReadsOpen};
+ghost use Rattle.journal_text.specs.PolicyLaws.{IsInSession};
 ghost use Rattle.journal_text.specs.PolicyText.{most_bytes};
 ghost use Rattle.journal_text.specs.Inner.PolicyReading.{IsOpenError};
 
@@ -14,11 +16,13 @@ use std::alloc::Global;
 /// Reads the text of a policy that may be cut anywhere. A last line without its line feed is left out, unless it is `end`; what
 /// is kept is the text of a policy, whose line `end` may be missing. Ok exactly where it is one; it is that of no other.
 /// `TooLong` exactly where the text has more than 67,108,864 bytes, and before all others; else the error of the lowest wrong
-/// line of what is kept. Where nothing is kept, that is line 1. The sessions of the entries have no bound but their 64 bits.
+/// line of what is kept. Where nothing is kept, that is line 1. Each entry has a session, whose number has no bound but its
+/// 64 bits, so that the text of the journal is read again as an equal one.
 /// `docs/FORMATS.md`, "Policy text", states the form.
 pub fn read_cut(alloc: Global, text: &[u8]) -> Result<Journal, PolicyError>
     ensures ok { IfOk result (λ journal. ReadsCut text.now journal.head (entry_trees journal.entries)) }
     ensures only { IfOk result (λ journal. (h : Head) (es : List EntryTree) → ReadsCut text.now h es → (h ≡ journal.head) × (es ≡ entry_trees journal.entries)) }
+    ensures sessions { IfOk result (λ journal. All IsInSession (entry_trees journal.entries)) }
     ensures err { IfErr result (IsCutErrorOf text.now) }
     ensures refused { IfErr result (λ e. e ≢ PolicyError.Memory → (h : Head) (es : List EntryTree) → ¬ ReadsCut text.now h es) }
     ensures long { most_bytes < length text.now → result ≡ Err PolicyError.TooLong }
