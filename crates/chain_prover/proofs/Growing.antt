@@ -1,16 +1,20 @@
 -- What stays known while nodes are added.
-use Rattle.std.proofs.Common.{◌≡◌, ◌<◌, ◌≤◌, ◌+◌, ◌⊎◌, inl, inr, ℕ, List, [], ◌∷◌, ◌++◌, Bool, true, Some, length, set, refl, sym, ap, ◌∙◌, subst, arith, append_assoc, append-nil}
+use Rattle.std.proofs.Common.{◌≡◌, ◌<◌, ◌≤◌, ◌+◌, ◌⊎◌, inl, inr, ℕ, List, [], ◌∷◌, ◌++◌, Bool, true, false, Some, length, set, get_or, replicate, refl, sym, ap, ◌∙◌, subst, arith, length-append, append_assoc, append-nil}
+use Rattle.std.specs.Borrow.{Bor}
 use Rattle.std.specs.List.{slice_get}
+use Rattle.nal_term.specs.declared.terms.Term.{Term}
 use Rattle.std.proofs.lemmas.List.Elements.{All-nil, All-append, All-contains, All-push}
-use Rattle.std.proofs.lemmas.List.{length-set}
+use Rattle.std.proofs.lemmas.List.{get_or-replicate, length-replicate, length-set}
+use Rattle.std.proofs.lemmas.Option.{get_or_from_slice_get, same_Some, slice_get_within}
+use Rattle.std.proofs.lemmas.Bool.{cases_lt}
 use Rattle.nal_term.specs.Trees.{TermTree, FormulaTree, term_tree}
 use Rattle.chain_prover.specs.declared.paths.Node.{Node}
 use Rattle.chain_prover.specs.declared.paths.Lead.{Lead}
 use Rattle.chain_prover.specs.declared.paths.Lead.TheVariants.{Goal, Grant, Part}
-use Rattle.chain_prover.specs.Chains.{Step, delegation, restricted, part}
-use Rattle.chain_prover.specs.Inner.Owners.{size_of}
-use Rattle.chain_prover.specs.Inner.Paths.{AreExpandedBelow, AreLinked, AreMarked, AreSized, Extends, Grants, IsExpanded, IsLead, IsReached, IsReachedWithin, step_count}
-use Rattle.chain_prover.proofs.Places.{got_left, got_right, got_cases, got_one, got_set, got_contained}
+use Rattle.chain_prover.specs.Inner.Numbers.{IsNumber}
+use Rattle.chain_prover.specs.Inner.Paths.{AreBelow, AreDone, AreExpandedBelow, AreKnown, AreLinked, Extends, IsExpanded, IsExpandedWithin, IsKnown, IsLead, IsReached, IsReachedWithin, step_count}
+use Rattle.chain_prover.proofs.Numbering.{one_principal}
+use Rattle.chain_prover.proofs.Places.{got_left, got_cases, got_one, got_set, got_contained}
 
 reached_left : (before added : List Node) (x : TermTree) (k : ℕ) → IsReached before x k → IsReached (before ++ added) x k
 reached_left before added x k (i, m, there, principal, lines) = (i, m, got_left before added i m there, principal, lines)
@@ -21,27 +25,27 @@ lead_left labels f b before added x k Goal h = h
 lead_left labels f b before added x k (Grant scope j) (m, there, step, lines) = (m, got_left before added j m there, step, lines)
 lead_left labels f b before added x k (Part j) (m, there, whole, lines) = (m, got_left before added j m there, whole, lines)
 
-module _ (labels : List FormulaTree) (f : FormulaTree) (n : ℕ) where
-  pub extends_none : (nodes : List Node) → Extends labels f nodes nodes n
-  extends_none nodes = record { added = []; after_is = sym (append-nil nodes); above = All-nil (λ (m : Node). n < m.lines); linked = λ b h. h; sized = λ h. h }
+module _ (terms : List (Bor Term)) (labels : List FormulaTree) (f : FormulaTree) (n : ℕ) where
+  pub extends_none : (nodes : List Node) → Extends terms labels f nodes nodes n
+  extends_none nodes = record { added = []; after_is = sym (append-nil nodes); above = All-nil (λ (m : Node). n < m.lines); linked = λ b h. h; known = λ h. h }
 
-  pub extends_twice : (before between after : List Node) → Extends labels f before between n → Extends labels f between after n → Extends labels f before after n
+  pub extends_twice : (before between after : List Node) → Extends terms labels f before between n → Extends terms labels f between after n → Extends terms labels f before after n
   extends_twice before between after d e = record {
     added = d.added ++ e.added;
     after_is = e.after_is ∙ ap (λ xs. xs ++ e.added) d.after_is ∙ append_assoc before d.added e.added;
     above = All-append (λ (m : Node). n < m.lines) d.added e.added d.above e.above;
     linked = λ b h. e.linked b (d.linked b h);
-    sized = λ h. e.sized (d.sized h);
+    known = λ h. e.known (d.known h);
   }
 
   -- one more node that leads on
-  pub extends_push : (nodes : List Node) (m : Node) → n < m.lines → m.size ≡ size_of (term_tree m.principal.now) → ((b : TermTree) → IsLead labels f b nodes (term_tree m.principal.now) m.lines m.lead) → Extends labels f nodes (nodes ++ m ∷ []) n
-  extends_push nodes m above size leads = record {
+  pub extends_push : (nodes : List Node) (m : Node) → n < m.lines → IsKnown terms m → ((b : TermTree) → IsLead labels f b nodes (term_tree m.principal.now) m.lines m.lead) → Extends terms labels f nodes (nodes ++ m ∷ []) n
+  extends_push nodes m above is_known leads = record {
     added = m ∷ [];
     after_is = refl;
     above = All-push (λ (m : Node). n < m.lines) [] m (All-nil (λ (m : Node). n < m.lines)) above;
     linked = λ b h i o there. of b h i o (got_cases nodes (m ∷ []) i o there);
-    sized = λ h i o there. sized h i o (got_cases nodes (m ∷ []) i o there);
+    known = λ h i o there. known h i o (got_cases nodes (m ∷ []) i o there);
   }
     where
       of : (b : TermTree) → AreLinked labels f b nodes → (i : ℕ) (o : Node) → (slice_get nodes i ≡ Some o) ⊎ ((j : ℕ) × (i ≡ length nodes + j) × (slice_get (m ∷ []) j ≡ Some o))
@@ -51,11 +55,11 @@ module _ (labels : List FormulaTree) (f : FormulaTree) (n : ℕ) where
           subst (λ (o : Node). IsLead labels f b (nodes ++ m ∷ []) (term_tree o.principal.now) o.lines o.lead) (got_one m j o there)
           (lead_left labels f b nodes (m ∷ []) (term_tree m.principal.now) m.lines m.lead (leads b))
 
-      sized : AreSized nodes → (i : ℕ) (o : Node) → (slice_get nodes i ≡ Some o) ⊎ ((j : ℕ) × (i ≡ length nodes + j) × (slice_get (m ∷ []) j ≡ Some o)) → o.size ≡ size_of (term_tree o.principal.now)
-      sized h i o (inl there) = h i o there
-      sized h i o (inr (j, at, there)) = subst (λ (o : Node). o.size ≡ size_of (term_tree o.principal.now)) (got_one m j o there) size
+      known : AreKnown terms nodes → (i : ℕ) (o : Node) → (slice_get nodes i ≡ Some o) ⊎ ((j : ℕ) × (i ≡ length nodes + j) × (slice_get (m ∷ []) j ≡ Some o)) → IsKnown terms o
+      known h i o (inl there) = h i o there
+      known h i o (inr (j, at, there)) = subst (λ (o : Node). IsKnown terms o) (got_one m j o there) is_known
 
-  module _ (before after : List Node) (e : Extends labels f before after n) where
+  module _ (before after : List Node) (e : Extends terms labels f before after n) where
     pub stands_after : (i : ℕ) (m : Node) → slice_get before i ≡ Some m → slice_get after i ≡ Some m
     stands_after i m there = rw e.after_is (got_left before e.added i m there)
 
@@ -80,36 +84,53 @@ module _ (labels : List FormulaTree) (f : FormulaTree) (n : ℕ) where
     pub below_after : AreExpandedBelow labels f before n → AreExpandedBelow labels f after n
     below_after h y k (i, m, there, principal, lines) less = expanded_after y k (h y k (i, m, was_there i m there (omega (arith, lines, less)), principal, lines) less)
 
-    pub used_after : (used : List Bool) → AreMarked labels f before used n → AreMarked labels f after used n
-    used_after used h = record { right = λ i label at mark x s g. within_after x (n + 3) (h.right i label at mark x s g); count = h.count }
+    -- nor do those before a place change
+    pub passed_after : (place : ℕ) → AreBelow before place n → AreBelow after place (n + 1)
+    passed_after place h = record {
+      within = (let w = h.within in let l = length-append before e.added in let s = ap length e.after_is in omega (arith, w, l, s));
+      fewer = λ i m less at. of i m less (got_cases before e.added i m (rw e.after_is at at));
+    }
+      where
+        of : (i : ℕ) (m : Node) → i < place → (slice_get before i ≡ Some m) ⊎ ((j : ℕ) × (i ≡ length before + j) × (slice_get e.added j ≡ Some m)) → m.lines < n + 1
+        of i m less (inl there) = let f = h.fewer i m less there in omega (arith, f)
+        of i m less (inr (j, far, there)) = let w = h.within in absurd (omega (arith, less, far, w))
 
--- a label lets one alone speak
-one_speaker : (f label : FormulaTree) (x x' : TermTree) (s s' : Step) → Grants f label x s → Grants f label x' s' → x ≡ x'
-one_speaker f label x x' (delegation y) (delegation y') g g' = cc (g, g')
-one_speaker f label x x' (delegation y) (restricted y' names) g g' = let e = g'.0 in absurd (cc (g, e))
-one_speaker f label x x' (delegation y) (part n) g g' = absurd g'
-one_speaker f label x x' (restricted y names) (delegation y') g g' = let e = g.0 in absurd (cc (e, g'))
-one_speaker f label x x' (restricted y names) (restricted y' names') g g' = let e = g.0 in let e' = g'.0 in cc (e, e')
-one_speaker f label x x' (restricted y names) (part n) g g' = absurd g'
-one_speaker f label x x' (part n) s' g g' = absurd g
+    pub done_after : (marks : List Bool) → AreDone terms labels f before marks n → AreDone terms labels f after marks n
+    done_after marks h = record { right = λ i y m s. let w = h.right i y m s in (w.0, w.1, expanded_after y w.0 w.2); count = h.count }
 
-module _ (labels : List FormulaTree) (f : FormulaTree) (n : ℕ) where
-  -- the speaker of a label has a node, which was made of it
-  pub speaker_reached : (nodes : List Node) (m : Node) (label : FormulaTree) (s : Step) → m.lines ≡ n + 3 → Grants f label (term_tree m.principal.now) s
-      → (x : TermTree) (s' : Step) → Grants f label x s' → IsReachedWithin (nodes ++ m ∷ []) x (n + 3)
-  speaker_reached nodes m label s lines g x s' g' =
-      (n + 3, omega arith, (length nodes + 0, m, got_right nodes (m ∷ []) 0 m refl, one_speaker f label (term_tree m.principal.now) x s s' g g', lines))
-
-  -- after a node was made of a label it is marked
-  pub marked_push : (nodes : List Node) (used : List Bool) (m : Node) (j : ℕ) (label : FormulaTree) (s : Step) → AreMarked labels f nodes used n → slice_get labels j ≡ Some label
-      → m.lines ≡ n + 3 → Grants f label (term_tree m.principal.now) s → AreMarked labels f (nodes ++ m ∷ []) (set used j true) n
-  marked_push nodes used m j label s h at lines g = record {
-    right = λ i l stands mark. of i l stands (got_set used j true i true mark);
-    count = length-set used j true ∙ h.count;
-  }
+  -- a principal that is expanded may be marked
+  pub done_marked : (nodes : List Node) (marks : List Bool) (i : ℕ) (y : TermTree) → AreDone terms labels f nodes marks n → IsNumber terms i y → IsExpanded labels f nodes y n → AreDone terms labels f nodes (set marks i true) n
+  done_marked nodes marks i y h number expanded = record { right = λ j x m s. of j x m (got_set marks i true j true s); count = length-set marks i true ∙ h.count }
     where
-      of : (i : ℕ) (l : FormulaTree) → slice_get labels i ≡ Some l → (i ≡ j) ⊎ (slice_get used i ≡ Some true) → (x : TermTree) (s' : Step) → Grants f l x s' → IsReachedWithin (nodes ++ m ∷ []) x (n + 3)
-      of i l stands (inl same) x s' g' =
-          let e : l ≡ label = cc (stands, same, at) in
-          speaker_reached nodes m label s lines g x s' (subst (λ l. Grants f l x s') e g')
-      of i l stands (inr mark) x s' g' = let w = h.right i l stands mark x s' g' in (w.0, w.1, reached_left nodes (m ∷ []) x w.0 w.2)
+      of : (j : ℕ) (x : TermTree) → IsNumber terms j x → (j ≡ i) ⊎ (slice_get marks j ≡ Some true) → IsExpandedWithin labels f nodes x n
+      of j x m (inl same) =
+          subst (λ x. IsExpandedWithin labels f nodes x n) (one_principal terms i y x number (subst (λ j. IsNumber terms j x) same m)) (n, omega arith, expanded)
+      of j x m (inr there) = h.right j x m there
+
+-- the first node
+pub known_first : (terms : List (Bor Term)) (m : Node) → IsKnown terms m → AreKnown terms (m ∷ [])
+known_first terms m h i o at = subst (λ (o : Node). IsKnown terms o) (got_one m i o at) h
+
+-- no mark is made at first
+pub not_marked : (n i : ℕ) → slice_get (replicate n false) i ≡ Some true → ⊥
+not_marked n i e =
+    let w = slice_get_within (replicate n false) i true e in
+    let l = length-replicate n false in
+    let within : i < n = omega (arith, w, l) in
+    let read : get_or (replicate n false) i false ≡ true = get_or_from_slice_get (replicate n false) i true false e in
+    let f : get_or (replicate n false) i false ≡ false = get_or-replicate n i false false within in
+    cc (read, f)
+
+-- one more node with fewer lines
+pub passed_more : (nodes : List Node) (n place : ℕ) (m : Node) → AreBelow nodes place n → slice_get nodes place ≡ Some m → m.lines < n → AreBelow nodes (place + 1) n
+passed_more nodes n place m h at few = record {
+  within = (let w = slice_get_within nodes place m at in omega (arith, w));
+  fewer = λ i o less there. of (cases_lt i place) i o less there refl;
+}
+  where
+    of : {i' : ℕ} → (i' < place) ⊎ (place ≤ i') → (i : ℕ) (o : Node) → i < place + 1 → slice_get nodes i ≡ Some o → i ≡ i' → o.lines < n
+    of (inl less) i o within there same = h.fewer i o (omega (arith, less, same)) there
+    of (inr most) i o within there same =
+        let last : i ≡ place = omega (arith, most, within, same) in
+        let e : m ≡ o = same_Some m o (sym at ∙ ap (λ i. slice_get nodes i) (sym last) ∙ there) in
+        subst (λ (o : Node). o.lines < n) e few

@@ -1,6 +1,7 @@
 pub mod Places
+pub mod Numbering
+pub mod Known
 pub mod Granting
-pub mod Sizes
 pub mod Growing
 pub mod Expanding
 pub mod Least

@@ -1,5 +1,5 @@
 -- What stands at a place of a list that was made longer, or written to.
-use Rattle.std.proofs.Common.{◌<◌, ◌≡◌, ◌+◌, ◌⊎◌, inl, inr, ℕ, zero, suc, List, [], ◌∷◌, ◌++◌, Some, length, set, refl, ap, arith}
+use Rattle.std.proofs.Common.{◌<◌, ◌≡◌, ◌+◌, ◌⊎◌, inl, inr, ℕ, zero, suc, List, [], ◌∷◌, ◌++◌, Bool, true, Some, length, set, refl, ap, arith}
 use Rattle.std.specs.List.{Contains, slice_get}
 use Rattle.std.proofs.lemmas.Option.{slice_get_within, get_or_from_slice_get, slice_get-get_or, same_Some}
 
@@ -42,6 +42,12 @@ module _ {X : Type 0} where
       of (inl same) = inl (ap suc same)
       of (inr there) = inr there
 
+  -- what was written stands there
+  pub got_written : (xs : List X) (j : ℕ) (y : X) → j < length xs → slice_get (set xs j y) j ≡ Some y
+  got_written [] j y within = absurd (omega (arith, within))
+  got_written (z ∷ xs) zero y within = refl
+  got_written (z ∷ xs) (suc j) y within = got_written xs j y (omega (arith, within))
+
   -- what stands in a list is contained in it
   pub got_contained : (xs : List X) (i : ℕ) (x : X) → slice_get xs i ≡ Some x → Contains xs x
   got_contained xs i x e = (i, slice_get_within xs i x e, get_or_from_slice_get xs i x x e)
@@ -55,3 +61,14 @@ module _ {X : Type 0} where
   some_at [] i within = absurd (omega (arith, within))
   some_at (y ∷ xs) zero within = (y, refl)
   some_at (y ∷ xs) (suc i) within = some_at xs i (omega (arith, within))
+
+-- a mark is made, and others stay
+pub got_set_here : (xs : List Bool) (j : ℕ) → j < length xs → slice_get (set xs j true) j ≡ Some true
+got_set_here xs j within = got_written xs j true within
+
+pub got_set_true : (xs : List Bool) (j i : ℕ) → slice_get xs i ≡ Some true → slice_get (set xs j true) i ≡ Some true
+got_set_true [] j i e = e
+got_set_true (z ∷ xs) zero zero e = refl
+got_set_true (z ∷ xs) zero (suc i) e = e
+got_set_true (z ∷ xs) (suc j) zero e = e
+got_set_true (z ∷ xs) (suc j) (suc i) e = got_set_true xs j i e

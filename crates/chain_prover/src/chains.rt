@@ -8,7 +8,7 @@ ghost use Rattle.chain_prover.specs.Answers.{HasNoChain, IsShortest};
 ghost use Rattle.chain_prover.specs.Chains.{IsChainProof};
 
 use crate::answers::ChainError;
-use crate::labels::Labels;
+use crate::facts::Facts;
 use crate::lines::proof_of;
 use crate::search::shortest_path;
 use nal_term::Formula;
@@ -39,8 +39,8 @@ pub fn find_chain(
     let Formula::Says(principal, statement) = goal else {
         return Err(ChainError::NotSays);
     };
-    let labels = Labels::of(alloc, labels.as_slice())?;
-    let Some(path) = shortest_path(alloc, &labels, statement, principal)? else {
+    let facts = Facts::of(alloc, labels.as_slice(), statement)?;
+    let Some(path) = shortest_path(alloc, &facts, principal)? else {
         return Ok(None);
     };
     Ok(Some(proof_of(alloc, &path, statement)?))

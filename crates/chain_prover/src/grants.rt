@@ -5,7 +5,7 @@ ghost use Rattle.nal_rules.specs.Scope.{IsInScope, IsNameOf};
 ghost use Rattle.chain_prover.specs.Chains.{Step, next};
 ghost use Rattle.chain_prover.specs.Inner.Paths.{Grants, grant_step};
 
-use nal_term::{Formula, Scope, Term, equal, equal_terms};
+use nal_term::{Formula, Scope, Term, equal_terms};
 
 /// By a label another principal speaks for the one that says it.
 #[derive(Clone, Copy)]
@@ -16,23 +16,12 @@ pub struct Grant<'a> {
     pub scope: Option<&'a Scope>,
 }
 
-/// What the label lets another principal state for this one. None exactly where the statement does not go on to the
-/// principal by the label.
-pub fn grant_of<'a>(label: &'a Formula, principal: &Term, statement: &Formula) -> Option<Grant<'a>>
-    ensures { MatchOption result
-        ((x : TermTree) (s : Step) → next x s ≡ term_tree principal.now → ¬ Grants (formula_tree statement.now) (formula_tree label.now) x s)
-        (λ g. Grants (formula_tree statement.now) (formula_tree label.now) (term_tree g.speaker.now) (grant_step (term_tree principal.now) g.scope)) }
-{
-    match label {
-        Formula::Says(owner, delegation) if equal_terms(owner, principal) => {
-            granted(delegation, principal, statement)
-        }
-        _ => None,
-    }
-}
-
 /// What the delegation lets a principal state for this one, who says it.
-fn granted<'a>(delegation: &'a Formula, principal: &Term, statement: &Formula) -> Option<Grant<'a>>
+pub fn granted<'a>(
+    delegation: &'a Formula,
+    principal: &Term,
+    statement: &Formula,
+) -> Option<Grant<'a>>
     ensures { MatchOption result
         ((x : TermTree) (s : Step) → next x s ≡ term_tree principal.now → ¬ Grants (formula_tree statement.now) (says (term_tree principal.now) (formula_tree delegation.now)) x s)
         (λ g. Grants (formula_tree statement.now) (says (term_tree principal.now) (formula_tree delegation.now)) (term_tree g.speaker.now) (grant_step (term_tree principal.now) g.scope)) }
@@ -73,16 +62,6 @@ fn is_name_of(scope: &Scope, term: &Term) -> bool
 {
     match term {
         Term::Name(name) => scope.holds(name),
-        _ => false,
-    }
-}
-
-/// Whether the label is that the principal says the statement.
-pub fn is_said_by(label: &Formula, principal: &Term, statement: &Formula) -> bool
-    ensures { IsTrue result ↔ (formula_tree label.now ≡ says (term_tree principal.now) (formula_tree statement.now)) }
-{
-    match label {
-        Formula::Says(owner, said) => equal_terms(owner, principal) && equal(said, statement),
         _ => false,
     }
 }

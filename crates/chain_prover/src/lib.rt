@@ -3,10 +3,11 @@
 
 mod answers;
 mod chains;
+mod facts;
 mod grants;
-mod labels;
 mod lines;
 mod paths;
+mod principals;
 mod search;
 #[cfg(test)]
 mod tests;

@@ -22,6 +22,8 @@ pub struct Node<'a> {
     pub principal: &'a Term,
     /// The size of the principal.
     pub size: u64,
+    /// Its number among the principals that labels name. None where no label names it.
+    pub number: Option<usize>,
     /// How many lines the steps from here have in a proof.
     pub lines: u64,
     pub lead: Lead<'a>,

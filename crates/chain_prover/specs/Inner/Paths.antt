@@ -1,5 +1,7 @@
 -- What is known of principals while a chain is looked for, from the goal's principal back.
 use Rattle.std.specs.Prelude.{◌≡◌, ◌≤◌, ◌<◌, ◌+◌, ◌++◌, ℕ, List, All, Bool, true, Option, None, Some, Contains, length, slice_get}
+use Rattle.std.specs.Option.{MatchOption}
+use Rattle.nal_term.specs.declared.terms.Term.{Term}
 use Rattle.std.specs.Borrow.{Bor}
 use Rattle.nal_term.specs.Trees.{TermTree, FormulaTree, says, speaks_for, speaks_for_on, subprincipal, term_tree}
 use Rattle.proof_lines.specs.Lines.{LineTree}
@@ -7,7 +9,7 @@ use Rattle.nal_rules.specs.Scope.{IsInScope}
 use Rattle.chain_prover.specs.declared.paths.Node.{Node}
 use Rattle.chain_prover.specs.declared.paths.Lead.{Lead}
 use Rattle.chain_prover.specs.declared.paths.Lead.TheVariants.{Goal, Grant, Part}
-use Rattle.chain_prover.specs.Inner.Owners.{size_of}
+use Rattle.chain_prover.specs.Inner.Numbers.{IsNumber, size_of}
 use Rattle.chain_prover.specs.Chains.{Step, delegation, restricted, part, next, Chain, last_of, IsStep, IsChain, chain_lines}
 
 -- the step to the one who grants it, on all or on some names
@@ -45,9 +47,13 @@ IsLead labels f b nodes x k (Part j) = (m : Node) × (slice_get nodes j ≡ Some
 abbrev pub AreLinked : List FormulaTree → FormulaTree → TermTree → List Node → Type 0
 AreLinked labels f b nodes = (i : ℕ) (n : Node) → slice_get nodes i ≡ Some n → IsLead labels f b nodes (term_tree n.principal.now) n.lines n.lead
 
--- each node has the size of its principal
-abbrev pub AreSized : List Node → Type 0
-AreSized nodes = (i : ℕ) (n : Node) → slice_get nodes i ≡ Some n → n.size ≡ size_of (term_tree n.principal.now)
+-- a node has the size and the number of its principal
+abbrev pub IsKnown : List (Bor Term) → Node → Type 0
+IsKnown terms n = (n.size ≡ size_of (term_tree n.principal.now)) × MatchOption n.number ((i : ℕ) → ¬ IsNumber terms i (term_tree n.principal.now)) (λ i. IsNumber terms i (term_tree n.principal.now))
+
+-- each node has
+abbrev pub AreKnown : List (Bor Term) → List Node → Type 0
+AreKnown terms nodes = (i : ℕ) (n : Node) → slice_get nodes i ≡ Some n → IsKnown terms n
 
 -- the principal, from which k lines lead on, does not state it by a label, and there are nodes of all from which a step
 -- leads to it
@@ -59,23 +65,27 @@ pub record IsExpanded (labels : List FormulaTree) (f : FormulaTree) (nodes : Lis
 abbrev pub AreExpandedBelow : List FormulaTree → FormulaTree → List Node → ℕ → Type 0
 AreExpandedBelow labels f nodes n = (y : TermTree) (k : ℕ) → IsReached nodes y k → k < n → IsExpanded labels f nodes y k
 
--- there are nodes, with at most n + 3 lines, of those whom used labels let speak
-abbrev pub AreUsed : List FormulaTree → FormulaTree → List Node → List Bool → ℕ → Type 0
-AreUsed labels f nodes used n = (i : ℕ) (label : FormulaTree) → slice_get labels i ≡ Some label → slice_get used i ≡ Some true
-    → (x : TermTree) (s : Step) → Grants f label x s → IsReachedWithin nodes x (n + 3)
+-- the principal is expanded with at most n lines
+abbrev pub IsExpandedWithin : List FormulaTree → FormulaTree → List Node → TermTree → ℕ → Type 0
+IsExpandedWithin labels f nodes y n = (k : ℕ) × (k ≤ n) × IsExpanded labels f nodes y k
 
--- the marks are as many as the labels, and right
-pub record AreMarked (labels : List FormulaTree) (f : FormulaTree) (nodes : List Node) (used : List Bool) (n : ℕ) : Type 0 where
-  pub right : AreUsed labels f nodes used n
-  pub count : length used ≡ length labels
+-- the principals that are marked are expanded with at most n lines, and there are as many marks as numbers
+pub record AreDone (terms : List (Bor Term)) (labels : List FormulaTree) (f : FormulaTree) (nodes : List Node) (marks : List Bool) (n : ℕ) : Type 0 where
+  pub right : (i : ℕ) (y : TermTree) → IsNumber terms i y → slice_get marks i ≡ Some true → IsExpandedWithin labels f nodes y n
+  pub count : length marks ≡ length terms
 
 -- nodes with more than n lines were added, each of which leads on
-pub record Extends (labels : List FormulaTree) (f : FormulaTree) (before after : List Node) (n : ℕ) : Type 0 where
+pub record Extends (terms : List (Bor Term)) (labels : List FormulaTree) (f : FormulaTree) (before after : List Node) (n : ℕ) : Type 0 where
   pub added : List Node
   pub after_is : after ≡ before ++ added
   pub above : All (λ m. n < m.lines) added
   pub linked : (b : TermTree) → AreLinked labels f b before → AreLinked labels f b after
-  pub sized : AreSized before → AreSized after
+  pub known : AreKnown terms before → AreKnown terms after
+
+-- the nodes before this place have fewer than n lines
+pub record AreBelow (nodes : List Node) (place n : ℕ) : Type 0 where
+  pub within : place ≤ length nodes
+  pub fewer : (i : ℕ) (m : Node) → i < place → slice_get nodes i ≡ Some m → m.lines < n
 
 -- every chain to the principal has more than n lines
 abbrev pub NeedsMore : List FormulaTree → FormulaTree → TermTree → ℕ → Type 0

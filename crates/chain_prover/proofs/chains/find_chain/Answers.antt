@@ -6,8 +6,8 @@ use Rattle.chain_prover.proofs.Answered.{chain_proof, goal_derived, labels_of_pr
 use Rattle.chain_prover.proofs.chains.find_chain.Goals.{In_ok-proof_of}
 use Rattle.chain_prover.proofs.chains.find_chain.Goals as goal
 
-pub returns-in_err-labels-clause-not_says : goal.returns-in_err-labels-clause-not_says
-returns-in_err-labels-clause-not_says c = says_told _ _ (ap formula_tree c.in-Says.is) (memory_told _ c.from_residual.ensures.1)
+pub returns-in_err-facts-clause-not_says : goal.returns-in_err-facts-clause-not_says
+returns-in_err-facts-clause-not_says c = says_told _ _ (ap formula_tree c.in-Says.is) (memory_told _ c.from_residual.ensures.1)
 
 pub returns-in_err-path-clause-not_says : goal.returns-in_err-path-clause-not_says
 returns-in_err-path-clause-not_says c = says_told _ _ (ap formula_tree c.in-Says.is) (memory_told _ c.from_residual-in_err-path.ensures.1)
@@ -25,7 +25,7 @@ returns-clause-not_says c = says_told _ _ (ap formula_tree c.in-Says.is) (λ e. 
 along : (c : In_ok-proof_of) → (n : ℕ) × (n < 256) × NeedsMore (map formula_tree c.args.labels.now.items) (formula_tree c.in-Says.statement.value) (term_tree c.in-Says.principal) n
     × IsProofAlong (map formula_tree c.args.labels.now.items) (formula_tree c.in-Says.statement.value) (term_tree c.in-Says.principal) (line_trees c.in_ok-proof_of.field-0) n
 along c =
-    let (n, shortest) = rw (c.in_ok-labels.ensures, c.as_slice.ensures.value, c.deref.ensures) at (rw c.in-Some.is at c.in_ok-path.ensures) in
+    let (n, shortest) = rw (c.in_ok-facts.ensures.labels, c.in_ok-facts.ensures.statement, c.as_slice.ensures.value, c.deref.ensures) at (rw c.in-Some.is at c.in_ok-path.ensures) in
     (n, shortest.bound, shortest.least, rw c.deref-2.ensures at c.in_ok-proof_of.ensures _ _ n shortest.path)
 
 goal_is : (c : In_ok-proof_of) → formula_tree c.args.goal.now ≡ says (term_tree c.in-Says.principal) (formula_tree c.in-Says.statement.value)

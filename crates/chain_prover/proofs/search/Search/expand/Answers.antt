@@ -1,42 +1,78 @@
-use Rattle.std.proofs.Common.{◌+◌, map, below_more, arith}
-use Rattle.std.proofs.lemmas.List.{length-map}
-use Rattle.nal_term.specs.Trees.{formula_tree, term_tree}
-use Rattle.chain_prover.proofs.Growing.{extends_twice, stands_after, used_after, within_after}
-use Rattle.chain_prover.proofs.Expanding.{stepped}
+use Rattle.std.proofs.Common.{◌+◌, arith}
+use Rattle.nal_term.specs.Trees.{term_tree}
+use Rattle.chain_prover.specs.Inner.Numbers.{IsNumber}
+use Rattle.chain_prover.specs.Inner.Knowing.{labels_of, statement_of, terms_of}
+use Rattle.chain_prover.specs.Inner.Paths.{AreDone, IsExpanded}
+use Rattle.chain_prover.proofs.Growing.{done_after, done_marked, extends_twice, stands_after, within_after}
+use Rattle.chain_prover.proofs.Expanding.{all_speakers, no_speakers, stepped}
+use Rattle.chain_prover.proofs.Numbering.{number_within}
+use Rattle.chain_prover.proofs.search.Search.expand.Goals.{In_ok-add_speakers}
 use Rattle.chain_prover.proofs.search.Search.expand.Goals as goal
 
-pub loop-label-init : goal.loop-label-init
-loop-label-init c =
-    let labels = map formula_tree c.args.labels.now in
-    let f = formula_tree c.args.statement.now in
-    let n = c.args.node.lines in
-    let e = c.in_ok-add_whole.ensures.extends labels f in (
-      e,
-      rw c.in_ok-add_whole.ensures.used (used_after labels f n c.args.self.now.nodes.items c.add_whole.new.self.nodes.items e c.args.self.now.used.items c.requires.marked),
-      c.in_ok-add_whole.ensures.reached,
-      λ i less. absurd (omega (arith, less)),
-    )
+pub returns-in_default-clause-done : goal.returns-in_default-clause-done
+returns-in_default-clause-done c =
+    let facts = c.args.facts.now in
+    rw c.in_ok-add_whole.ensures.expanded (done_after (terms_of facts) (labels_of facts) (statement_of facts) c.args.node.lines c.args.self.now.nodes.items c.add_whole.new.self.nodes.items
+    c.in_ok-add_whole.ensures.extends c.args.self.now.expanded.items c.requires.done)
 
-pub add_speaker-requires-clause-stands : goal.add_speaker-requires-clause-stands
-add_speaker-requires-clause-stands c =
-    stands_after (map formula_tree c.args.labels.now) (formula_tree c.args.statement.now) c.args.node.lines c.args.self.now.nodes.items c.loop-label.self.nodes.items c.loop-label.invariant.0
+pub returns-in_default-clause-expanded : goal.returns-in_default-clause-expanded
+returns-in_default-clause-expanded c =
+    let facts = c.args.facts.now in
+    let y = term_tree c.args.node.principal.now in
+    let nodes = c.add_whole.new.self.nodes.items in
+    record {
+      unsaid = c.requires.unsaid;
+      stepped = stepped facts c.requires.facts nodes y c.args.node.lines c.in_ok-add_whole.ensures.reached (no_speakers facts c.requires.facts nodes y c.args.node.lines (rw c.in_default.is at c.requires.known.1));
+    }
+
+pub add_speakers-requires-clause-stands : goal.add_speakers-requires-clause-stands
+add_speakers-requires-clause-stands c =
+    let facts = c.args.facts.now in
+    stands_after (terms_of facts) (labels_of facts) (statement_of facts) c.args.node.lines c.args.self.now.nodes.items c.add_whole.new.self.nodes.items c.in_ok-add_whole.ensures.extends
     c.args.place c.args.node c.requires.stands
 
-pub loop-label-preserved : goal.loop-label-preserved
-loop-label-preserved c =
-    let labels = map formula_tree c.args.labels.now in
-    let f = formula_tree c.args.statement.now in
-    let n = c.args.node.lines in
-    let now = c.loop-label.self.nodes.items in
-    let after = c.add_speaker.new.self.nodes.items in
-    let e = c.in_ok-add_speaker.ensures.extends in (
-      extends_twice labels f n c.args.self.now.nodes.items now after c.loop-label.invariant.0 e,
-      c.in_ok-add_speaker.ensures.marked,
-      λ x m is. within_after labels f n now after e x (n + 2) (c.loop-label.invariant.2 x m is),
-      below_more _ _ (λ i less g at x s grants is. within_after labels f n now after e x (n + 3) (c.loop-label.invariant.3 i less g at x s grants is)) c.in_ok-add_speaker.ensures.reached,
-    )
+number : (c : In_ok-add_speakers) → IsNumber (terms_of c.args.facts.now) c.in-Some.number (term_tree c.args.node.principal.now)
+number c = rw c.in-Some.is at c.requires.known.1
 
-pub returns-clause-stepped : goal.returns-clause-stepped
-returns-clause-stepped c =
-    stepped (map formula_tree c.args.labels.now) (formula_tree c.args.statement.now) c.loop-label.self.nodes.items (term_tree c.args.node.principal.now) c.args.node.lines
-    c.loop-label.invariant.2 (λ i less. c.loop-label.invariant.3 i (omega (arith, less, length-map c.args.labels.now formula_tree, c.loop-label-test.false)))
+done : (c : In_ok-add_speakers) → AreDone (terms_of c.args.facts.now) (labels_of c.args.facts.now) (statement_of c.args.facts.now) c.add_speakers.new.self.nodes.items c.add_speakers.new.self.expanded.items c.args.node.lines
+done c =
+    let facts = c.args.facts.now in
+    rw c.in_ok-add_speakers.ensures.expanded (done_after (terms_of facts) (labels_of facts) (statement_of facts) c.args.node.lines c.add_whole.new.self.nodes.items c.add_speakers.new.self.nodes.items
+    c.in_ok-add_speakers.ensures.extends c.add_whole.new.self.expanded.items (rw c.in_ok-add_whole.ensures.expanded (done_after (terms_of facts) (labels_of facts) (statement_of facts) c.args.node.lines c.args.self.now.nodes.items c.add_whole.new.self.nodes.items c.in_ok-add_whole.ensures.extends c.args.self.now.expanded.items c.requires.done)))
+
+expanded : (c : In_ok-add_speakers) → IsExpanded (labels_of c.args.facts.now) (statement_of c.args.facts.now) c.add_speakers.new.self.nodes.items (term_tree c.args.node.principal.now) c.args.node.lines
+expanded c =
+    let facts = c.args.facts.now in
+    let y = term_tree c.args.node.principal.now in
+    let n = c.args.node.lines in
+    let between = c.add_whole.new.self.nodes.items in
+    let nodes = c.add_speakers.new.self.nodes.items in
+    record {
+      unsaid = c.requires.unsaid;
+      stepped = stepped facts c.requires.facts nodes y n
+          (λ x m is. within_after (terms_of facts) (labels_of facts) (statement_of facts) n between nodes c.in_ok-add_speakers.ensures.extends x (n + 2) (c.in_ok-add_whole.ensures.reached x m is))
+          (all_speakers facts c.requires.facts nodes y n c.in-Some.number (number c) c.in_ok-add_speakers.ensures.reached);
+    }
+
+pub index_mut-requires : goal.index_mut-requires
+index_mut-requires c =
+    let d = (goal.at.index_mut-requires c).In_ok-add_speakers in
+    let w = number_within (terms_of c.args.facts.now) c.in-Some.number (term_tree c.args.node.principal.now) (number d) in
+    let s = (done d).count in
+    omega (arith, w, s)
+
+pub returns-clause-extends : goal.returns-clause-extends
+returns-clause-extends c =
+    let facts = c.args.facts.now in
+    extends_twice (terms_of facts) (labels_of facts) (statement_of facts) c.args.node.lines c.args.self.now.nodes.items c.add_whole.new.self.nodes.items c.add_speakers.new.self.nodes.items
+    c.in_ok-add_whole.ensures.extends c.in_ok-add_speakers.ensures.extends
+
+pub returns-clause-done : goal.returns-clause-done
+returns-clause-done c =
+    let facts = c.args.facts.now in
+    let d = (goal.at.returns-clause-done c).In_ok-add_speakers in
+    done_marked (terms_of facts) (labels_of facts) (statement_of facts) c.args.node.lines c.add_speakers.new.self.nodes.items c.add_speakers.new.self.expanded.items c.in-Some.number
+    (term_tree c.args.node.principal.now) (done d) (number d) (expanded d)
+
+pub returns-clause-expanded : goal.returns-clause-expanded
+returns-clause-expanded c = expanded (goal.at.returns-clause-expanded c).In_ok-add_speakers
