@@ -1,4 +1,8 @@
 // Whole days of a service over a door and a panel in memory: what each session is told, line by line, how it ends, and what is written.
+ghost use Rattle.std.specs.Prelude.{IfOk};
+ghost use Rattle.std.specs.List.{All};
+ghost use Rattle.nx_io.specs.MemoryDoors.{IsFreshPlan, IsFreshWire};
+
 use crate::program::{Ended, run};
 use authority_ask::{Ask, MemPanel};
 use journal_text::reply_line;
@@ -108,34 +112,64 @@ fn frames_of(alloc: Global, talk: &Talk) -> Result<Vec<u8>, AllocError> {
     Ok(frames)
 }
 
+// The link of a talk.
+fn link_of(alloc: Global, talk: &Talk) -> Result<MemLink, AllocError>
+    ensures { IfOk result IsFreshWire }
+{
+    let frames = frames_of(alloc, talk)?;
+    let piece = talk.piece.max(1);
+    MemLink::new(
+        alloc,
+        frames.as_slice(),
+        40_000,
+        piece,
+        &[],
+        talk.send_fails,
+    )
+}
+
+// One link more.
+fn with_link(links: Vec<MemLink>, link: MemLink) -> Result<Vec<MemLink>, AllocError>
+    requires links { All IsFreshWire links.items }
+    requires link { IsFreshWire link }
+    ensures { IfOk result (λ more. All IsFreshWire more.items) }
+{
+    let mut links = links;
+    links.push(link)?;
+    Ok(links)
+}
+
 // The links of the talks that come to this worker.
-fn links_of(alloc: Global, talks: &[Talk], worker: usize) -> Result<Vec<MemLink>, AllocError> {
+fn links_of(alloc: Global, talks: &[Talk], worker: usize) -> Result<Vec<MemLink>, AllocError>
+    ensures { IfOk result (λ links. All IsFreshWire links.items) }
+{
     let mut links = Vec::new(alloc);
     for talk in talks {
         if talk.worker == worker {
-            let frames = frames_of(alloc, talk)?;
-            links.push(MemLink::new(
-                alloc,
-                frames.as_slice(),
-                40_000,
-                talk.piece.max(1),
-                &[],
-                talk.send_fails,
-            )?)?;
+            let link = link_of(alloc, talk)?;
+            links = with_link(links, link)?;
         }
     }
     Ok(links)
 }
 
+// What the share of a worker will have.
+fn plan_of(alloc: Global, day: &Day, worker: usize) -> Result<DoorPlan, AllocError>
+    ensures { IfOk result IsFreshPlan }
+{
+    Ok(DoorPlan {
+        links: links_of(alloc, day.talks, worker)?,
+        fails: Vec::from_slice(alloc, day.next_fails)?,
+    })
+}
+
 // The door of two workers.
 fn door_of(alloc: Global, day: &Day) -> Result<MemDoor, AllocError> {
+    let first = plan_of(alloc, day, 0)?;
+    let second = plan_of(alloc, day, 1)?;
     let mut plans = Vec::new(alloc);
-    for worker in 0..2 {
-        plans.push(DoorPlan {
-            links: links_of(alloc, day.talks, worker)?,
-            fails: Vec::from_slice(alloc, day.next_fails)?,
-        })?;
-    }
+    plans.push(first)?;
+    plans.push(second)?;
     MemDoor::new(alloc, plans, None, day.listen_fails)
 }
 
