@@ -1,25 +1,34 @@
 //! The principals that labels name, by number.
-ghost use Rattle.std.specs.Prelude.{◌≡◌, ◌≤◌, ◌+◌, ◌++◌, IfOk, List, MatchOption, OnOk, [], ℕ, length};
+ghost use Rattle.std.specs.Prelude.{◌≡◌, ◌≤◌, ◌+◌, ◌++◌, ◌↔◌, IfOk, IsTrue, List, MatchOption, OnOk, [], ℕ, length};
 ghost use Rattle.std.specs.Borrow.{Bor};
 ghost use Rattle.nal_term.specs.declared.terms.Term.{Term};
 ghost use Rattle.nal_term.specs.Trees.{TermTree, term_tree};
-ghost use Rattle.chain_prover.specs.Inner.Numbers.{AreNumbered, IsNumber, size_of};
+ghost use Rattle.chain_prover.specs.Inner.Numbers.{AreNumbered, IsNumber, size_of, with_one_more};
 
-use nal_term::{Term, term_size};
+use nal_term::{Term, equal_terms, term_size};
 use std::alloc::{AllocError, Global};
 use std::collections::HashMap;
 
-/// How many kinds of sizes are told apart.
-const SIZES: usize = 1024;
+/// How many kinds of sizes are told apart: those with different remainders.
+const SIZES: usize = 512;
+
+/// Which principals are of one kind of size.
+#[derive(Clone, Copy)]
+pub enum OfSize {
+    Nobody,
+    /// This one alone, by its number.
+    One(usize),
+    Several,
+}
 
 /// The principals that labels name, each once. The number of one is its place.
 #[derive(Drop)]
 pub struct Principals<'a> {
     pub terms: Vec<&'a Term>,
     pub numbers: HashMap<&'a Term, usize>,
-    /// Whether one of them has a size, for each size below a bound. Larger ones are counted with the smaller one that has the same
-    /// remainder. So most principals that have no number are told by their size alone.
-    pub sizes: Vec<bool>,
+    /// Which of them have a size, by its kind. Most principals that have no number are told by their size alone, and one that
+    /// could be one other alone is compared with it: that takes less than to look for it in the map.
+    pub sizes: Vec<OfSize>,
 }
 
 impl<'a> Principals<'a> {
@@ -28,7 +37,7 @@ impl<'a> Principals<'a> {
         ensures none { IfOk result (λ all. all.terms.items ≡ []) }
         ensures numbered { IfOk result (λ all. AreNumbered all.terms.items all.numbers all.sizes.items) }
     {
-        let sizes = vec![in alloc; false; SIZES]?;
+        let sizes = vec![in alloc; OfSize::Nobody; SIZES]?;
         Ok(Principals {
             terms: Vec::new(alloc),
             numbers: HashMap::new(alloc),
@@ -49,10 +58,22 @@ impl<'a> Principals<'a> {
         requires size { size ≡ size_of (term_tree term.now) }
         ensures { MatchOption result ((i : ℕ) → ¬ IsNumber self.now.terms.items i (term_tree term.now)) (λ i. IsNumber self.now.terms.items i (term_tree term.now)) }
     {
-        if !self.sizes[size as usize % SIZES] {
-            return None;
+        match self.sizes[size as usize % SIZES] {
+            OfSize::Nobody => None,
+            OfSize::One(number) if self.is_number(number, term) => Some(number),
+            OfSize::One(_) => None,
+            OfSize::Several => self.numbers.get(&term).copied(),
         }
-        self.numbers.get(&term).copied()
+    }
+
+    /// Whether the number is that of the principal.
+    fn is_number(&self, number: usize, term: &Term) -> bool
+        ensures { IsTrue result ↔ IsNumber self.now.terms.items number (term_tree term.now) }
+    {
+        match self.terms.get(number) {
+            Some(other) => equal_terms(other, term),
+            None => false,
+        }
     }
 
     /// The number of the principal, which has one from now on. An `Err` is want of memory.
@@ -69,7 +90,18 @@ impl<'a> Principals<'a> {
         let number = self.count();
         self.terms.push(term)?;
         self.numbers.insert(term, number)?;
-        self.sizes[term_size(term) as usize % SIZES] = true;
+        let kind = term_size(term) as usize % SIZES;
+        self.sizes[kind] = with_one_more(self.sizes[kind], number);
         Ok(number)
+    }
+}
+
+/// Those of a size, and one more.
+fn with_one_more(those: OfSize, number: usize) -> OfSize
+    ensures { result ≡ with_one_more those number }
+{
+    match those {
+        OfSize::Nobody => OfSize::One(number),
+        _ => OfSize::Several,
     }
 }

@@ -1,8 +1,10 @@
 -- The numbers of principals.
-use Rattle.std.specs.Prelude.{◌≡◌, ◌-◌, ◌^◌, ◌%◌, ℕ, List, Bool, true, Option, Some, length, min, slice_get}
+use Rattle.std.specs.Prelude.{◌≡◌, ◌-◌, ◌^◌, ◌%◌, ℕ, List, Option, Some, length, min, slice_get}
 use Rattle.std.specs.Borrow.{Bor}
 use Rattle.std.specs.HashMap.{HashMap, get}
 use Rattle.nal_term.specs.declared.terms.Term.{Term}
+use Rattle.chain_prover.specs.declared.principals.OfSize.{OfSize}
+use Rattle.chain_prover.specs.declared.principals.OfSize.TheVariants.{Nobody, One, Several}
 use Rattle.nal_term.specs.Size.{term_node_count}
 use Rattle.nal_term.specs.Trees.{TermTree, term_tree}
 use Rattle.nal_term.specs.TreeKeys.{same_terms}
@@ -19,9 +21,21 @@ IsNumber terms i x = (t : Bor Term) × (slice_get terms i ≡ Some t) × (term_t
 abbrev pub number_in : {S : Type 0} → HashMap (Bor Term) ℕ S → Bor Term → Option ℕ
 number_in numbers q = get (λ t u. same_terms (term_tree t.now) (term_tree u.now)) numbers q
 
--- the map has the numbers of the principals, and their sizes are marked
-pub record AreNumbered {S : Type 0} (terms : List (Bor Term)) (numbers : HashMap (Bor Term) ℕ S) (sizes : List Bool) : Type 0 where
+-- the principal with this number is among those of a size
+abbrev pub AreWith : OfSize → ℕ → Type 0
+AreWith Nobody i = ⊥
+AreWith (One j) i = i ≡ j
+AreWith Several i = Unit {0}
+
+-- those of a size, and the principal with this number
+abbrev pub with_one_more : OfSize → ℕ → OfSize
+with_one_more Nobody i = One i
+with_one_more (One j) i = Several
+with_one_more Several i = Several
+
+-- the map has the numbers of the principals, and each is among those of its size
+pub record AreNumbered {S : Type 0} (terms : List (Bor Term)) (numbers : HashMap (Bor Term) ℕ S) (sizes : List OfSize) : Type 0 where
   pub right : (q : Bor Term) (i : ℕ) → number_in numbers q ≡ Some i → IsNumber terms i (term_tree q.now)
   pub all : (q : Bor Term) (i : ℕ) → IsNumber terms i (term_tree q.now) → number_in numbers q ≡ Some i
-  pub sized : (i : ℕ) (t : Bor Term) → slice_get terms i ≡ Some t → slice_get sizes (size_of (term_tree t.now) % 1024) ≡ Some true
-  pub count : length sizes ≡ 1024
+  pub sized : (i : ℕ) (t : Bor Term) → slice_get terms i ≡ Some t → (those : OfSize) → slice_get sizes (size_of (term_tree t.now) % 512) ≡ Some those → AreWith those i
+  pub count : length sizes ≡ 512

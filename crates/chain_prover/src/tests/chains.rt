@@ -64,6 +64,22 @@ const CASES: &[Case] = &[
         ]),
     ),
     (&[Says("bob.x", "ok")], BOB, None),
+    // Others than the one above the goal's principal have as many parts.
+    (&[Says("carol", "ok")], Says("bob.x", "ok"), None),
+    (
+        &[Says("carol", "ok"), BOB],
+        Says("bob.x", "ok"),
+        Some(&[
+            (Label, &[], BOB),
+            (SfSub, &[], For("bob", "bob.x")),
+            (SfE, &[2, 1], Says("bob.x", "ok")),
+        ]),
+    ),
+    (
+        &[Says("carol", "ok"), Says("dave", "ok")],
+        Says("bob.x", "ok"),
+        None,
+    ),
     // A subprincipal costs less than a delegation.
     (
         &[BOB, SaysFor("bob.x", "bob", "bob.x")],
