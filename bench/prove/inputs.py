@@ -6,7 +6,8 @@ parts      the longest chain of subprincipals, 127 steps
 no_chain   16 principals each of whom lets each other speak, some on other names, and nobody says it
 long_names 128 delegations to the goal's principal, and 128 others, all between principals of 160 parts that differ in the first
 stars      255 delegations to the goal's principal from principals of 500 parts each
-sizes      128 delegations to the goal's principal from principals of 491 parts each, and 128 principals of 364 to 491 parts
+sizes      128 delegations to the goal's principal from principals of 491 parts each, and 128 others of 364 to 491 parts
+pairs      the same, but each two of the 128 others have as many parts, 427 to 490
 statements 128 delegations of one principal, which says 128 statements of 1,000 bytes that differ in the last atom from the goal's
 """
 import pathlib
@@ -39,6 +40,8 @@ write("no_chain", [lets(a, b, " on (load, TimeNow)" if len(a + b) % 2 else "") f
 long = [parts(f"p{k}", 160) for k in range(257)]
 write("long_names", [lets(long[0], x) for x in long[1:129]] + [lets(x, "q") for x in long[129:257]], f"{long[0]} says ok")
 write("stars", [lets("g", parts(f"p{k}", 490)) for k in range(255)] + ["other says ok"], "g says ok")
-write("sizes", [lets("g", parts(f"p{k}", 490)) for k in range(128)] + [f"{parts(f'q{k}', 363 + k)} says ok" for k in range(128)], "g says ok")
+deep = [lets("g", parts(f"p{k}", 490)) for k in range(128)]
+write("sizes", deep + [f"{parts(f'q{k}', 363 + k)} says ok" for k in range(128)], "g says ok")
+write("pairs", deep + [f"{parts(f'q{k}', 426 + k // 2)} says ok" for k in range(128)], "g says ok")
 statement = "q" + " or q" * 195
 write("statements", [lets("g", "a")] * 128 + [f"a says ({statement} or s{k})" for k in range(128)], f"g says ({statement} or s)")
