@@ -1,6 +1,6 @@
 -- How the ends of a run of `client` come from those of its parts.
 use Rattle.std.specs.Prelude.{IfSome, option_map}
-use Rattle.std.proofs.Common.{◌≡◌, ◌≢◌, ◌≤◌, ◌↔◌, inl, inr, Bool, true, ℕ, List, [], length, IsTrue, Option, Some, None, refl, sym, subst, ap, ◌∙◌, arith}
+use Rattle.std.proofs.Common.{◌≡◌, ◌≢◌, ◌≤◌, ◌↔◌, ◌⊎◌, inl, inr, Bool, true, ℕ, List, [], length, IsTrue, Option, Some, None, refl, sym, subst, ap, ◌∙◌, arith}
 use Rattle.std.specs.Io.KnownBytes.{IsAtEnd}
 use Rattle.nx_io.specs.Streams.{MayRise, gained, one_more, prepended}
 use Rattle.nx_io.proofs.ForCallers.{gained-by, gained-nothing}
@@ -62,6 +62,14 @@ door_kept Broken faults n = refl
 door_kept Ended faults n = refl
 door_kept Unwritten faults n = refl
 door_kept Memory faults n = refl
+
+-- where nobody was reached the status is 7, and none else
+pub unreached_status : {end : TalkEnd} {status : ℕ} → status ≡ client_status end → end ≡ Unreached → status ≡ 7
+unreached_status s is = s ∙ ap client_status is
+
+pub unreached_failed : {end : TalkEnd} {status : ℕ} → status ≡ client_status end → end ≡ Unreached → (status ≡ 4) ⊎ (status ≡ 6) → ⊥
+unreached_failed {status = status} s is (inl e) = apart status 7 4 (s ∙ ap client_status is) e refl
+unreached_failed {status = status} s is (inr e) = apart status 7 6 (s ∙ ap client_status is) e refl
 
 -- what a talk left ends the run
 pub talk_ends : {L : Type 0} (view : L → LinkView) {address : List ℕ} {source : SourceRun} {sink : SinkRun} {door door_now : DoorView} (frames : List (List ℕ)) (dialed : Option L) (end : TalkEnd)

@@ -1,4 +1,4 @@
--- How a run of a command ends that is no service.
+-- How a run of a command ends that is neither a service nor a client.
 use Rattle.std.specs.Prelude.{◌≡◌, ℕ, List, Option}
 use Rattle.policy_history.specs.Values.{History}
 use Rattle.run_streams.specs.Runs.{SinkRun, SourceRun}

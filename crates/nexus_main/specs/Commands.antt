@@ -47,7 +47,7 @@ abbrev pub IsWithin : Command → Type 0
 IsWithin (Core number steps) = IsLoad number steps
 IsWithin _ = Unit {0}
 
--- the words are those of a command, but not of a service
+-- the words are those of a command, but not of a service or a client
 abbrev pub IsPlain : List (List ℕ) → Type 0
 IsPlain words = (command : Command) × IsWithin command × (words ≡ command_words command)
 

@@ -1,5 +1,5 @@
 //! A run of `client`.
-ghost use Rattle.std.specs.Prelude.{◌≡◌, ◌⊎◌, IfErr, IfOk, option_map};
+ghost use Rattle.std.specs.Prelude.{◌≡◌, ◌≢◌, ◌⊎◌, IfErr, IfOk, None, option_map};
 ghost use Rattle.nx_io.specs.Streams.{Gave, Grows};
 ghost use Rattle.run_streams.specs.Runs.{sink_run, source_run};
 ghost use Rattle.nexus_serve.specs.Views.{door_view, link_view};
@@ -40,7 +40,8 @@ where
     D::Link: Drop,
     ensures gave { Gave (S.left input.old) (S.left input.new) (S.given input.old) (S.given input.new) }
     ensures sent { Grows (K.sent output.old) (K.sent output.new) }
-    ensures untouched { result.status ≡ 4 → output.new ≡ output.old }
+    ensures untouched { result.dialed ≡ None → (result.status ≡ 4) ⊎ (result.status ≡ 6) → output.new ≡ output.old }
+    ensures undialed { result.dialed ≡ None → result.status ≢ 7 → door.new ≡ door.old }
     ensures ends { EndsClient address.now
         (source_run (S.left input.old) (S.given input.old) (S.given input.new) (S.over input.new) (S.faults input.old) (S.faults input.new))
         (sink_run (K.sent output.old) (K.sent output.new) (K.faults output.old) (K.faults output.new))

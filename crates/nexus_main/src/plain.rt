@@ -1,4 +1,4 @@
-//! The commands that are no service.
+//! The commands that are neither a service nor a client.
 ghost use Rattle.std.specs.Prelude.{◌≡◌, ◌≢◌, ◌⊎◌, ℕ, None, map};
 ghost use Rattle.nx_io.specs.Streams.{Gave, Grows, gained};
 ghost use Rattle.run_streams.specs.Runs.{sink_run, source_run};
@@ -20,7 +20,7 @@ use std::net::{Net, TcpListener, TcpStream};
 use std::rt::Clock;
 use trust_check::Trust;
 
-/// How a command ended that is no service.
+/// How a command ended that is neither a service nor a client.
 #[derive(Drop)]
 pub struct PlainEnd<P> {
     /// The status that the operating system is given. `docs/FORMATS.md`, "Statuses", says what each means.
@@ -31,15 +31,17 @@ pub struct PlainEnd<P> {
     pub panel: P,
 }
 
-/// Runs a command that is no service: `check` reads one input from the source and writes its outcome to the sink; `script` reads a policy and
-/// the requests of sessions, answers each, and writes the replies and then the policy as they left it; `trust` reads what an
-/// owner assumes and a goal, and writes whether the untrusted can reach it; `core` reads nothing, and writes the line of a
-/// generated load.
+/// Runs a command that is neither a service nor a client: `check` reads one input from the source and writes its outcome to the
+/// sink; `script` reads a policy and the requests of sessions, answers each, and writes the replies and then the policy as they
+/// left it; `trust` reads what an owner assumes and a goal, and writes whether the untrusted can reach it; `prove` reads labels and
+/// a goal, and writes a proof by a chain of delegations; `recover` reads a policy text that may be cut, and writes it whole; `core`
+/// reads nothing, and writes the line of a generated load.
 ///
-/// The status is 0 where all was done (of `check` at `allowed`, of `trust` at `safe`), 1 at `denied` and where a goal is not
-/// safe, 2 where the words are not those of a command, which then reads and writes nothing, 3 where the input is refused, 4
-/// where the source failed, 5 where the sink failed, 6 where memory ran out, and 8 where an authority could not be reached.
-/// At 4, 6 and 8 nothing was written, and at 5 a proper part of what was to be. `docs/FORMATS.md`, "Statuses", states this.
+/// The status is 0 where all was done (of `check` at `allowed`, of `trust` at `safe`, of `prove` at a proof), 1 at `denied`, where a
+/// goal is not safe and where there is no chain, 2 where the words are not those of a command, which then reads and writes nothing,
+/// 3 where the input is refused, 4 where the source failed, 5 where the sink failed, 6 where memory ran out, and 8 where an
+/// authority could not be reached. At 4, 6 and 8 nothing was written, and at 5 a proper part of what was to be.
+/// `docs/FORMATS.md`, "Statuses", states this.
 ///
 /// The input is what the source gives in this call. It is read to its first end, unless it is too large. The panel is handed
 /// back; only `script` uses it.

@@ -47,14 +47,17 @@ pub struct Ended<D: Door, P: Panel, K: Sink> {
 
 /// Runs the program: `check` reads one input from the source and writes its outcome to the sink; `script` reads a policy and
 /// the requests of sessions, answers each, and writes the replies and then the policy as they left it; `trust` reads what an
-/// owner assumes and a goal, and writes whether the untrusted can reach it; `core` reads nothing, and writes the line of a
-/// generated load; `client` reads request lines, sends each over a link to an address, and writes the line of each reply before the next is sent; `serve` reads a policy, listens at an address, serves the sessions of its workers, and writes the policy text as
-/// the journal grows.
+/// owner assumes and a goal, and writes whether the untrusted can reach it; `prove` reads labels and a goal, and writes a proof by
+/// a chain of delegations; `recover` reads a policy text that may be cut, and writes it whole; `core` reads nothing, and writes the
+/// line of a generated load; `client` reads request lines, sends each over a link to an address, and writes the line of its reply
+/// before the next is sent; `serve` reads a policy, listens at an address, serves the sessions of its workers, and writes the
+/// policy text as the journal grows.
 ///
-/// The status is 0 where all was done (of `check` at `allowed`, of `trust` at `safe`), 1 at `denied` and where a goal is not safe,
-/// 2 where the words are not those of a command, which then reads and writes nothing, 3 where the input is refused, 4 where the
-/// source failed, 5 where the sink failed, 6 where memory ran out, 7 where the door or a share of it failed, or the link of a client, 8 where an
-/// authority could not be reached, and 9 where the link of a client ended before a whole reply or gave what is no reply. `docs/FORMATS.md`, "Statuses", states this.
+/// The status is 0 where all was done (of `check` at `allowed`, of `trust` at `safe`, of `prove` at a proof), 1 at `denied`, where a
+/// goal is not safe and where there is no chain, 2 where the words are not those of a command, which then reads and writes nothing,
+/// 3 where the input is refused, 4 where the source failed, 5 where the sink failed, 6 where memory ran out, 7 where the door or a
+/// share of it failed, or the link of a client, 8 where an authority could not be reached, and 9 where the link of a client ended
+/// before a whole reply or gave what is no reply. `docs/FORMATS.md`, "Statuses", states this.
 ///
 /// The input is what the source gives in this call. It is read to its first end, unless it is too large. Door and panel are
 /// handed back; only `serve` and `client` use the door, and only `script` and `serve` the panel.
@@ -80,7 +83,8 @@ where
     ensures gave { Gave (S.left input.old) (S.left input.new) (S.given input.old) (S.given input.new) }
     ensures sent { ¬ IsServiceCall (map (λ w. w.now) words.now) → HandsBack result.output (λ k. Grows (K.sent output) (K.sent k)) }
     ensures said { Grows (P.said panel) (P.said result.panel) }
-    ensures untouched { ¬ IsServiceCall (map (λ w. w.now) words.now) → ¬ IsClientCall (map (λ w. w.now) words.now) → (result.status ≡ 4) ⊎ (result.status ≡ 6) → HandsBack result.output (λ k. k ≡ output) }
+    ensures undialed { ¬ IsServiceCall (map (λ w. w.now) words.now) → result.dialed ≡ None → result.status ≢ 7 → result.door ≡ door }
+    ensures untouched { ¬ IsServiceCall (map (λ w. w.now) words.now) → result.dialed ≡ None → (result.status ≡ 4) ⊎ (result.status ≡ 6) → HandsBack result.output (λ k. k ≡ output) }
     ensures command { ¬ IsServiceCall (map (λ w. w.now) words.now) → HandsBack result.output (λ k. RunsCommand (map (λ w. w.now) words.now)
         (source_run (S.left input.old) (S.given input.old) (S.given input.new) (S.over input.new) (S.faults input.old) (S.faults input.new))
         (sink_run (K.sent output) (K.sent k) (K.faults output) (K.faults k))
@@ -152,6 +156,8 @@ where
     R: Net<Listener = TcpListener, Stream = TcpStream> + Clock,
     ensures gave { Gave (S.left input.old) (S.left input.new) (S.given input.old) (S.given input.new) }
     ensures sent { HandsBack result.output (λ k. Grows (K.sent output) (K.sent k)) }
+    ensures untouched { result.dialed ≡ None → (result.status ≡ 4) ⊎ (result.status ≡ 6) → HandsBack result.output (λ k. k ≡ output) }
+    ensures undialed { result.dialed ≡ None → result.status ≢ 7 → result.door ≡ door }
     ensures client { HandsBack result.output (λ k. EndsClient address.now
         (source_run (S.left input.old) (S.given input.old) (S.given input.new) (S.over input.new) (S.faults input.old) (S.faults input.new))
         (sink_run (K.sent output) (K.sent k) (K.faults output) (K.faults k))

@@ -63,7 +63,8 @@ where
     ensures gave { Gave (S.left input.old) (S.left input.new) (S.given input.old) (S.given input.new) }
     ensures sent { ¬ IsServiceCall (words_of_call (gained (A.told arguments.old) (A.told arguments.new))) → HandsBack result.output (λ k. Grows (K.sent output) (K.sent k)) }
     ensures said { Grows (P.said panel) (P.said result.panel) }
-    ensures untouched { ¬ IsServiceCall (words_of_call (gained (A.told arguments.old) (A.told arguments.new))) → ¬ IsClientCall (words_of_call (gained (A.told arguments.old) (A.told arguments.new))) → (exit_status result.code ≡ 4) ⊎ (exit_status result.code ≡ 6) → HandsBack result.output (λ k. k ≡ output) }
+    ensures undialed { ¬ IsServiceCall (words_of_call (gained (A.told arguments.old) (A.told arguments.new))) → result.dialed ≡ None → exit_status result.code ≢ 7 → result.door ≡ door }
+    ensures untouched { ¬ IsServiceCall (words_of_call (gained (A.told arguments.old) (A.told arguments.new))) → result.dialed ≡ None → (exit_status result.code ≡ 4) ⊎ (exit_status result.code ≡ 6) → HandsBack result.output (λ k. k ≡ output) }
     ensures command { ¬ IsServiceCall (words_of_call (gained (A.told arguments.old) (A.told arguments.new))) → HandsBack result.output (λ k. RunsCommand (words_of_call (gained (A.told arguments.old) (A.told arguments.new)))
         (source_run (S.left input.old) (S.given input.old) (S.given input.new) (S.over input.new) (S.faults input.old) (S.faults input.new))
         (sink_run (K.sent output) (K.sent k) (K.faults output) (K.faults k))

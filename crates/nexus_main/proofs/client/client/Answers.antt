@@ -2,7 +2,7 @@ use Rattle.std.proofs.Common.{ap, map}
 use Rattle.std.specs.Prelude.{option_map}
 use Rattle.nx_io.proofs.ForCallers.{gained-nothing}
 use Rattle.nexus_serve.specs.Views.{link_view}
-use Rattle.nexus_main.proofs.ClientEnds.{refusal_ends, talk_ends}
+use Rattle.nexus_main.proofs.ClientEnds.{refusal_ends, talk_ends, unreached_failed, unreached_status}
 use Rattle.nexus_main.proofs.client.client.Goals as goal
 
 pub returns-in-Ok-clause-ends : goal.returns-in-Ok-clause-ends
@@ -17,3 +17,9 @@ returns-in-Err-Refused-clause-ends g c =
     let refusal = rw c.in-Err-Refused.field-0-is at c.in-Err-Refused.ensures.err in
     let still = rw c.in-Err-Refused.field-0-is at c.in-Err-Refused.ensures.count in
     refusal_ends c.in-Err-Refused.outcome (g.K.Sink.sent c.args.output.now) (g.K.Sink.sent c.tell.new.output) _ _ refusal still c.tell.ensures.told
+
+pub returns-in-Ok-clause-undialed : goal.returns-in-Ok-clause-undialed
+returns-in-Ok-clause-undialed g c = λ none other. absurd (other (unreached_status c.status_of.ensures (c.talk-dialed.ensures.unreached.0 none)))
+
+pub returns-in-Ok-clause-untouched : goal.returns-in-Ok-clause-untouched
+returns-in-Ok-clause-untouched g c = λ none failed. absurd (unreached_failed c.status_of.ensures (c.talk-dialed.ensures.unreached.0 none) failed)

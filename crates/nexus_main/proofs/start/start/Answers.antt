@@ -24,7 +24,13 @@ pub returns-in-Ok-Some-clause-untouched : goal.returns-in-Ok-Some-clause-untouch
 returns-in-Ok-Some-clause-untouched g c =
     let texts = rw (c.in-Ok-Some.field-0-is, c.as_slice.ensures.value, ← c.as_slice-in-Ok-Some.ensures.value) at c.in-Ok-Some.ensures in
     let same = texts ∙ c.in-Ok.ensures.words in
-    λ plain quiet failed. c.run-ended.ensures.untouched (λ call. plain (subst IsServiceCall same call)) (λ call. quiet (subst IsClientCall same call)) (rw (c.from.ensures) at failed)
+    λ plain none failed. c.run-ended.ensures.untouched (λ call. plain (subst IsServiceCall same call)) none (rw (c.from.ensures) at failed)
+
+pub returns-in-Ok-Some-clause-undialed : goal.returns-in-Ok-Some-clause-undialed
+returns-in-Ok-Some-clause-undialed g c =
+    let texts = rw (c.in-Ok-Some.field-0-is, c.as_slice.ensures.value, ← c.as_slice-in-Ok-Some.ensures.value) at c.in-Ok-Some.ensures in
+    let same = texts ∙ c.in-Ok.ensures.words in
+    λ plain none other. c.run-ended.ensures.undialed (λ call. plain (subst IsServiceCall same call)) none (λ seven. other (c.from.ensures ∙ seven))
 
 pub returns-in-Ok-Some-clause-command : goal.returns-in-Ok-Some-clause-command
 returns-in-Ok-Some-clause-command g c =
