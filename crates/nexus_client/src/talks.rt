@@ -26,6 +26,7 @@ use std::rt::Clock;
 /// put out what is left when it is closed. `Ended` comes exactly where the link ended before a whole reply, or where what came
 /// is no reply; of such bytes no more are taken than show that. `Memory` says that there was none for the line of the last reply.
 /// `docs/FORMATS.md`, "Frames" and "Reply lines", states both.
+#[inline(never)]
 pub fn talk<R, D: Door, K: Sink>(
     rt: &R,
     alloc: Global,

@@ -141,7 +141,9 @@ where
     }
 }
 
-/// Runs a client, which needs the source, the sink and the door.
+/// Runs a client, which needs the source, the sink and the door. It stands apart, so that the other commands have no room on the stack
+/// for a talk.
+#[inline(never)]
 fn run_client<R, S: Source, K: Sink + Drop, D: Door + Drop, P: Panel + Drop>(
     rt: &R,
     alloc: Global,

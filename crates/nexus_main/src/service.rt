@@ -30,7 +30,9 @@ use std::rt::Clock;
 use std::sync::Wait;
 use std::thread::Threads;
 
-/// Reads a policy, and serves the sessions of its workers.
+/// Reads a policy, and serves the sessions of its workers. It stands apart, so that the other commands have no room on the stack for
+/// a service.
+#[inline(never)]
 pub fn run_service<R, S: Source, K, D, P, G>(
     rt: &R,
     alloc: Global,
