@@ -5,7 +5,7 @@
 //
 // Connection K is principal pK with the secret sK, and asks COUNT times: for a call of `read oK` that is allowed, of `miss oK` that is denied,
 // or to say a label. Prints the requests a second of all connections, and how many microseconds 99 of 100 requests waited at most. With
-// `churn` principal pC says a label and takes it back until it is killed. Ends with 1 at a reply of another kind than the due one.
+// `churn` principal pC says a label and takes it back, 500 changes a second, until it is killed. Ends with 1 at a reply of another kind than the due one.
 #include <arpa/inet.h>
 #include <netinet/tcp.h>
 #include <pthread.h>
@@ -152,7 +152,7 @@ static void *run(void *place) {
     return NULL;
 }
 
-// Says a label and takes it back, until it is killed.
+// Says a label and takes it back, 500 changes a second, until it is killed: a principal may have 4,096 entries.
 static void churn(void) {
     unsigned char reply[64];
     struct Frame frame;
@@ -164,7 +164,9 @@ static void churn(void) {
         memcpy(frame.bytes + frame.length, reply + 9, 8);
         frame.length += 8;
         end(&frame);
+        usleep(2000);
         ask(link, &frame, DONE, reply);
+        usleep(2000);
     }
 }
 

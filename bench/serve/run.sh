@@ -2,7 +2,7 @@
 # Requests a second of `nexus serve` over loopback TCP, and how many microseconds 99 of 100 of them waited at most: calls that a kept verdict
 # answers, calls of a proof of four lines that is checked anew each time (a label of it is missing, and such a denial is not kept), and writes; with
 # 1 and with 4 connections, each of which waits for the reply to one request before the next, and kept calls also 32 at a time; with a journal of
-# few entries and with one of 200,000; and calls while another session changes the policy all the time. Beside them what redis-server does
+# few entries and with one of 200,000; and calls while another session changes the policy 500 times a second. Beside them what redis-server does
 # with GET and, with an append-only file that is not synced, with SET.
 # It needs the built program (./nexus builds it), a C compiler and, for the ratios, redis-server and redis-benchmark (Debian's redis-server).
 # CALLS is how many calls a connection makes (64000). The writes of a connection are 3,840, as one principal may have few more.
@@ -73,8 +73,8 @@ for entries in 0 200000; do
         other=$!
         busy=$("$work/load" "$port" "$connections" "$calls" 1 call)
         busy_anew=$("$work/load" "$port" "$connections" "$calls" 1 miss)
-        kill "$other" "$service"
-        wait "$other" "$service" || true
+        kill "$other" "$service" || true
+        wait "$other" "$service" 2>/dev/null || true
         other= service=
         of="$connections connections, $entries entries"
         row "kept calls, $of" "$kept" get "$connections" "$calls" 1
