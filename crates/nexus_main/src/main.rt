@@ -22,6 +22,8 @@ mod script;
 mod script_tests;
 mod service;
 #[cfg(test)]
+mod service_days;
+#[cfg(test)]
 mod service_rows;
 #[cfg(test)]
 mod service_tests;
