@@ -20,6 +20,3 @@ pub use hosts::HostPanel;
 pub use memory::MemPanel;
 pub use panels::{Ask, Panel};
 pub use time_tests::TimeTest;
-
-#[cfg(test)]
-mod tests;

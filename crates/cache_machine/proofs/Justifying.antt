@@ -18,7 +18,7 @@ use Rattle.cache_machine.specs.Moves.{ActTree, MoveTree, MovesAt, StepTree, afte
 use Rattle.cache_machine.specs.Runs.{Happened, IsRun, entries_of, entry_of, is_by, own, told_of, writes_of}
 use Rattle.cache_machine.specs.Justified.{IsAnswerAfter, IsHitAfter, IsJustified, IsToldAfter}
 use Rattle.cache_machine.specs.Machines.{first_actors, first_state}
-use Rattle.cache_machine.specs.Words.{IsWorded}
+use Rattle.cache_machine.specs.Inner.Words.{IsWorded}
 use Rattle.cache_machine.proofs.Keeping.{set_at}
 use Rattle.cache_machine.proofs.Linking.{Linked, NextLink, TellsNow, UpTo, all_more, all_weaker, linked_idle, linked_longer, linked_other, move_link, not_same, same_as_itself, told_more}
 use Rattle.cache_machine.proofs.Running.{SameOwners, added, head_after, itself, owners_after, run_owners}

@@ -8,12 +8,11 @@ use Rattle.policy_history.specs.declared.heads.Head.{Head}
 use Rattle.policy_history.specs.Events.{EntryTree}
 use Rattle.policy_history.specs.Judged.{IsHome, IsRight, IsUntouched, Touches, object_region, store_region}
 use Rattle.policy_history.specs.Machine.{replay}
-use Rattle.policy_history.proofs.RightLaw.{right_stays}
-use Rattle.policy_history.proofs.Staying.{cases_stay}
+use Rattle.policy_history.proofs.ForCallers.{right_stays, cases_stay}
 use Rattle.cache_machine.specs.declared.stages.Kept.{Kept}
 use Rattle.cache_machine.specs.declared.stages.Place.{Place}
 use Rattle.cache_machine.specs.States.{StageTree, resting, looked, counted, half, missed, raised, holding, allowed}
-use Rattle.cache_machine.specs.Words.{IsCounted, IsSoundIn, Knows}
+use Rattle.cache_machine.specs.Inner.Words.{IsCounted, IsSoundIn, Knows}
 
 -- ---- Lists
 

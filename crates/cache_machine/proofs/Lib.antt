@@ -10,3 +10,4 @@ pub mod Running
 pub mod Linking
 pub mod Justifying
 pub mod Ending
+pub mod ForCallers

@@ -15,7 +15,7 @@ use Rattle.policy_history.specs.Events.{EntryTree}
 use Rattle.policy_history.specs.Judged.{case_at, store_region}
 use Rattle.policy_history.specs.Machine.{replay}
 use Rattle.policy_history.specs.States.{State, case_named}
-use Rattle.policy_history.proofs.Staying.{case_numbers_stay, objects_stay}
+use Rattle.policy_history.proofs.ForCallers.{case_numbers_stay, objects_stay}
 use Rattle.cache_machine.specs.declared.stages.Kept.{Kept}
 use Rattle.cache_machine.specs.declared.stages.Place.{Place}
 use Rattle.cache_machine.specs.declared.steps.Told.{Told}
@@ -23,7 +23,7 @@ use Rattle.cache_machine.specs.States.{ActorTree, MachineState, StageTree, resti
 use Rattle.cache_machine.specs.Moves.{ActTree, IsAnswered, MoveTree, Moves, write, look, count, snap, answer, fill, run, raise, object, store, idle, goes, tells, fills, raises, writes, policy, is_idle, place_in, region_at, slot_at, hit_in, found_move, after_verdict, kept_of, looked_at, look_move, count_move, object_move, store_move, snapped_at, snap_free, snap_move, fill_move, run_move, told_in}
 use Rattle.cache_machine.specs.Runs.{Happened, told_of}
 use Rattle.cache_machine.specs.Justified.{IsAnswerAfter, IsHitAfter, did, is_count, is_look, is_snap, last_did}
-use Rattle.cache_machine.specs.Words.{IsWorded, Knows}
+use Rattle.cache_machine.specs.Inner.Words.{IsWorded, Knows}
 use Rattle.cache_machine.proofs.Acts.{raise_comes, write_comes}
 use Rattle.cache_machine.proofs.Stepping.{hit_is, store_quiet}
 

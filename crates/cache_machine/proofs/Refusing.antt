@@ -7,7 +7,7 @@ use Rattle.proof_lines.specs.declared.rules.Rule.TheVariants.{Ask}
 use Rattle.proof_lines.specs.Lines.{LineTree}
 use Rattle.nal_rules.specs.Faults.{is_ask, line_at}
 use Rattle.nal_rules.specs.Verdicts.{IsAnsweredNo, IsLowest, ask_place}
-use Rattle.proof_check.proofs.LineFacts.{one_more}
+use Rattle.proof_check.proofs.ForCallers.{one_more}
 
 -- the first lines were gone through: none of them is refused, and so many of them are ask lines
 pub record IsGoneThrough (ls : List LineTree) (answers : List Bool) (i asks : ℕ) : Type 0 where

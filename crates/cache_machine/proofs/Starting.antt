@@ -11,7 +11,7 @@ use Rattle.policy_history.specs.Judged.{IsUntouched}
 use Rattle.policy_history.specs.Values.{entry_trees, greatest_of}
 use Rattle.cache_machine.specs.declared.stages.Actor.{Actor}
 use Rattle.cache_machine.specs.declared.stages.Kept.{Kept}
-use Rattle.cache_machine.specs.Words.{IsWorded, Knows}
+use Rattle.cache_machine.specs.Inner.Words.{IsWorded, Knows}
 use Rattle.cache_machine.specs.Machines.{first_actors, first_state}
 use Rattle.cache_machine.specs.States.{ActorTree, StageTree, resting}
 use Rattle.cache_machine.specs.Views.{actor_tree}

@@ -25,13 +25,13 @@ use Rattle.policy_history.specs.Events.{EntryTree, EventTree, say, transfer, del
 use Rattle.policy_history.specs.Judged.{IsHome, IsLasting, IsRight, IsUntouched, Touches, case_at, case_of_row, object_region, region_in, store_region}
 use Rattle.policy_history.specs.Machine.{refusal_of, replay}
 use Rattle.policy_history.specs.States.{State}
-use Rattle.policy_history.proofs.Changed.{same_triple}
+use Rattle.policy_history.proofs.ForCallers.{same_triple}
 use Rattle.std.specs.declared.alloc.AllocError.{AllocError}
 use Rattle.cache_machine.specs.declared.stages.Kept.{Kept}
 use Rattle.cache_machine.specs.declared.stages.Place.{Place}
 use Rattle.cache_machine.specs.States.{ActorTree, MachineState, StageTree, resting, looked, counted, half, missed, raised, holding, allowed}
 use Rattle.cache_machine.specs.Moves.{ActTree, MoveTree, write, look, count, snap, answer, fill, run, raise, object, store, idle, goes, tells, fills, raises, writes, policy, slot_at, slot_of, region_at, place_in, looked_at, look_move, count_move, object_move, store_move, hit_in, found_move, after_verdict, raised_move, written_move, raise_free, raise_move, write_free, IsWritten, snapped_at, snap_free, snap_move, may_be_kept, kept_of, IsAnswered, fill_move, run_move, Moves, MovesAt, after_move, gone_on, written_by, told_in, idle_after, StepTree}
-use Rattle.cache_machine.specs.Words.{AllKnow, AreOfHead, AreRegions, AreSound, IsCounted, IsDoable, IsHeldAt, IsNext, IsNextOf, IsSoundIn, IsWorded, Knows}
+use Rattle.cache_machine.specs.Inner.Words.{AllKnow, AreOfHead, AreRegions, AreSound, IsCounted, IsDoable, IsHeldAt, IsNext, IsNextOf, IsSoundIn, IsWorded, Knows}
 use Rattle.cache_machine.specs.Runs.{IsRightMove}
 use Rattle.cache_machine.specs.Machines.{IsAsBefore, IsStepped, MachineValue, state_in}
 use Rattle.cache_machine.proofs.Acts.{count_comes, fill_comes, look_comes, object_comes, raise_comes, run_comes, snap_comes, write_comes}

@@ -10,8 +10,6 @@ mod moves;
 mod same;
 mod stages;
 mod steps;
-#[cfg(test)]
-mod tests;
 mod verdicts;
 
 pub use drives::drive;

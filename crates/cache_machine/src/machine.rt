@@ -30,7 +30,7 @@ impl Model for Machine {
     ghost coded = { Prim.hlevel (codes, t.the_row.coded, f.the_row.coded) };
 
     ghost use Rattle.cache_machine.specs.Views.{state_of};
-    ghost use Rattle.cache_machine.specs.Words.{IsWorded};
+    ghost use Rattle.cache_machine.specs.Inner.Words.{IsWorded};
 
     ghost view = { λ m. record { world = m.world; told = m.told; idle = m.idle } };
 

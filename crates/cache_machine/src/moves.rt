@@ -2,7 +2,7 @@
 ghost use Rattle.std.specs.Prelude.{◌≡◌, ◌<◌, ◌++◌, ◌∷◌, [], length, IfOk, OnErr, OnOk, slice_get, Some};
 ghost use Rattle.cache_machine.specs.Moves.{Moves, MovesAt, after_move, fills, idle_after, raises, told_in, with_stage, writes};
 ghost use Rattle.cache_machine.specs.Views.{act_tree, actor_tree, move_tree, stage_tree, state_of};
-ghost use Rattle.cache_machine.specs.Words.{IsDoable, IsNextOf, IsWorded};
+ghost use Rattle.cache_machine.specs.Inner.Words.{IsDoable, IsNextOf, IsWorded};
 ghost use Rattle.policy_history.specs.Events.{event_tree};
 
 use crate::stages::{Actor, Kept, Move, SLOTS, Stage, World};

@@ -9,8 +9,6 @@ mod lines;
 mod paths;
 mod principals;
 mod search;
-#[cfg(test)]
-mod tests;
 
 pub use answers::ChainError;
 pub use chains::find_chain;

@@ -3,4 +3,4 @@
 
 mod statements;
 
-pub use statements::{LineError, formula, goal, goal_for_subject, with_statement};
+pub use statements::{LineError, formula, goal, goal_for_subject, statement, with_statement};

@@ -41,8 +41,10 @@ pub fn with_statement(
         Err(error) => Err(error),
     }
 }
-/// The formula of this text, a closed `P says S`. `Wrong` exactly where the text is none.
-fn statement(alloc: Global, text: &[u8]) -> Result<Formula, LineError>
+
+/// The formula of this text, a closed `P says S`. `Wrong` exactly where the text is none. `docs/FORMATS.md`, "The check form",
+/// states where it may stand.
+pub fn statement(alloc: Global, text: &[u8]) -> Result<Formula, LineError>
     ensures ok { IfOk result (λ f. IsStatement text.now (formula_tree f)) }
     ensures only { IfOk result (λ f. (g : FormulaTree) → IsStatement text.now g → g ≡ formula_tree f) }
     ensures wrong { IfErr result (λ e. e ≢ LineError.Memory → (f : FormulaTree) → ¬ IsStatement text.now f) }

@@ -14,11 +14,10 @@ use Rattle.indexmap.proofs.MapLemmas.{Found-position, Missing-position, insert_e
 use Rattle.nal_term.specs.declared.formulas.Formula.{Formula}
 use Rattle.nal_term.specs.Trees.{formula_tree}
 use Rattle.nal_term.specs.TreeKeys.{same_bytes, same_bytes-Decides}
-use Rattle.nal_term.proofs.EntryRows.{keys_in, position_agrees, find_agrees, find_of_none, map-agrees, map-map, map-remove, All-remove}
-use Rattle.nal_term.proofs.NamePlaces.{same_place, other_name, place_of_name}
-use Rattle.nal_term.proofs.Places.{put_item, length-put_item, get_or-put_item}
+use Rattle.nal_term.proofs.ForCallers.{keys_in, position_agrees, find_agrees, find_of_none, map-agrees, map-map, map-remove, All-remove, same_place, other_name, place_of_name, put_item, length-put_item, get_or-put_item}
 use Rattle.goal_store.specs.GoalRows.{GoalRow, goal_row, is_goal, goal_place, goal_of}
-use Rattle.goal_store.specs.Held.{Entry, held_goal, HasPlaces, AreHeld}
+use Rattle.goal_store.specs.Held.{Entry, held_goal}
+use Rattle.goal_store.specs.Inner.Places.{HasPlaces, AreHeld}
 
 -- a key: the place of the operation, and the object
 abbrev pub Key : Type 0

@@ -10,7 +10,7 @@ use Rattle.indexmap.proofs.MapLemmas.{Found-position, Missing-position, insert_e
 use Rattle.nal_term.specs.declared.terms.Term.{Term}
 use Rattle.nal_term.specs.Trees.{term_tree}
 use Rattle.nal_term.specs.TreeKeys.{same_terms, same_terms-Decides}
-use Rattle.nal_term.proofs.EntryRows.{keys_in, position_agrees, find_agrees}
+use Rattle.nal_term.proofs.ForCallers.{keys_in, position_agrees, find_agrees}
 use Rattle.goal_store.specs.GoalRows.{HeldPort, PortRow, port_row, is_port, port_place, port_of}
 use Rattle.goal_store.proofs.HeldGoals.{map-set_value_at}
 

@@ -1,2 +1,3 @@
 pub mod GoalRows
 pub mod Held
+pub mod Inner

@@ -28,7 +28,8 @@ impl Model for GoalStore {
     ghost use Rattle.nal_term.specs.contracts.terms.Term as t;
     ghost use Rattle.nal_term.specs.contracts.formulas.Formula as f;
     ghost use Rattle.goal_store.specs.GoalRows.{Holdings};
-    ghost use Rattle.goal_store.specs.Held.{held_goal, AreHeld};
+    ghost use Rattle.goal_store.specs.Held.{held_goal};
+    ghost use Rattle.goal_store.specs.Inner.Places.{AreHeld};
     ghost use Rattle.indexmap.specs.IndexMap.{spare as room};
     ghost use Rattle.indexmap.specs.IndexSet.{spare as set_room};
 

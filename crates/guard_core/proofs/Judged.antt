@@ -24,7 +24,7 @@ use Rattle.guard_core.specs.declared.findings.GuardError.{GuardError}
 use Rattle.guard_core.specs.declared.findings.GuardError.TheVariants.{Down, Memory}
 use Rattle.guard_core.specs.Judging.{IsAskedAt, IsBrokenOff, IsJudged, IsStoppedAt, all_asked, answers_in, is_yes, told_of, verdict_of}
 use Rattle.guard_core.specs.Inner.Stages.{AreAskable, HaveAnswered}
-use Rattle.proof_check.proofs.Lookups.{no_port}
+use Rattle.proof_check.proofs.ForCallers.{no_port}
 use Rattle.guard_core.proofs.Asks.{all_more, ask_passes, passes_ask, take_whole}
 
 -- ---- a case that is decided without authorities

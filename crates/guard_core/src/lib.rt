@@ -7,6 +7,3 @@ mod guard;
 
 pub use findings::{Finding, GuardError};
 pub use guard::judge;
-
-#[cfg(test)]
-mod tests;

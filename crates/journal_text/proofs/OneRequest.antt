@@ -11,7 +11,7 @@ use Rattle.session_wire.specs.declared.requests.Request.TheVariants.{Hello, Say,
 use Rattle.journal_text.specs.declared.request_lines.Form.{Form}
 use Rattle.journal_text.specs.declared.request_lines.Form.TheVariants as form
 use Rattle.journal_text.specs.RequestLines.{IsRequestText, IsWritable, OneRequest, request_text}
-use Rattle.journal_text.specs.RequestForms.{HasNoSpace, HasParts, all_forms, cut, form_named, form_of, parts_of, word_of}
+use Rattle.journal_text.specs.Inner.RequestForms.{HasNoSpace, HasParts, all_forms, cut, form_named, form_of, parts_of, word_of}
 use Rattle.journal_text.proofs.RequestCuts.{name_has_no_space, number_has_no_space, one_cut}
 
 -- the text of a request is its form's word, a space and its parts

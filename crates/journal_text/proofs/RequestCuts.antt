@@ -6,7 +6,7 @@ use Rattle.std.proofs.lemmas.List.Elements.{All-nil, All-cons, All-head, All-tai
 use Rattle.std.proofs.lemmas.Bool.{and_parts, false≢true}
 use Rattle.std.proofs.lemmas.Fmt.{decimal_by_steps}
 use Rattle.nal_term.specs.Names.{IsName, is_word, is_word_byte, is_letter, is_reserved}
-use Rattle.journal_text.specs.RequestForms.{HasNoSpace, cut}
+use Rattle.journal_text.specs.Inner.RequestForms.{HasNoSpace, cut}
 
 abbrev IsNoSpace : ℕ → Type 0
 IsNoSpace b = b ≢ 32

@@ -1,6 +1,5 @@
 pub mod ReplyLines
 pub mod RequestEvents
-pub mod RequestForms
 pub mod RequestLines
 pub mod PolicyFronts
 pub mod PolicyText

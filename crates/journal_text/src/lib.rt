@@ -2,20 +2,12 @@
 #![tactic(auto)]
 
 mod cut_reader;
-#[cfg(test)]
-mod cut_tests;
 mod events;
-#[cfg(test)]
-mod line_tests;
 mod policy_entries;
 mod policy_heads;
 mod policy_laws;
-#[cfg(test)]
-mod policy_print_tests;
 mod policy_printer;
 mod policy_reader;
-#[cfg(test)]
-mod policy_tests;
 mod policy_words;
 mod replies;
 mod request_lines;

@@ -4,7 +4,7 @@ ghost use Rattle.nal_term.specs.Names.{IsName};
 ghost use Rattle.nal_term.specs.Secrets.{IsSecret};
 ghost use Rattle.session_wire.specs.declared.requests.Request.{Request};
 ghost use Rattle.journal_text.specs.RequestLines.{IsNumber64, IsOneWord, IsRequestLine, IsRequestText, OneRequest};
-ghost use Rattle.journal_text.specs.RequestForms.{HasNoSpace, HasParts, cut, form_named, word_of};
+ghost use Rattle.journal_text.specs.Inner.RequestForms.{HasNoSpace, HasParts, cut, form_named, word_of};
 
 use nal_term::{Name, NameError, Secret};
 use nx_io::Bytes;
@@ -93,7 +93,7 @@ pub fn lines_tell_one_request()
 
 impl Form {
     /// The form whose lines begin with this word.
-    #[tactic(auto, unfolding(crate::specs::RequestForms::form_named))]
+    #[tactic(auto, unfolding(crate::specs::Inner::RequestForms::form_named))]
     fn of_word(word: &[u8]) -> Option<Form>
         ensures { result ≡ form_named word.now }
     {

@@ -15,9 +15,10 @@ use Rattle.nal_term.specs.declared.formulas.Formula.{Formula}
 use Rattle.nal_term.specs.declared.formulas.Formula.TheVariants.{True}
 use Rattle.nal_term.specs.Trees.{formula_tree}
 use Rattle.nal_term.specs.TreeKeys.{same_formulas, formulas_equiv}
-use Rattle.nal_term.proofs.Places.{same_item, fails_at}
+use Rattle.nal_term.proofs.ForCallers.{same_item, fails_at}
 use Rattle.label_store.specs.LabelRows.{LabelRow, is_held}
-use Rattle.label_store.specs.Held.{Entry, Key, same_key, has_key, counted, count_of, same_label, live_entries, hole, HasPlaces, IsTidied, IsRowOf}
+use Rattle.label_store.specs.Held.{Entry, live_entries}
+use Rattle.label_store.specs.Inner.Kept.{Key, same_key, has_key, counted, count_of, same_label, hole, HasPlaces, IsTidied, IsRowOf}
 use Rattle.label_store.proofs.LiveRows.{row_of, same_some}
 use Rattle.label_store.proofs.HeldLabels.{rows_in, rows_are, filter_filter, nowhere, entry_within, holding_is}
 

@@ -11,11 +11,11 @@ use Rattle.nal_term.specs.declared.formulas.Formula.{Formula}
 use Rattle.nal_term.specs.declared.formulas.Formula.TheVariants.{True}
 use Rattle.nal_term.specs.Trees.{formula_tree}
 use Rattle.nal_term.specs.TreeKeys.{same_formulas-Decides}
-use Rattle.nal_term.proofs.EntryRows.{map-agrees, map-map}
-use Rattle.nal_term.proofs.Places.{put_item, length-put_item, get_or-put_item}
+use Rattle.nal_term.proofs.ForCallers.{map-agrees, map-map, put_item, length-put_item, get_or-put_item}
 use Rattle.label_store.specs.declared.rows.Holding.{Holding}
 use Rattle.label_store.specs.LabelRows.{LabelRow, label_row, has_number, label_place, holder_of, labels_of}
-use Rattle.label_store.specs.Held.{Entry, held_label, live_entries, same_label, hole, is_holders, held_from, labels_from, holder_in, HasPlaces, AreHeld, IsTidied, IsRowOf}
+use Rattle.label_store.specs.Held.{Entry, held_label, live_entries, is_holders, held_from, labels_from}
+use Rattle.label_store.specs.Inner.Kept.{same_label, hole, holder_in, HasPlaces, AreHeld, IsTidied, IsRowOf}
 use Rattle.label_store.proofs.LiveRows.{row_of, row_with, live_rows, row_at, RowAt, tidied_live, tidied_All, same_some}
 
 abbrev pub rows_in : List Formula → List Entry → List LabelRow

@@ -10,11 +10,11 @@ use Rattle.std.proofs.lemmas.Map.Keys.{IsDistinct-head, IsDistinct-tail}
 use Rattle.indexmap.specs.IndexMap.{insert_entry}
 use Rattle.indexmap.specs.Layout.{set_value_at}
 use Rattle.nal_term.specs.declared.formulas.Formula.{Formula}
-use Rattle.nal_term.proofs.EntryRows.{keys_in}
-use Rattle.nal_term.proofs.Places.{fails_at}
+use Rattle.nal_term.proofs.ForCallers.{keys_in, fails_at}
 use Rattle.label_store.specs.declared.rows.Holding.{Holding}
 use Rattle.label_store.specs.LabelRows.{LabelRow, label_row, has_number, label_place}
-use Rattle.label_store.specs.Held.{Entry, held_label, live_entries, IsTidied}
+use Rattle.label_store.specs.Held.{Entry, held_label, live_entries}
+use Rattle.label_store.specs.Inner.Kept.{IsTidied}
 
 -- no option is both there and not, and none is there twice
 pub some_is_no_none : {A : Type 0} {o : Option A} {x : A} → o ≡ Some x → o ≡ None → ⊥

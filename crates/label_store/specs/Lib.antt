@@ -1,2 +1,3 @@
 pub mod LabelRows
 pub mod Held
+pub mod Inner

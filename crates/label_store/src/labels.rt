@@ -3,7 +3,7 @@ ghost use Rattle.std.specs.List.{All, remove};
 ghost use Rattle.std.specs.Option.{option_map, option_copied};
 ghost use Rattle.nal_term.specs.Trees.{formula_tree};
 ghost use Rattle.label_store.specs.LabelRows.{LabelRow, rows, label_place, holder_of, is_held, labels_of};
-ghost use Rattle.label_store.specs.Held.{IsRowOf, holder_in};
+ghost use Rattle.label_store.specs.Inner.Kept.{IsRowOf, holder_in};
 
 use crate::counts::{Counts, count, take_one};
 use crate::rows::{Holding, Rows, find_row, next_held, push_row, remove_row};
@@ -40,7 +40,8 @@ impl Model for LabelStore {
     ghost use Rattle.nal_term.specs.contracts.terms.Term as t;
     ghost use Rattle.nal_term.specs.contracts.formulas.Formula as f;
     ghost use Rattle.label_store.specs.LabelRows.{Labels};
-    ghost use Rattle.label_store.specs.Held.{held_label, live_entries, AreHeld, AreCounted};
+    ghost use Rattle.label_store.specs.Held.{held_label, live_entries};
+    ghost use Rattle.label_store.specs.Inner.Kept.{AreHeld, AreCounted};
     ghost use Rattle.indexmap.specs.IndexMap.{spare as room, index_map_len};
     ghost use Rattle.indexmap.specs.IndexSet.{spare as set_room};
 
@@ -228,7 +229,8 @@ impl<'a> Model for LabelsOf<'a> {
     ghost use Rattle.nal_term.specs.contracts.terms.Term as t;
     ghost use Rattle.nal_term.specs.contracts.formulas.Formula as f;
     ghost use Rattle.nal_term.specs.declared.formulas.Formula.{Formula};
-    ghost use Rattle.label_store.specs.Held.{labels_from, HasPlaces};
+    ghost use Rattle.label_store.specs.Held.{labels_from};
+    ghost use Rattle.label_store.specs.Inner.Kept.{HasPlaces};
 
     ghost Value = { List Formula };
 

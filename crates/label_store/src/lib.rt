@@ -4,7 +4,5 @@
 mod counts;
 mod labels;
 mod rows;
-#[cfg(test)]
-mod tests;
 
 pub use labels::{LabelRefusal, LabelStore, LabelsOf};

@@ -3,7 +3,8 @@
 ghost use Rattle.std.specs.Prelude.{ℕ, List, ◌≡◌, ◌+◌, ◌<◌, ◌≤◌, ◌++◌, ◌∷◌, [], ◌&&◌, nat_eq, false, length, slice_get, IfSome, IfNone, Some, IsTrue};
 ghost use Rattle.std.specs.List.{All, position};
 ghost use Rattle.indexmap.specs.IndexMap.{keys, values, spare, set_value_at};
-ghost use Rattle.label_store.specs.Held.{Entry, live_entries, IsTidied, hole, held_from};
+ghost use Rattle.label_store.specs.Held.{Entry, live_entries, held_from};
+ghost use Rattle.label_store.specs.Inner.Kept.{IsTidied, hole};
 
 use indexmap::IndexMap;
 use keyed_hash::KeyedHash;

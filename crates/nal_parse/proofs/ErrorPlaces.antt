@@ -12,7 +12,7 @@ use Rattle.nal_parse.specs.Tokens.{Lexeme, Cut, next_cut, cut, cut_quoted, cut_s
 use Rattle.nal_parse.specs.Tokens as lexeme
 use Rattle.nal_parse.specs.Grammar.{ReadsFormula, quantified, unquantified, ReadsImplication, no_arrow, arrow, ReadsDisjunction, disjuncts, ReadsOrs, no_or, or, ReadsConjunction, conjuncts, ReadsAnds, no_and, and, ReadsUnary, not, verum, falsum, group, atom_of, statement, ReadsStatement, subject, atom, ReadsPredicate, says, speaks_for, speaks_for_on, comparison, ReadsScope, one, several}
 use Rattle.nal_parse.specs.Errors.{BeginsWith, none, next, IsViable, IsErrorOf, IsErrorAtToken}
-use Rattle.nal_parse.specs.Reading.{Readings, ReadsHere, StopsHere, IsStopAt, IsFound, error_of, first_lexeme, is_malformed}
+use Rattle.nal_parse.specs.Inner.Reading.{Readings, ReadsHere, StopsHere, IsStopAt, IsFound, error_of, first_lexeme, is_malformed}
 use Rattle.std.specs.List.{prefix_len}
 use Rattle.std.proofs.lemmas.List.{length-drop}
 use Rattle.nal_parse.specs.Tokens.{is_blank}

@@ -1,6 +1,5 @@
 -- What the tokens at the front of a text say of the formulas that it spells.
 use Rattle.std.proofs.Common.{◌≡◌, ◌≢◌, ◌<◌, ◌≤◌, ◌-◌, ◌++◌, ◌∷◌, ◌⊎◌, inl, inr, ℕ, List, [], length, false, IsTrue, Some, None, Result, Ok, Err, IfOk, refl, sym, ap, subst, ◌∙◌, arith}
-use denote.Ref.{Bor}
 use Rattle.nal_term.specs.Names.{IsName}
 use Rattle.nal_term.specs.Trees.{TermTree, FormulaTree}
 use Rattle.nal_term.specs.Trees as tree
@@ -14,7 +13,7 @@ use Rattle.nal_parse.specs.Tokens.{Lexeme, Cut, next_cut, after_blanks}
 use Rattle.nal_parse.specs.Tokens as lexeme
 use Rattle.nal_parse.specs.Grammar.{ReadsTerm, last, quantifier_of, quantify, ReadsFormula, quantified, unquantified, ReadsImplication, no_arrow, arrow, ReadsDisjunction, disjuncts, ReadsOrs, no_or, or, ReadsConjunction, conjuncts, ReadsAnds, no_and, and, ReadsUnary, not, verum, falsum, group, atom_of, statement, ReadsStatement, subject, atom}
 use Rattle.nal_parse.specs.Errors.{none, next}
-use Rattle.nal_parse.specs.Reading.{Readings, ReadsOnly, ReadsNothing, ReadsHere, IsReading, IsStopAt, IsWritable, Ands, Arguments, Ors, ReadsContinued, ReadsMade, ReadsQuantified, ReadsThen, first_lexeme, first_term, is_malformed, ends_unary, ends_conjunction, ends_disjunction, ends_formula, IsWellFormed}
+use Rattle.nal_parse.specs.Inner.Reading.{Readings, ReadsOnly, ReadsNothing, ReadsHere, IsStopped, IsStopAt, IsWritable, Ands, Arguments, Ors, ReadsContinued, ReadsMade, ReadsQuantified, ReadsThen, first_lexeme, first_term, is_malformed, ends_unary, ends_conjunction, ends_disjunction, ends_formula, IsWellFormed}
 use Rattle.nal_parse.proofs.Readings.{Step, Handed, level, below, same_level, one_level, begins_append, begins_split, one_token, two_tokens, written, writable_append, stopped, stopped_deep}
 use Rattle.nal_parse.proofs.TermReadings.{ReadsTerm-inverted, ReadsParts-only_none, first_writable, name_writable, nothing_between, term_goes_on, variable_writable}
 use Rattle.nal_parse.proofs.ListReadings.{closes_cut, closes_writable}
@@ -280,10 +279,10 @@ module _ (n : ℕ) (source : List ℕ) (f : FormulaTree) (rest : List ℕ) (left
           (lt, (g, subst (λ x. ReadsFormula (m - 1) x g tail) (same_rest c'' c) r, ap (λ x. tree.implies x g) i.0))
 
 -- with no level left an arrow has no right side
-pub implication_too_deep : {T : Type 0} (tree_of : T → FormulaTree) (source : List ℕ) (f : FormulaTree) (rest : List ℕ) → ReadsHere ends_disjunction ReadsDisjunction 0 source f rest → first_lexeme rest ≡ lexeme.arrow → (stop : Stop)
-    → stop ≡ Refused TooDeep (length (after_blanks rest)) → IsReading tree_of ends_formula ReadsImplication 0 source (Err stop)
-implication_too_deep tree_of source f rest left e stop is =
-    stopped_deep tree_of ends_formula ReadsImplication 0 source left.tokens rest left.begins left.writable
+pub implication_too_deep : (source : List ℕ) (f : FormulaTree) (rest : List ℕ) → ReadsHere ends_disjunction ReadsDisjunction 0 source f rest → first_lexeme rest ≡ lexeme.arrow → (stop : Stop)
+    → stop ≡ Refused TooDeep (length (after_blanks rest)) → IsStopped ends_formula ReadsImplication 0 source stop
+implication_too_deep source f rest left e stop is =
+    stopped_deep ends_formula ReadsImplication 0 source left.tokens rest left.begins left.writable
     (λ tail.
     let w = written left.tokens left.writable tail in
     (w.0, 32 ∷ tail, f, w.1, no_arrow (left.reads (32 ∷ w.0) (32 ∷ tail) 0 (omega arith) w.1)))
@@ -461,10 +460,10 @@ module _ (n : ℕ) (source : List ℕ) where
       other_from _ f i m bytes other g rest u = u
 
   -- with any other token in front there is no unary formula
-  pub unary_stuck : {T : Type 0} (tree_of : T → FormulaTree) (l : Lexeme) → first_lexeme source ≡ l → ((m : ℕ) (bytes other : List ℕ) (f : FormulaTree) (rest : List ℕ) → first_lexeme bytes ≡ l → UnaryFrom m bytes (l, other) f rest → ⊥) → (stop : Stop) → IsStopAt l source stop
-      → IsReading tree_of ends_unary ReadsUnary n source (Err stop)
-  unary_stuck tree_of l e refuses stop is =
-      stopped tree_of ends_unary ReadsUnary n source [] source none tt (λ tail. let g = unary_goes_on n tail in (g.0, 32 ∷ g.0, tree.verum, none, g.1)) l e stop is
+  pub unary_stuck : (l : Lexeme) → first_lexeme source ≡ l → ((m : ℕ) (bytes other : List ℕ) (f : FormulaTree) (rest : List ℕ) → first_lexeme bytes ≡ l → UnaryFrom m bytes (l, other) f rest → ⊥) → (stop : Stop) → IsStopAt l source stop
+      → IsStopped ends_unary ReadsUnary n source stop
+  unary_stuck l e refuses stop is =
+      stopped ends_unary ReadsUnary n source [] source none tt (λ tail. let g = unary_goes_on n tail in (g.0, 32 ∷ g.0, tree.verum, none, g.1)) l e stop is
       (λ bytes other m le b f.
       let first : first_lexeme bytes ≡ l = ap first_lexeme (nothing_between b) ∙ f in
       record { none = λ g rest r k. refuses m bytes (next_cut bytes).1 g rest first (unary_at (cut_of bytes first) r) })
@@ -473,24 +472,24 @@ module _ (n : ℕ) (source : List ℕ) where
 as_formula : {n : ℕ} {bytes : List ℕ} {f : FormulaTree} {rest : List ℕ} → ReadsUnary n bytes f rest → ReadsFormula n bytes f rest
 as_formula u = unquantified (no_arrow (disjuncts (conjuncts u no_and) no_or))
 
-module _ {T : Type 0} (tree_of : T → FormulaTree) (source : List ℕ) (stop : Stop) where
+module _ (source : List ℕ) (stop : Stop) where
   unary_deep : (l : Lexeme) → first_lexeme source ≡ l → is_malformed l ≡ false → stop ≡ Refused TooDeep (length (after_blanks source)) → ((bytes other : List ℕ) (f : FormulaTree) (rest : List ℕ) → UnaryFrom 0 bytes (l, other) f rest → ⊥)
-      → ((tail : List ℕ) → (bytes : List ℕ) × (f : FormulaTree) × (first_lexeme (32 ∷ bytes) ≡ l) × ReadsUnary 1 (32 ∷ bytes) f (32 ∷ tail)) → IsReading tree_of ends_unary ReadsUnary 0 source (Err stop)
+      → ((tail : List ℕ) → (bytes : List ℕ) × (f : FormulaTree) × (first_lexeme (32 ∷ bytes) ≡ l) × ReadsUnary 1 (32 ∷ bytes) f (32 ∷ tail)) → IsStopped ends_unary ReadsUnary 0 source stop
   unary_deep l e fine is refuses deeper =
-      stopped_deep tree_of ends_unary ReadsUnary 0 source [] source none tt (λ tail. let g = unary_goes_on 0 tail in (g.0, 32 ∷ g.0, tree.verum, none, g.1)) l e fine stop is
+      stopped_deep ends_unary ReadsUnary 0 source [] source none tt (λ tail. let g = unary_goes_on 0 tail in (g.0, 32 ∷ g.0, tree.verum, none, g.1)) l e fine stop is
       (λ bytes other b f.
       let first : first_lexeme bytes ≡ l = ap first_lexeme (nothing_between b) ∙ f in
       record { none = λ g rest r k. refuses bytes (next_cut bytes).1 g rest (unary_at (cut_of bytes first) r) })
       (λ tail. let g = deeper tail in (1, g.0, 32 ∷ g.0, g.1, omega arith, none, g.2, g.3))
 
-  pub unary_not_too_deep : first_lexeme source ≡ lexeme.keyword word.Not → stop ≡ Refused TooDeep (length (after_blanks source)) → IsReading tree_of ends_unary ReadsUnary 0 source (Err stop)
+  pub unary_not_too_deep : first_lexeme source ≡ lexeme.keyword word.Not → stop ≡ Refused TooDeep (length (after_blanks source)) → IsStopped ends_unary ReadsUnary 0 source stop
   unary_not_too_deep e is = unary_deep (lexeme.keyword word.Not) e refl is (λ bytes other f rest u. omega (arith, u.0))
       (λ tail.
       let u = unary_goes_on 0 tail in
       let k = keyword_writable word.Not u.0 in
       (k.0, tree.implies tree.verum tree.falsum, rw (first_lexeme, k.1) refl, not (omega arith) k.1 u.1))
 
-  pub unary_group_too_deep : first_lexeme source ≡ lexeme.opens → stop ≡ Refused TooDeep (length (after_blanks source)) → IsReading tree_of ends_unary ReadsUnary 0 source (Err stop)
+  pub unary_group_too_deep : first_lexeme source ≡ lexeme.opens → stop ≡ Refused TooDeep (length (after_blanks source)) → IsStopped ends_unary ReadsUnary 0 source stop
   unary_group_too_deep e is = unary_deep lexeme.opens e refl is (λ bytes other f rest u. omega (arith, u.0))
       (λ tail.
       let u = unary_goes_on 0 (41 ∷ 32 ∷ tail) in
@@ -498,10 +497,10 @@ module _ {T : Type 0} (tree_of : T → FormulaTree) (source : List ℕ) (stop : 
       (o.0, tree.verum, rw (first_lexeme, o.1) refl, group (omega arith) o.1 (as_formula u.1) (closes_cut tail)))
 
 -- with no level left the bracket of a name's arguments is too deep
-pub unary_atom_too_deep : {T : Type 0} (tree_of : T → FormulaTree) (source : List ℕ) (p : List ℕ) → IsName p → {a : List ℕ} → next_cut source ≡ (lexeme.name p, a) → first_lexeme a ≡ lexeme.opens → (stop : Stop)
-    → stop ≡ Refused TooDeep (length (after_blanks a)) → IsReading tree_of ends_unary ReadsUnary 0 source (Err stop)
-unary_atom_too_deep tree_of source p ok {a} e o stop is =
-    stopped_deep tree_of ends_unary ReadsUnary 0 source (lexeme.name p ∷ []) a (next e none) (name_writable p ok, tt)
+pub unary_atom_too_deep : (source : List ℕ) (p : List ℕ) → IsName p → {a : List ℕ} → next_cut source ≡ (lexeme.name p, a) → first_lexeme a ≡ lexeme.opens → (stop : Stop)
+    → stop ≡ Refused TooDeep (length (after_blanks a)) → IsStopped ends_unary ReadsUnary 0 source stop
+unary_atom_too_deep source p ok {a} e o stop is =
+    stopped_deep ends_unary ReadsUnary 0 source (lexeme.name p ∷ []) a (next e none) (name_writable p ok, tt)
     (λ tail. let w = name_writable p ok tail in (w.0, 32 ∷ tail, tree.atom p [], next w.1 none, statement (atom w.1)))
     lexeme.opens o refl stop is
     (λ bytes other b f. record { none = λ g rest r k. let z = (arguments_of p (one_token b) (cut_of other f) r k).0 in omega arith })
@@ -538,9 +537,9 @@ module _ (n : ℕ) (source : List ℕ) (f : FormulaTree) (mid : List ℕ) (formu
         };
   }
 
-  pub group_stuck : {T : Type 0} (tree_of : T → FormulaTree) (l : Lexeme) → first_lexeme mid ≡ l → l ≢ lexeme.closes → (stop : Stop) → IsStopAt l mid stop → IsReading tree_of ends_unary (ReadsThen ReadsFormula lexeme.closes) n source (Err stop)
-  group_stuck tree_of l e not_closes stop is =
-      stopped tree_of ends_unary (ReadsThen ReadsFormula lexeme.closes) n source formula.tokens mid formula.begins formula.writable
+  pub group_stuck : (l : Lexeme) → first_lexeme mid ≡ l → l ≢ lexeme.closes → (stop : Stop) → IsStopAt l mid stop → IsStopped ends_unary (ReadsThen ReadsFormula lexeme.closes) n source stop
+  group_stuck l e not_closes stop is =
+      stopped ends_unary (ReadsThen ReadsFormula lexeme.closes) n source formula.tokens mid formula.begins formula.writable
       (λ tail.
       let w = written formula.tokens formula.writable (41 ∷ 32 ∷ tail) in
       (w.0, 32 ∷ 41 ∷ 32 ∷ tail, f, w.1, (32 ∷ 41 ∷ 32 ∷ tail, formula.reads (32 ∷ w.0) (32 ∷ 41 ∷ 32 ∷ tail) n (omega arith) w.1, closes_cut tail)))
@@ -606,18 +605,18 @@ quantified_goes_on q n tail =
     (v.0, (97 ∷ [], tree.verum, 32 ∷ c.0, 32 ∷ u.0, v.1, c.1, as_formula u.1, refl))
 
 module _ (q : Quantifier) (n : ℕ) (source : List ℕ) where
-  pub quantified_no_variable : {T : Type 0} (tree_of : T → FormulaTree) (l : Lexeme) → first_lexeme source ≡ l → ((x : List ℕ) → l ≢ lexeme.variable x) → (stop : Stop) → IsStopAt l source stop
-      → IsReading tree_of ends_formula (ReadsQuantified q) n source (Err stop)
-  quantified_no_variable tree_of l e not_variable stop is =
-      stopped tree_of ends_formula (ReadsQuantified q) n source [] source none tt (λ tail. let g = quantified_goes_on q n tail in (g.0, 32 ∷ g.0, quantify q (97 ∷ []) tree.verum, none, g.1)) l e stop is
+  pub quantified_no_variable : (l : Lexeme) → first_lexeme source ≡ l → ((x : List ℕ) → l ≢ lexeme.variable x) → (stop : Stop) → IsStopAt l source stop
+      → IsStopped ends_formula (ReadsQuantified q) n source stop
+  quantified_no_variable l e not_variable stop is =
+      stopped ends_formula (ReadsQuantified q) n source [] source none tt (λ tail. let g = quantified_goes_on q n tail in (g.0, 32 ∷ g.0, quantify q (97 ∷ []) tree.verum, none, g.1)) l e stop is
       (λ bytes other m le b f.
       let first : first_lexeme bytes ≡ l = ap first_lexeme (nothing_between b) ∙ f in
       record { none = λ g rest r k. not_variable r.0 (sym first ∙ rw (first_lexeme, r.4) refl) })
 
-  pub quantified_no_colon : {T : Type 0} (tree_of : T → FormulaTree) (x : List ℕ) → IsName x → {a : List ℕ} → next_cut source ≡ (lexeme.variable x, a) → (l : Lexeme) → first_lexeme a ≡ l → l ≢ lexeme.colon → (stop : Stop) → IsStopAt l a stop
-      → IsReading tree_of ends_formula (ReadsQuantified q) n source (Err stop)
-  quantified_no_colon tree_of x ok {a} e l i not_colon stop is =
-      stopped tree_of ends_formula (ReadsQuantified q) n source (lexeme.variable x ∷ []) a (next e none) (variable_writable x ok, tt)
+  pub quantified_no_colon : (x : List ℕ) → IsName x → {a : List ℕ} → next_cut source ≡ (lexeme.variable x, a) → (l : Lexeme) → first_lexeme a ≡ l → l ≢ lexeme.colon → (stop : Stop) → IsStopAt l a stop
+      → IsStopped ends_formula (ReadsQuantified q) n source stop
+  quantified_no_colon x ok {a} e l i not_colon stop is =
+      stopped ends_formula (ReadsQuantified q) n source (lexeme.variable x ∷ []) a (next e none) (variable_writable x ok, tt)
       (λ tail.
       let u = unary_goes_on n tail in
       let c = colon_writable u.0 in
@@ -672,10 +671,10 @@ module _ (n : ℕ) (source : List ℕ) where
       plain_of h (quantified lt c e' v w r) = let i = rw (first_lexeme, c) at h in cc
       plain_of h (unquantified i) = i
 
-pub formula_too_deep : {T : Type 0} (tree_of : T → FormulaTree) (source : List ℕ) {q : Quantifier} (l : Lexeme) → first_lexeme source ≡ l → quantifier_of l ≡ Some q → (stop : Stop) → stop ≡ Refused TooDeep (length (after_blanks source))
-    → IsReading tree_of ends_formula ReadsFormula 0 source (Err stop)
-formula_too_deep tree_of source {q} l e f stop is =
-    stopped_deep tree_of ends_formula ReadsFormula 0 source [] source none tt (λ tail. let g = unary_goes_on 0 tail in (g.0, 32 ∷ g.0, tree.verum, none, as_formula g.1)) l e (quantifier_fine l f) stop is
+pub formula_too_deep : (source : List ℕ) {q : Quantifier} (l : Lexeme) → first_lexeme source ≡ l → quantifier_of l ≡ Some q → (stop : Stop) → stop ≡ Refused TooDeep (length (after_blanks source))
+    → IsStopped ends_formula ReadsFormula 0 source stop
+formula_too_deep source {q} l e f stop is =
+    stopped_deep ends_formula ReadsFormula 0 source [] source none tt (λ tail. let g = unary_goes_on 0 tail in (g.0, 32 ∷ g.0, tree.verum, none, as_formula g.1)) l e (quantifier_fine l f) stop is
     (λ bytes other b i.
     let first : first_lexeme bytes ≡ l = ap first_lexeme (nothing_between b) ∙ i in
     record { none = λ g rest r k. let z = (quantified_from (cut_of bytes first) f r).0 in omega arith })
@@ -693,6 +692,11 @@ keyword_refused word.True h i j m bytes other f rest e u = i refl
 keyword_refused word.False h i j m bytes other f rest e u = j refl
 keyword_refused _ h i j m bytes other f rest e u = u
 
+-- nor does a token that is such a word
+pub word_refused : (l : Lexeme) (k : Keyword) → l ≡ lexeme.keyword k → k ≢ word.Not → k ≢ word.True → k ≢ word.False → (m : ℕ) (bytes other : List ℕ) (f : FormulaTree) (rest : List ℕ) → first_lexeme bytes ≡ l
+    → UnaryFrom m bytes (l, other) f rest → ⊥
+word_refused l k is h i j m bytes other f rest e u = keyword_refused k h i j m bytes other f rest (e ∙ is) (rw is at u)
+
 -- nor does a token that is no term, no reserved word and no bracket
 pub other_refused : (l : Lexeme) → first_term l ≡ None → ((k : Keyword) → l ≢ lexeme.keyword k) → l ≢ lexeme.opens → (m : ℕ) (bytes other : List ℕ) (f : FormulaTree) (rest : List ℕ) → first_lexeme bytes ≡ l
     → UnaryFrom m bytes (l, other) f rest → ⊥
@@ -702,6 +706,6 @@ other_refused (lexeme.name p) n h i m bytes other f rest e u = cc
 other_refused l n h i m bytes other f rest e u = let s = statement_first u in let g = rw (first_lexeme, e) at s.1 in cc
 
 -- what leaves at most the rest leaves less than the whole
-pub ok_shorter : {T : Type 0} (r : Result (T × Bor (List ℕ)) Stop) (m n : ℕ) → IfOk r (λ p. length p.1.now ≤ m) → m < n → IfOk r (λ p. length p.1.now < n)
-ok_shorter (Ok p) m n h lt = omega arith
-ok_shorter (Err e) m n h lt = h
+pub ok_shorter : {T : Type 0} (r : Result T Stop) (left m n : ℕ) → IfOk r (λ p. left ≤ m) → m < n → IfOk r (λ p. left < n)
+ok_shorter (Ok p) left m n h lt = omega arith
+ok_shorter (Err e) left m n h lt = h

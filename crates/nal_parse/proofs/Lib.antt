@@ -1,4 +1,4 @@
-pub mod Decimal
+pub mod Digits
 pub mod DigitCounts
 pub mod Readings
 pub mod TokenLexemes
@@ -14,3 +14,5 @@ pub mod ErrorPlaces
 pub mod OneSpelling
 pub mod OneError
 pub mod ForCallers
+pub mod Fronts
+pub mod Words

@@ -1,12 +1,12 @@
 -- What the tokens after an item of a list say of the lists that a text spells.
-use Rattle.std.proofs.Common.{◌≡◌, ◌≢◌, ◌<◌, ◌-◌, ◌+◌, ◌++◌, ◌⊎◌, inl, inr, ℕ, List, [], ◌∷◌, length, Bool, IsTrue, refl, sym, ap, ◌∙◌, arith, append_assoc, length-append, subst, Err}
+use Rattle.std.proofs.Common.{◌≡◌, ◌≢◌, ◌<◌, ◌-◌, ◌+◌, ◌++◌, ◌⊎◌, inl, inr, ℕ, List, [], ◌∷◌, length, Bool, IsTrue, refl, sym, ap, ◌∙◌, arith, append_assoc, length-append, subst}
 use Rattle.nal_parse.specs.declared.stops.Stop.{Stop}
 use Rattle.nal_term.specs.Names.{IsName}
 use Rattle.nal_parse.specs.Tokens.{Lexeme, Cut, next_cut, lexeme_of}
 use Rattle.nal_parse.specs.Tokens as lexeme
 use Rattle.nal_parse.specs.Grammar.{ReadsList, last, more, ReadsName}
 use Rattle.nal_parse.specs.Errors.{BeginsWith, none, next}
-use Rattle.nal_parse.specs.Reading.{Readings, ReadsOnly, ReadsNothing, ReadsHere, ReadsMore, IsReading, IsStopAt, IsWritable, first_lexeme, anything}
+use Rattle.nal_parse.specs.Inner.Reading.{Readings, ReadsOnly, ReadsNothing, ReadsHere, ReadsMore, IsStopped, IsStopAt, IsWritable, first_lexeme, anything}
 use Rattle.nal_parse.proofs.Readings.{SameReadings, Step, level, same_level, Handed, begins_append, begins_split, one_token, written, writable_append, stopped}
 use Rattle.nal_parse.proofs.TermReadings.{name_writable, nothing_between}
 use Rattle.nal_parse.proofs.Written.{sign_cut, after_space}
@@ -171,10 +171,10 @@ module _ {A : Type 0} (Item : List ℕ → A → List ℕ → Type 0) (ends : Le
               goes_on Item ends by_closes by_comma before bytes room x i.0 first other f
 
       -- an item and neither, or a comma too many: there is no list
-      pub list_stuck : {T : Type 0} (tree_of : T → List A) (l : Lexeme) → first_lexeme a ≡ l → l ≢ lexeme.closes → (l ≡ lexeme.comma → length before + 1 ≡ 8) → (stop : Stop) → IsStopAt l a stop
-          → IsReading tree_of anything (ReadsMore Item before) 0 source (Err stop)
-      list_stuck tree_of l e not_closes at_most stop is =
-          stopped tree_of anything (ReadsMore Item before) 0 source item.tokens a item.begins item.writable
+      pub list_stuck : (l : Lexeme) → first_lexeme a ≡ l → l ≢ lexeme.closes → (l ≡ lexeme.comma → length before + 1 ≡ 8) → (stop : Stop) → IsStopAt l a stop
+          → IsStopped anything (ReadsMore Item before) 0 source stop
+      list_stuck l e not_closes at_most stop is =
+          stopped anything (ReadsMore Item before) 0 source item.tokens a item.begins item.writable
           (λ tail.
           let w = written item.tokens item.writable (41 ∷ 32 ∷ tail) in
           (w.0, 32 ∷ 41 ∷ 32 ∷ tail, before ++ x ∷ [], w.1, (x ∷ [], last (omega arith) (item.reads (32 ∷ w.0) (32 ∷ 41 ∷ 32 ∷ tail) 0 (omega arith) w.1) (closes_cut tail), refl)))
@@ -197,10 +197,10 @@ name_here source x ok e = record {
 }
 
 -- with another token in front there is no name, and so no list of names
-pub names_stuck : {T : Type 0} (tree_of : T → List (List ℕ)) (before : List (List ℕ)) → length before < 8 → (source : List ℕ) (l : Lexeme) → first_lexeme source ≡ l → ((x : List ℕ) → l ≢ lexeme.name x) → (stop : Stop) → IsStopAt l source stop
-    → IsReading tree_of anything (ReadsMore ReadsName before) 0 source (Err stop)
-names_stuck tree_of before room source l e not_name stop is =
-    stopped tree_of anything (ReadsMore ReadsName before) 0 source [] source none tt
+pub names_stuck : (before : List (List ℕ)) → length before < 8 → (source : List ℕ) (l : Lexeme) → first_lexeme source ≡ l → ((x : List ℕ) → l ≢ lexeme.name x) → (stop : Stop) → IsStopAt l source stop
+    → IsStopped anything (ReadsMore ReadsName before) 0 source stop
+names_stuck before room source l e not_name stop is =
+    stopped anything (ReadsMore ReadsName before) 0 source [] source none tt
     (λ tail.
     let x = name_writable (97 ∷ []) refl (41 ∷ 32 ∷ tail) in
     (x.0, 32 ∷ x.0, before ++ (97 ∷ []) ∷ [], none, ((97 ∷ []) ∷ [], last (omega arith) x.1 (closes_cut tail), refl)))

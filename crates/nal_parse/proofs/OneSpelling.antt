@@ -7,7 +7,7 @@ use Rattle.nal_parse.specs.Tokens.{Lexeme, next_cut}
 use Rattle.nal_parse.specs.Tokens as lexeme
 use Rattle.nal_parse.specs.Grammar.{ReadsParts, ReadsTerm, ReadsList, ReadsName, ReadsScope, comparison_of, quantifier_of, quantify, SpellsTerm, SpellsFormula, ReadsFormula, ReadsImplication, ReadsDisjunction, ReadsOrs, ReadsConjunction, ReadsAnds, ReadsUnary, ReadsStatement, ReadsPredicate}
 use Rattle.nal_parse.specs.Grammar as grammar
-use Rattle.nal_parse.specs.Reading.{first_lexeme, first_term, anything, ends_term, ends_unary, ends_conjunction, ends_disjunction, ends_formula}
+use Rattle.nal_parse.specs.Inner.Reading.{first_lexeme, first_term, anything, ends_term, ends_unary, ends_conjunction, ends_disjunction, ends_formula}
 use Rattle.nal_parse.specs.Laws.{OneFormulaSpelled, OneTermSpelled}
 use Rattle.nal_parse.proofs.FormulaReadings.{ands_first, ors_first}
 use Rattle.nal_parse.proofs.StatementReadings.{disjunction_ends, term_ends, predicate_begins, ends_by_predicate, unended_by_predicate, statement_first}

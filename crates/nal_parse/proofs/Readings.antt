@@ -1,6 +1,5 @@
 -- Readings of one kind from those of another.
 use Rattle.std.proofs.Common.{◌≡◌, ◌<◌, ◌≤◌, ◌+◌, ◌-◌, ◌++◌, ◌∷◌, [], sym, ap, refl, subst, ◌∙◌, arith, length, ℕ, List, Bool, false, IsTrue, Result, Ok, Err}
-use denote.Ref.{Bor}
 use Rattle.nal_parse.specs.declared.stops.Stop.{Stop}
 use Rattle.nal_parse.specs.declared.stops.Stop.TheVariants.{Refused, Memory}
 use Rattle.nal_parse.specs.declared.stops.Found.{Found}
@@ -8,7 +7,7 @@ use Rattle.nal_parse.specs.declared.stops.Found.TheVariants.{TooDeep}
 use Rattle.nal_parse.specs.Tokens.{Lexeme, next_cut, after_blanks}
 use Rattle.nal_parse.specs.Errors.{BeginsWith, none, next}
 use Rattle.nal_parse.proofs.TokenLexemes.{same_rest}
-use Rattle.nal_parse.specs.Reading.{Readings, ReadsOnly, ReadsNothing, ReadsHere, StopsHere, IsReading, IsStopAt, IsFound, AreWritable, ReadsMade, first_lexeme, is_malformed}
+use Rattle.nal_parse.specs.Inner.Reading.{Readings, ReadsOnly, ReadsNothing, ReadsHere, StopsHere, IsReading, IsStopped, IsStopAt, IsFound, AreWritable, ReadsMade, first_lexeme, is_malformed}
 
 -- the second kind reads what the first reads, and nothing else that a lexeme ends
 pub record SameReadings {A : Type 0} (ends : Lexeme → Bool) (R S : A → List ℕ → Type 0) : Type 0 where
@@ -134,10 +133,43 @@ module _ {A : Type 0} {ends : Lexeme → Bool} {Q S : Readings A} {low : ℕ →
         );
   }
 
-  pub step_reading : {T : Type 0} (tree_of : T → A) (result : Result (T × Bor (List ℕ)) Stop) → IsReading tree_of ends Q (low n) mid result → IsReading tree_of ends S n text result
-  step_reading tree_of (Ok p) r = step_reads r
-  step_reading tree_of (Err (Refused found left)) r = step_stops r
-  step_reading tree_of (Err Memory) r = tt
+  pub step_stopped : (stop : Stop) → IsStopped ends Q (low n) mid stop → IsStopped ends S n text stop
+  step_stopped (Refused found left) r = step_stops r
+  step_stopped Memory r = tt
+
+  pub step_reading : {T : Type 0} (tree_of : T → A) (rest : List ℕ) (result : Result T Stop) → IsReading tree_of ends Q (low n) mid rest result → IsReading tree_of ends S n text rest result
+  step_reading tree_of rest (Ok a) r = step_reads r
+  step_reading tree_of rest (Err stop) r = step_stopped stop r
+
+-- no token between
+pub no_step : {A : Type 0} {ends : Lexeme → Bool} (Q : Readings A) (n : ℕ) (text : List ℕ) → Step ends Q Q level n text text
+no_step {ends = ends} Q n text = record {
+  front = [];
+  begins = none;
+  writable = tt;
+  levels = same_level n;
+  to = λ bytes other m le b c rest r. subst (λ x. Q m x c rest) (sym (same b)) r;
+  from = λ bytes other m le b e c rest r k. subst (λ x. Q m x c rest) (same b) r;
+}
+  where
+    same : {a b : List ℕ} → BeginsWith a [] b → a ≡ b
+    same none = refl
+
+-- two steps, one after the other, of which the second keeps the levels
+pub steps : {A : Type 0} {ends : Lexeme → Bool} {P Q S : Readings A} {low : ℕ → ℕ} {n : ℕ} {text mid last : List ℕ} → Step ends Q S low n text mid → Step ends P Q level (low n) mid last → Step ends P S low n text last
+steps s t = record {
+  front = s.front ++ t.front;
+  begins = begins_append s.begins t.begins;
+  writable = writable_append s.front t.front s.writable t.writable;
+  levels = s.levels;
+  to = λ bytes other m le b c rest r.
+      let i = begins_split s.front b in
+      s.to bytes i.0 m le i.1 c rest (t.to i.0 other _ (s.levels.more m le) i.2 c rest r);
+  from = λ bytes other m le b e c rest r k.
+      let i = begins_split s.front b in
+      let f = begins_first t.front i.2 t.begins e in
+      t.from i.0 other _ (s.levels.more m le) i.2 e c rest (s.from bytes i.0 m le i.1 f c rest r k) k;
+}
 
 -- A stop of a first part
 
@@ -169,10 +201,10 @@ handed {n = n} h r = record {
       (g.0, g.1, g.2, w.0, g.4, g.5, g.6, w.1);
 }
 
-pub handed_stop : {T A B U : Type 0} {ends ends' : Lexeme → Bool} {P : Readings B} {S : Readings A} {n : ℕ} (text : List ℕ) (tree_of : T → A) (part_of : U → B) → Handed ends ends' P S n → (stop : Stop)
-    → IsReading part_of ends P n text (Err stop) → IsReading tree_of ends' S n text (Err stop)
-handed_stop text tree_of part_of h (Refused found left) r = handed h r
-handed_stop text tree_of part_of h Memory r = tt
+pub handed_stop : {A B : Type 0} {ends ends' : Lexeme → Bool} {P : Readings B} {S : Readings A} {n : ℕ} (text : List ℕ) → Handed ends ends' P S n → (stop : Stop)
+    → IsStopped ends P n text stop → IsStopped ends' S n text stop
+handed_stop text h (Refused found left) r = handed h r
+handed_stop text h Memory r = tt
 
 -- What is made of a part
 
@@ -220,16 +252,16 @@ narrow_handed R n h = record {
   completes = λ tail. (tail, λ bytes m b le s. (b, s));
 }
 
-pub narrow_reading : {T A : Type 0} (tree_of : T → A) (ends ends' : Lexeme → Bool) (R : Readings A) (n : ℕ) (text : List ℕ) (result : Result (T × Bor (List ℕ)) Stop)
-    → ((l : Lexeme) → IsTrue (ends' l) → IsTrue (ends l)) → IsReading tree_of ends R n text result → IsReading tree_of ends' R n text result
-narrow_reading tree_of ends ends' R n text (Ok p) h r = narrow_reads h r
-narrow_reading tree_of ends ends' R n text (Err (Refused found left)) h r = handed (narrow_handed R n h) r
-narrow_reading tree_of ends ends' R n text (Err Memory) h r = tt
+pub narrow_reading : {T A : Type 0} (tree_of : T → A) (ends ends' : Lexeme → Bool) (R : Readings A) (n : ℕ) (text rest : List ℕ) (result : Result T Stop)
+    → ((l : Lexeme) → IsTrue (ends' l) → IsTrue (ends l)) → IsReading tree_of ends R n text rest result → IsReading tree_of ends' R n text rest result
+narrow_reading tree_of ends ends' R n text rest (Ok a) h r = narrow_reads h r
+narrow_reading tree_of ends ends' R n text rest (Err (Refused found left)) h r = handed (narrow_handed R n h) r
+narrow_reading tree_of ends ends' R n text rest (Err Memory) h r = tt
 
 -- levels that are not looked at
 pub at_level : {T A : Type 0} (tree_of : T → A) (ends : Lexeme → Bool) (R : Readings A) → ((m k : ℕ) (bytes : List ℕ) (a : A) (rest : List ℕ) → R m bytes a rest → R k bytes a rest)
-    → (n k : ℕ) (text : List ℕ) (result : Result (T × Bor (List ℕ)) Stop) → IsReading tree_of ends R n text result → IsReading tree_of ends R k text result
-at_level tree_of ends R same n k text (Ok p) r = record {
+    → (n k : ℕ) (text rest : List ℕ) (result : Result T Stop) → IsReading tree_of ends R n text rest result → IsReading tree_of ends R k text rest result
+at_level tree_of ends R same n k text rest (Ok p) r = record {
   tokens = r.tokens;
   begins = r.begins;
   writable = r.writable;
@@ -237,7 +269,7 @@ at_level tree_of ends R same n k text (Ok p) r = record {
   only = λ bytes other m le b e.
       let o = r.only bytes other n (omega arith) b e in record { reads = same n m bytes _ other o.reads; only = λ c tail s i. o.only c tail (same m n bytes c tail s) i };
 }
-at_level tree_of ends R same n k text (Err (Refused found left)) r = record {
+at_level tree_of ends R same n k text rest (Err (Refused found left)) r = record {
   tokens = r.tokens;
   stop = r.stop;
   begins = r.begins;
@@ -249,16 +281,16 @@ at_level tree_of ends R same n k text (Err (Refused found left)) r = record {
   goes_on = λ tail. let g = r.goes_on tail in (g.0, g.1, g.2, g.3, same n k (32 ∷ g.0) g.2 (32 ∷ tail) g.4);
   deeper = λ t tail. let g = r.deeper t tail in (k, g.1, g.2, g.3, omega arith, g.5, g.6, same g.0 k (32 ∷ g.1) g.3 (32 ∷ tail) g.7);
 }
-at_level tree_of ends R same n k text (Err Memory) r = tt
+at_level tree_of ends R same n k text rest (Err Memory) r = tt
 
 -- Stops at a token
 
-module _ {T A : Type 0} (tree_of : T → A) (ends : Lexeme → Bool) (R : Readings A) (n : ℕ) (text : List ℕ) (tokens : List Lexeme) (mid : List ℕ) (begins : BeginsWith text tokens mid) (writable : AreWritable tokens)
+module _ {A : Type 0} (ends : Lexeme → Bool) (R : Readings A) (n : ℕ) (text : List ℕ) (tokens : List Lexeme) (mid : List ℕ) (begins : BeginsWith text tokens mid) (writable : AreWritable tokens)
     (goes_on : (tail : List ℕ) → (bytes : List ℕ) × (other : List ℕ) × (a : A) × BeginsWith (32 ∷ bytes) tokens other × R n (32 ∷ bytes) a (32 ∷ tail)) where
   -- no spelling allows the token behind these
   pub stopped : (l : Lexeme) → first_lexeme mid ≡ l → (stop : Stop) → IsStopAt l mid stop
-      → ((bytes other : List ℕ) (m : ℕ) → n ≤ m → BeginsWith bytes tokens other → first_lexeme other ≡ l → ReadsNothing ends (R m bytes)) → IsReading tree_of ends R n text (Err stop)
-  stopped l first stop is refuses = subst (λ s. IsReading tree_of ends R n text (Err s)) (sym is.3) (record {
+      → ((bytes other : List ℕ) (m : ℕ) → n ≤ m → BeginsWith bytes tokens other → first_lexeme other ≡ l → ReadsNothing ends (R m bytes)) → IsStopped ends R n text stop
+  stopped l first stop is refuses = subst (λ s. IsStopped ends R n text s) (sym is.3) (record {
     tokens = tokens;
     stop = mid;
     begins = begins;
@@ -274,8 +306,8 @@ module _ {T A : Type 0} (tree_of : T → A) (ends : Lexeme → Bool) (R : Readin
   pub stopped_deep : (l : Lexeme) → first_lexeme mid ≡ l → is_malformed l ≡ false → (stop : Stop) → stop ≡ Refused TooDeep (length (after_blanks mid))
       → ((bytes other : List ℕ) → BeginsWith bytes tokens other → first_lexeme other ≡ l → ReadsNothing ends (R n bytes))
       → ((tail : List ℕ) → (m : ℕ) × (bytes : List ℕ) × (other : List ℕ) × (a : A) × (n ≤ m) × BeginsWith (32 ∷ bytes) tokens other × (first_lexeme other ≡ l) × R m (32 ∷ bytes) a (32 ∷ tail))
-      → IsReading tree_of ends R n text (Err stop)
-  stopped_deep l first fine stop is refuses deeper = subst (λ s. IsReading tree_of ends R n text (Err s)) (sym is) (record {
+      → IsStopped ends R n text stop
+  stopped_deep l first fine stop is refuses deeper = subst (λ s. IsStopped ends R n text s) (sym is) (record {
     tokens = tokens;
     stop = mid;
     begins = begins;
@@ -287,3 +319,8 @@ module _ {T A : Type 0} (tree_of : T → A) (ends : Lexeme → Bool) (R : Readin
     goes_on = goes_on;
     deeper = λ t tail. let g = deeper tail in (g.0, g.1, g.2, g.3, g.4, g.5, g.6 ∙ sym first, g.7);
   })
+
+-- How far a loop is: what is read behind this place is what is read from the text, and so many bytes at least stand between
+pub record Reached {A : Type 0} (ends : Lexeme → Bool) (Q S : Readings A) (n : ℕ) (text rest : List ℕ) (least : ℕ) : Type 0 where
+  pub step : Step ends Q S level n text rest
+  pub within : least + length rest ≤ length text

@@ -1,5 +1,5 @@
 -- What the token at the front of a text says of the scopes that it spells.
-use Rattle.std.proofs.Common.{◌≡◌, ◌≢◌, ◌<◌, ◌∷◌, [], ℕ, List, length, Err, refl, sym, subst, ◌∙◌, arith}
+use Rattle.std.proofs.Common.{◌≡◌, ◌≢◌, ◌<◌, ◌∷◌, [], ℕ, List, length, refl, sym, subst, ◌∙◌, arith}
 use Rattle.nal_term.specs.Names.{IsName}
 use Rattle.nal_parse.specs.declared.stops.Stop.{Stop}
 use Rattle.nal_parse.specs.declared.stops.Stop.TheVariants.{Refused}
@@ -8,7 +8,7 @@ use Rattle.nal_parse.specs.Tokens.{Lexeme, Cut, next_cut, after_blanks}
 use Rattle.nal_parse.specs.Tokens as lexeme
 use Rattle.nal_parse.specs.Grammar.{ReadsName, last, ReadsScope, one, several}
 use Rattle.nal_parse.specs.Errors.{none, next}
-use Rattle.nal_parse.specs.Reading.{ReadsHere, ReadsMore, IsReading, IsStopAt, IsWritable, first_lexeme, anything}
+use Rattle.nal_parse.specs.Inner.Reading.{ReadsHere, ReadsMore, IsStopped, IsStopAt, IsWritable, first_lexeme, anything}
 use Rattle.nal_parse.proofs.Readings.{Step, level, same_level, one_token, stopped, stopped_deep}
 use Rattle.nal_parse.proofs.TermReadings.{name_writable, nothing_between}
 use Rattle.nal_parse.proofs.ListReadings.{closes_cut}
@@ -55,10 +55,10 @@ scope_goes_on : (n : ℕ) (tail : List ℕ) → (bytes : List ℕ) × ReadsScope
 scope_goes_on n tail = let x = name_writable (97 ∷ []) refl tail in (x.0, one x.1)
 
 -- with another token there is no scope
-pub scope_nothing : {T : Type 0} (tree_of : T → List (List ℕ)) (n : ℕ) (source : List ℕ) (l : Lexeme) → first_lexeme source ≡ l → ((x : List ℕ) → l ≢ lexeme.name x) → l ≢ lexeme.opens → (stop : Stop) → IsStopAt l source stop
-    → IsReading tree_of anything ReadsScope n source (Err stop)
-scope_nothing tree_of n source l e not_name not_open stop is =
-    stopped tree_of anything ReadsScope n source [] source none tt (λ tail. let g = scope_goes_on n tail in (g.0, 32 ∷ g.0, (97 ∷ []) ∷ [], none, g.1)) l e stop is
+pub scope_nothing : (n : ℕ) (source : List ℕ) (l : Lexeme) → first_lexeme source ≡ l → ((x : List ℕ) → l ≢ lexeme.name x) → l ≢ lexeme.opens → (stop : Stop) → IsStopAt l source stop
+    → IsStopped anything ReadsScope n source stop
+scope_nothing n source l e not_name not_open stop is =
+    stopped anything ReadsScope n source [] source none tt (λ tail. let g = scope_goes_on n tail in (g.0, 32 ∷ g.0, (97 ∷ []) ∷ [], none, g.1)) l e stop is
     (λ bytes other m le b f.
     let first : first_lexeme bytes ≡ l = subst (λ x. first_lexeme x ≡ l) (sym (nothing_between b)) f in
     record { none = λ xs rest r any. no_scope (λ c. not_open (sym first ∙ c)) (λ x c. not_name x (sym first ∙ c)) r })
@@ -68,10 +68,10 @@ no_room e (one f) = let g = rw (first_lexeme, f) at e in cc
 no_room e (several lt f r) = omega arith
 
 -- with no level left a bracket begins no scope
-pub scope_too_deep : {T : Type 0} (tree_of : T → List (List ℕ)) (source : List ℕ) → first_lexeme source ≡ lexeme.opens → (stop : Stop) → stop ≡ Refused TooDeep (length (after_blanks source))
-    → IsReading tree_of anything ReadsScope 0 source (Err stop)
-scope_too_deep tree_of source e stop is =
-    stopped_deep tree_of anything ReadsScope 0 source [] source none tt (λ tail. let g = scope_goes_on 0 tail in (g.0, 32 ∷ g.0, (97 ∷ []) ∷ [], none, g.1)) lexeme.opens e refl stop is
+pub scope_too_deep : (source : List ℕ) → first_lexeme source ≡ lexeme.opens → (stop : Stop) → stop ≡ Refused TooDeep (length (after_blanks source))
+    → IsStopped anything ReadsScope 0 source stop
+scope_too_deep source e stop is =
+    stopped_deep anything ReadsScope 0 source [] source none tt (λ tail. let g = scope_goes_on 0 tail in (g.0, 32 ∷ g.0, (97 ∷ []) ∷ [], none, g.1)) lexeme.opens e refl stop is
     (λ bytes other b f.
     let first : first_lexeme bytes ≡ lexeme.opens = subst (λ x. first_lexeme x ≡ lexeme.opens) (sym (nothing_between b)) f in
     record { none = λ xs rest r any. no_room first r })

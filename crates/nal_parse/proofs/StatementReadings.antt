@@ -1,5 +1,5 @@
 -- What the tokens at the front of a text say of the statements that it spells.
-use Rattle.std.proofs.Common.{◌≡◌, ◌≢◌, ◌<◌, ◌-◌, ◌++◌, ◌∷◌, inl, inr, ℕ, List, [], length, Bool, true, false, codes, IsTrue, Option, Some, None, Err, refl, sym, ap, subst, ◌∙◌, arith}
+use Rattle.std.proofs.Common.{◌≡◌, ◌≢◌, ◌<◌, ◌-◌, ◌++◌, ◌∷◌, inl, inr, ℕ, List, [], length, Bool, true, false, codes, IsTrue, Option, Some, None, refl, sym, ap, subst, ◌∙◌, arith}
 use Rattle.nal_term.specs.declared.formulas.Compare.{Compare}
 use Rattle.nal_term.specs.declared.formulas.Compare.TheVariants.{Equal}
 use Rattle.nal_term.specs.Trees.{TermTree, FormulaTree}
@@ -14,9 +14,9 @@ use Rattle.nal_parse.specs.Tokens as lexeme
 use Rattle.nal_parse.specs.Grammar.{ReadsTerm, ReadsParts, ReadsList, ReadsScope, comparison_of, ReadsUnary, verum, ReadsStatement, subject, atom, ReadsPredicate, says, speaks_for, speaks_for_on, comparison}
 use Rattle.nal_parse.specs.Grammar as grammar
 use Rattle.nal_parse.specs.Errors.{none, next}
-use Rattle.nal_parse.specs.Reading.{ReadsHere, IsReading, IsStopAt, IsWritable, Arguments, Parts, Terms, ReadsContinued, ReadsDelegation, ReadsMade, ReadsMore, ReadsRest, anything, first_lexeme, first_term, ends_term, ends_unary, ends_conjunction, ends_disjunction, ends_formula}
-use Rattle.nal_parse.proofs.Readings.{Step, level, below, same_level, one_level, Handed, begins_append, begins_split, one_token, writable_append, stopped, stopped_deep}
-use Rattle.nal_parse.proofs.TermReadings.{ReadsTerm-inverted, ReadsTerm-made, nothing_between, term_goes_on}
+use Rattle.nal_parse.specs.Inner.Reading.{goes_on, ReadsHere, IsStopped, IsStopAt, IsWritable, Arguments, Parts, Terms, ReadsContinued, ReadsDelegation, ReadsMade, ReadsMore, ReadsRest, anything, first_lexeme, first_term, ends_term, ends_unary, ends_conjunction, ends_disjunction, ends_formula}
+use Rattle.nal_parse.proofs.Readings.{Step, level, below, same_level, one_level, Handed, begins_append, begins_split, one_token, writable_append, stopped, stopped_deep, step_reads}
+use Rattle.nal_parse.proofs.TermReadings.{ReadsTerm-inverted, ReadsTerm-made, nothing_between, term_goes_on, parts_end}
 use Rattle.nal_parse.proofs.TokenLexemes.{same_lexeme, same_rest}
 use Rattle.nal_parse.proofs.Written.{after_space, keyword_cut, sign_cut}
 
@@ -249,9 +249,9 @@ module _ (t : TermTree) (n : ℕ) (source : List ℕ) where
     from = λ bytes other m le b first f rest r k. (rest_from (one_token b) refl r k).1;
   }
 
-  pub rest_too_deep : {T : Type 0} (tree_of : T → FormulaTree) → first_lexeme source ≡ lexeme.keyword word.Says → (stop : Stop) → stop ≡ Refused TooDeep (length (after_blanks source)) → IsReading tree_of ends_unary (ReadsRest t) 0 source (Err stop)
-  rest_too_deep tree_of e stop is =
-      stopped_deep tree_of ends_unary (ReadsRest t) 0 source [] source none tt (λ tail. let g = rest_goes_on t 0 tail in (g.0, 32 ∷ g.0, tree.test Equal t (tree.number 0), none, g.1)) (lexeme.keyword word.Says) e refl stop is
+  pub rest_too_deep : first_lexeme source ≡ lexeme.keyword word.Says → (stop : Stop) → stop ≡ Refused TooDeep (length (after_blanks source)) → IsStopped ends_unary (ReadsRest t) 0 source stop
+  rest_too_deep e stop is =
+      stopped_deep ends_unary (ReadsRest t) 0 source [] source none tt (λ tail. let g = rest_goes_on t 0 tail in (g.0, 32 ∷ g.0, tree.test Equal t (tree.number 0), none, g.1)) (lexeme.keyword word.Says) e refl stop is
       (λ bytes other b f.
       let first : first_lexeme bytes ≡ lexeme.keyword word.Says = subst (λ x. first_lexeme x ≡ lexeme.keyword word.Says) (sym (nothing_between b)) f in
       record { none = λ g rest r k. let p = predicate_inverted (predicate_of (lexeme.keyword word.Says) first refl r k) in no_says (next_cut bytes) g rest first p })
@@ -321,10 +321,10 @@ module _ (t : TermTree) (n : ℕ) (source : List ℕ) where
       same_atom q = cc
 
   -- with no predicate in front, nothing is read after another term
-  pub rest_stuck : {T : Type 0} (tree_of : T → FormulaTree) (l : Lexeme) → first_lexeme source ≡ l → begins_predicate l ≡ false → ((p : List ℕ) → t ≢ tree.name p) → (stop : Stop) → IsStopAt l source stop
-      → IsReading tree_of ends_unary (ReadsRest t) n source (Err stop)
-  rest_stuck tree_of l e no_predicate not_name stop is =
-      stopped tree_of ends_unary (ReadsRest t) n source [] source none tt (λ tail. let g = rest_goes_on t n tail in (g.0, 32 ∷ g.0, tree.test Equal t (tree.number 0), none, g.1)) l e stop is
+  pub rest_stuck : (l : Lexeme) → first_lexeme source ≡ l → begins_predicate l ≡ false → ((p : List ℕ) → t ≢ tree.name p) → (stop : Stop) → IsStopAt l source stop
+      → IsStopped ends_unary (ReadsRest t) n source stop
+  rest_stuck l e no_predicate not_name stop is =
+      stopped ends_unary (ReadsRest t) n source [] source none tt (λ tail. let g = rest_goes_on t n tail in (g.0, 32 ∷ g.0, tree.test Equal t (tree.number 0), none, g.1)) l e stop is
       (λ bytes other m le b f.
       let first : first_lexeme bytes ≡ l = ap first_lexeme (nothing_between b) ∙ f in
       record {
@@ -360,6 +360,21 @@ continued_step u n source t mid parts = record {
       let o = (parts.only bytes other 0 (omega arith) b first).only r.0 r.1 r.2 (rest_first r.3 k) in
       subst (λ x. ReadsRest t m x f rest) o.1 (subst (λ x. ReadsRest x m r.1 f rest) o.0 r.3);
 }
+
+-- what does not go on begins no predicate
+begins_none : (l : Lexeme) → goes_on l ≡ false → begins_predicate l ≡ false
+begins_none (lexeme.keyword word.Says) f = cc
+begins_none (lexeme.keyword word.SpeaksFor) f = cc
+begins_none lexeme.equal f = cc
+begins_none lexeme.less f = cc
+begins_none lexeme.at_most f = cc
+begins_none _ f = refl
+
+-- with nothing behind it that goes on, a name is an atom
+pub name_alone : (x : List ℕ) (n : ℕ) (source : List ℕ) (l : Lexeme) → first_lexeme source ≡ l → goes_on l ≡ false → ReadsHere ends_unary (ReadsContinued (tree.name x)) n source (tree.atom x []) source
+name_alone x n source l e f =
+    step_reads (continued_step (tree.name x) n source (tree.name x) source (parts_end (tree.name x) source l e (λ d. let h = rw d at f in cc)))
+    (rest_ends (tree.name x) n source l e (begins_none l f) x refl)
 
 -- a statement is its first token and what follows it
 pub statement_continued : {m : ℕ} {bytes other : List ℕ} (l : Lexeme) {u : TermTree} {f : FormulaTree} {rest : List ℕ} → next_cut bytes ≡ (l, other) → first_term l ≡ Some u → ReadsStatement m bytes f rest → ReadsContinued u m other f rest

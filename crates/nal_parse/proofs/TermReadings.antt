@@ -1,6 +1,7 @@
 -- What the tokens at the front of a text say of the terms that it spells.
-use Rattle.std.proofs.Common.{arith, subst, ◌∙◌, ◌≡◌, ◌≢◌, ℕ, List, [], ◌∷◌, ◌++◌, length, IsTrue, Some, None, Err, refl, sym}
+use Rattle.std.proofs.Common.{arith, subst, ◌∙◌, ◌≡◌, ◌≢◌, ◌^◌, ℕ, List, [], ◌∷◌, ◌++◌, length, IsTrue, Some, None, refl, sym}
 use Rattle.std.specs.Fmt.{decimal}
+use Rattle.std.proofs.lemmas.Bool.{ltb-true}
 use Rattle.std.proofs.lemmas.List.{map-append, length-map}
 use Rattle.nal_parse.specs.declared.stops.Stop.{Stop}
 use Rattle.nal_term.specs.Names.{IsName}
@@ -11,7 +12,7 @@ use Rattle.nal_parse.specs.Tokens.{Lexeme, next_cut, lexeme_of}
 use Rattle.nal_parse.specs.Tokens as lexeme
 use Rattle.nal_parse.specs.Grammar.{ReadsTerm, number, name, text, variable, ReadsParts, done, part}
 use Rattle.nal_parse.specs.Errors.{BeginsWith, none, next}
-use Rattle.nal_parse.specs.Reading.{ReadsOnly, ReadsNothing, ReadsHere, IsReading, IsStopAt, IsWritable, IsWellFormed, Parts, Terms, first_lexeme, first_term, ends_term}
+use Rattle.nal_parse.specs.Inner.Reading.{ReadsOnly, ReadsNothing, ReadsHere, IsStopped, IsStopAt, IsWritable, IsWellFormed, Parts, Terms, first_lexeme, first_term, ends_term}
 use Rattle.nal_parse.proofs.Written.{name_cut, number_cut, quoted_cut, variable_cut, sign_cut, after_space}
 use Rattle.nal_parse.proofs.PrintedTerms.{term_read}
 use Rattle.nal_parse.proofs.Readings.{Step, level, same_level, one_token, two_tokens, stopped}
@@ -78,7 +79,7 @@ pub variable_writable : (x : List ℕ) → IsName x → IsWritable (lexeme.varia
 variable_writable x ok tail = (63 ∷ x ++ 32 ∷ tail, after_space (63 ∷ x ++ 32 ∷ tail) ∙ variable_cut x (32 ∷ tail) ok refl)
 
 pub first_writable : (l : Lexeme) {u : TermTree} → first_term l ≡ Some u → IsWellFormed l → IsWritable l
-first_writable (lexeme.number n) f ok tail = (decimal n ++ 32 ∷ tail, after_space (decimal n ++ 32 ∷ tail) ∙ number_cut n (32 ∷ tail) ok refl)
+first_writable (lexeme.number n) f ok tail = (decimal n ++ 32 ∷ tail, after_space (decimal n ++ 32 ∷ tail) ∙ number_cut n (32 ∷ tail) (ltb-true n (2 ^ 64) ok) refl)
 first_writable (lexeme.name x) f ok tail = name_writable x ok tail
 first_writable (lexeme.quoted x) f ok tail = (34 ∷ x ++ 34 ∷ 32 ∷ tail, after_space (34 ∷ x ++ 34 ∷ 32 ∷ tail) ∙ quoted_cut x (32 ∷ tail) ok)
 first_writable (lexeme.variable x) f ok tail = variable_writable x ok tail
@@ -95,8 +96,8 @@ nothing_between none = refl
 -- Parts
 
 -- with no dot in front the parts are none
-pub parts_end : (t : TermTree) (source : List ℕ) (l : Lexeme) {after : List ℕ} → (l, after) ≡ next_cut source → l ≢ lexeme.dot → ReadsHere ends_term (Parts t) 0 source t source
-parts_end t source l cut not_dot = record {
+pub parts_end : (t : TermTree) (source : List ℕ) (l : Lexeme) → first_lexeme source ≡ l → l ≢ lexeme.dot → ReadsHere ends_term (Parts t) 0 source t source
+parts_end t source l first not_dot = record {
   tokens = [];
   begins = none;
   writable = tt;
@@ -106,7 +107,7 @@ parts_end t source l cut not_dot = record {
 }
   where
     ends_there : (bytes : List ℕ) → first_lexeme bytes ≡ first_lexeme source → ReadsOnly ends_term (ReadsParts t bytes) t bytes
-    ends_there bytes e = record { reads = done; only = λ u rest r k. ReadsParts-only_none (λ d. not_dot (let h = sym e ∙ d in rw (first_lexeme, ← cut) at h)) r }
+    ends_there bytes e = record { reads = done; only = λ u rest r k. ReadsParts-only_none (λ d. not_dot (sym first ∙ sym e ∙ d)) r }
 
 -- after a dot and a name the parts go on
 pub parts_dot : (t : TermTree) (x : List ℕ) {source a b : List ℕ} → IsName x → next_cut source ≡ (lexeme.dot, a) → next_cut a ≡ (lexeme.name x, b) → Step ends_term (Parts (tree.subprincipal t x)) (Parts t) level 0 source b
@@ -120,10 +121,10 @@ parts_dot t x ok e f = record {
 }
 
 -- after a dot without a name nothing is read
-pub parts_no_name : {T : Type 0} (tree_of : T → TermTree) (t : TermTree) (source a : List ℕ) → next_cut source ≡ (lexeme.dot, a) → (l : Lexeme) → first_lexeme a ≡ l → ((x : List ℕ) → l ≢ lexeme.name x) → (stop : Stop) → IsStopAt l a stop
-    → IsReading tree_of ends_term (Parts t) 0 source (Err stop)
-parts_no_name tree_of t source a e l first not_name stop is =
-    stopped tree_of ends_term (Parts t) 0 source (lexeme.dot ∷ []) a (next e none) (dot_writable, tt)
+pub parts_no_name : (t : TermTree) (source a : List ℕ) → next_cut source ≡ (lexeme.dot, a) → (l : Lexeme) → first_lexeme a ≡ l → ((x : List ℕ) → l ≢ lexeme.name x) → (stop : Stop) → IsStopAt l a stop
+    → IsStopped ends_term (Parts t) 0 source stop
+parts_no_name t source a e l first not_name stop is =
+    stopped ends_term (Parts t) 0 source (lexeme.dot ∷ []) a (next e none) (dot_writable, tt)
     (λ tail.
     let x = name_writable (97 ∷ []) refl tail in
     let d = dot_writable x.0 in
@@ -132,6 +133,10 @@ parts_no_name tree_of t source a e l first not_name stop is =
     (λ bytes other m le b f. record { none = λ u rest r k. ReadsParts-not_named (one_token b) (λ x g. not_name x (sym f ∙ g)) r k })
 
 -- Terms
+
+-- a token that is a term is not the end
+pub term_not_end : (l : Lexeme) {u : TermTree} → first_term l ≡ Some u → l ≢ lexeme.end
+term_not_end l f e = let g = rw e at f in cc
 
 -- a term is read as the parts of its first token
 pub term_first : (l : Lexeme) {u : TermTree} {source a : List ℕ} → next_cut source ≡ (l, a) → first_term l ≡ Some u → IsWellFormed l → Step ends_term (Parts u) Terms level 0 source a
@@ -148,9 +153,9 @@ term_first l e f ok = record {
 pub term_not_first : {bytes : List ℕ} (l : Lexeme) → first_lexeme bytes ≡ l → first_term l ≡ None → ReadsNothing ends_term (ReadsTerm bytes)
 term_not_first {bytes} l e f = record { none = λ t rest r k. let i = ReadsTerm-inverted r in let g = rw e at i.1 in cc }
 
-pub term_nothing : {T : Type 0} (tree_of : T → TermTree) (source : List ℕ) (l : Lexeme) → first_lexeme source ≡ l → first_term l ≡ None → (stop : Stop) → IsStopAt l source stop → IsReading tree_of ends_term Terms 0 source (Err stop)
-term_nothing tree_of source l first f stop is =
-    stopped tree_of ends_term Terms 0 source [] source none tt (λ tail. let g = term_goes_on tail in (g.0, 32 ∷ g.0, tree.number 0, none, g.1)) l first stop is
+pub term_nothing : (source : List ℕ) (l : Lexeme) → first_lexeme source ≡ l → first_term l ≡ None → (stop : Stop) → IsStopAt l source stop → IsStopped ends_term Terms 0 source stop
+term_nothing source l first f stop is =
+    stopped ends_term Terms 0 source [] source none tt (λ tail. let g = term_goes_on tail in (g.0, 32 ∷ g.0, tree.number 0, none, g.1)) l first stop is
     (λ bytes other m le b e. term_not_first l (subst (λ x. first_lexeme x ≡ l) (sym (nothing_between b)) e) f)
 
 -- the trees of a list that has one term more

@@ -10,7 +10,7 @@ use Rattle.std.proofs.lemmas.Fmt.{decimal_nonempty, first_decimal, decimal_digit
 use Rattle.std.proofs.lemmas.Str.Parse.{IsDigitsTest, IsNumeralModel, numerals_by_fold}
 use Rattle.nal_term.specs.Names.{is_letter, is_digit, is_word_byte, is_word, is_reserved, is_text_byte, IsName, IsText}
 use Rattle.nal_parse.specs.declared.tokens.Keyword.{Keyword}
-use Rattle.nal_parse.specs.Tokens.{Lexeme, Cut, next_cut, cut, is_blank, after_blanks, run_length, keyword_of, word_lexeme, number_lexeme, variable_lexeme, is_number, decimal_after, quoted_length, cut_quoted}
+use Rattle.nal_parse.specs.Tokens.{Lexeme, Cut, next_cut, cut, is_blank, after_blanks, run_length, keyword_of, word_lexeme, number_lexeme, variable_lexeme, is_number, value_after, quoted_length, cut_quoted}
 use Rattle.nal_parse.specs.Tokens as lexeme
 
 -- no letter, digit or `_` stands in front
@@ -162,8 +162,8 @@ digits_test = record {
   more = λ c cs k h. rw (range_digit c k) h;
 }
 
-pub own_numerals : IsNumeralModel (λ ds. IsTrue (list_all is_digit ds)) (decimal_after 0)
-own_numerals = numerals_by_fold _ digits_test decimal_after (record { empty = λ n. refl; more = λ n c cs k. refl })
+pub own_numerals : IsNumeralModel (λ ds. IsTrue (list_all is_digit ds)) (value_after 0)
+own_numerals = numerals_by_fold _ digits_test value_after (record { empty = λ n. refl; more = λ n c cs k. refl })
 
 -- what stands at a digit is a number
 cut_digit : (b : ℕ) (bs : List ℕ) → is_digit b ≡ true
@@ -171,13 +171,13 @@ cut_digit : (b : ℕ) (bs : List ℕ) → is_digit b ≡ true
 cut_digit b bs h = rw (digit-letter b h, h) refl
 
 -- digits that are no leading zero, and whose number fits, spell it
-digits_lexeme : (d : ℕ) (ds : List ℕ) (n : ℕ) → IsTrue (list_all is_digit (d ∷ ds)) → ((not (d == 48) || length ds == 0) ≡ true) → decimal_after 0 (d ∷ ds) ≡ n → n < 2 ^ 64
+digits_lexeme : (d : ℕ) (ds : List ℕ) (n : ℕ) → IsTrue (list_all is_digit (d ∷ ds)) → ((not (d == 48) || length ds == 0) ≡ true) → value_after 0 (d ∷ ds) ≡ n → n < 2 ^ 64
     → number_lexeme (d ∷ ds) ≡ lexeme.number n
 digits_lexeme d ds n all first value small =
     let fits : nat_lt n (2 ^ 64) ≡ true = lt-ltb _ _ small in
     rw (all, first, value, fits) refl
 
-digits_cut : (ds tail : List ℕ) (n : ℕ) → 0 < length ds → IsTrue (list_all is_digit ds) → (0 < n → 48 < get_or ds 0 0) → (n ≡ 0 → length ds ≡ 1) → decimal_after 0 ds ≡ n → n < 2 ^ 64 → Breaks tail
+digits_cut : (ds tail : List ℕ) (n : ℕ) → 0 < length ds → IsTrue (list_all is_digit ds) → (0 < n → 48 < get_or ds 0 0) → (n ≡ 0 → length ds ≡ 1) → value_after 0 ds ≡ n → n < 2 ^ 64 → Breaks tail
     → next_cut (ds ++ tail) ≡ (lexeme.number n, tail)
 digits_cut [] tail n some all first single value small stop = absurd (omega arith)
 digits_cut (d ∷ ds) tail n some all first single value small stop =
@@ -187,10 +187,10 @@ digits_cut (d ∷ ds) tail n some all first single value small stop =
     ∙ ap (λ (k : Lexeme). (k, tail)) (digits_lexeme d ds n all (no_leading_zero d ds n first single) value small)
 
 -- what is written of a number is its digits, which write it
-pub number_digits : (n : ℕ) → n < 2 ^ 64 → IsTrue (list_all is_digit (decimal n)) × (decimal_after 0 (decimal n) ≡ n)
+pub number_digits : (n : ℕ) → n < 2 ^ 64 → IsTrue (list_all is_digit (decimal n)) × (value_after 0 (decimal n) ≡ n)
 number_digits n h = (digits_decimal own_numerals n h, digits_value-decimal own_numerals n h)
 
-digits_number : (ds : List ℕ) (n : ℕ) → 0 < length ds → IsTrue (list_all is_digit ds) → (0 < n → 48 < get_or ds 0 0) → (n ≡ 0 → length ds ≡ 1) → decimal_after 0 ds ≡ n → n < 2 ^ 64 → IsTrue (is_number ds)
+digits_number : (ds : List ℕ) (n : ℕ) → 0 < length ds → IsTrue (list_all is_digit ds) → (0 < n → 48 < get_or ds 0 0) → (n ≡ 0 → length ds ≡ 1) → value_after 0 ds ≡ n → n < 2 ^ 64 → IsTrue (is_number ds)
 digits_number [] n some all first single value small = absurd (omega arith)
 digits_number (d ∷ ds) n some all first single value small =
     let fits : nat_lt n (2 ^ 64) ≡ true = lt-ltb _ _ small in

@@ -2,5 +2,5 @@ pub mod Tokens
 pub mod Canonical
 pub mod Grammar
 pub mod Errors
-pub mod Reading
 pub mod Laws
+pub mod Inner

@@ -89,23 +89,23 @@ word_lexeme w = of_keyword (keyword_of w) w
     of_keyword (Some k) w = keyword k
 
 -- the number that decimal digits write after those of n
-abbrev pub decimal_after : ℕ → List ℕ → ℕ
-decimal_after n [] = n
-decimal_after n (d ∷ ds) = decimal_after (n * 10 + (d - 48)) ds
+abbrev pub value_after : ℕ → List ℕ → ℕ
+value_after n [] = n
+value_after n (d ∷ ds) = value_after (n * 10 + (d - 48)) ds
 
 -- the number that decimal digits write
-abbrev pub decimal : List ℕ → ℕ
-decimal ds = decimal_after 0 ds
+abbrev pub value_of_digits : List ℕ → ℕ
+value_of_digits ds = value_after 0 ds
 
 -- digits without a leading zero whose number fits 64 bits
 abbrev pub is_number : List ℕ → Bool
 is_number [] = Bool.false
 is_number (d ∷ ds) =
-    list_all is_digit (d ∷ ds) && (not (d == 48) || length ds == 0) && nat_lt (decimal (d ∷ ds)) (2 ^ 64)
+    list_all is_digit (d ∷ ds) && (not (d == 48) || length ds == 0) && nat_lt (value_of_digits (d ∷ ds)) (2 ^ 64)
 
 -- what a run of letters, digits and `_` that begins with a digit spells
 abbrev pub number_lexeme : List ℕ → Lexeme
-number_lexeme w = if is_number w then number (decimal w) else bad_number
+number_lexeme w = if is_number w then number (value_of_digits w) else bad_number
 
 -- what the bytes after a `?` spell: a variable where a name follows directly
 abbrev pub variable_lexeme : List ℕ → Lexeme

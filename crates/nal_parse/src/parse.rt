@@ -4,8 +4,8 @@ ghost use Rattle.nal_parse.specs.Grammar.{IsFormulaText, IsTermText};
 ghost use Rattle.nal_parse.specs.Errors.{IsFormulaError, IsTermError};
 
 use crate::formulas::read_formula;
-use crate::lengths::{level_count, term_length, text_length};
-use crate::stops::Stop;
+use crate::lengths::term_length;
+use crate::reader::Reader;
 use crate::terms::read_term;
 use crate::tokens::Token;
 use nal_term::{Formula, Term};
@@ -49,20 +49,20 @@ pub fn parse_formula(alloc: Global, text: &[u8]) -> Result<Formula, ParseError>
     if text.len() as u64 > MOST_BYTES {
         return Err(ParseError::TooLong);
     }
-    let (formula, rest) = match read_formula(alloc, MOST_LEVELS, text) {
-        Ok(read) => read,
+    let mut reader = Reader::of(text);
+    let part = match read_formula(alloc, MOST_LEVELS, &mut reader) {
+        Ok(part) => part,
         Err(stop) => return Err(stop.error_in(text)),
     };
-    let (token, _) = Token::next(rest);
-    match token {
-        Token::End if text_length(&formula) > MOST_BYTES => Err(ParseError::TooLong),
-        Token::End if level_count(&formula) > u64::from(MOST_LEVELS) => {
+    match reader.token {
+        Token::End if part.bytes > MOST_BYTES => Err(ParseError::TooLong),
+        Token::End if part.levels > u64::from(MOST_LEVELS) => {
             Err(ParseError::TooDeep {
                 place: text.len() as u64,
             })
         }
-        Token::End => Ok(formula),
-        _ => Err(Stop::at(rest, &token).error_in(text)),
+        Token::End => Ok(Box::into_inner(part.formula)),
+        _ => Err(reader.stop().error_in(text)),
     }
 }
 
@@ -78,14 +78,14 @@ pub fn parse_term(alloc: Global, text: &[u8]) -> Result<Term, ParseError>
     if text.len() as u64 > MOST_BYTES {
         return Err(ParseError::TooLong);
     }
-    let (term, rest) = match read_term(alloc, text) {
-        Ok(read) => read,
+    let mut reader = Reader::of(text);
+    let term = match read_term(alloc, &mut reader) {
+        Ok(term) => term,
         Err(stop) => return Err(stop.error_in(text)),
     };
-    let (token, _) = Token::next(rest);
-    match token {
+    match reader.token {
         Token::End if term_length(&term) > MOST_BYTES => Err(ParseError::TooLong),
         Token::End => Ok(term),
-        _ => Err(Stop::at(rest, &token).error_in(text)),
+        _ => Err(reader.stop().error_in(text)),
     }
 }

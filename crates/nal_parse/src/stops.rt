@@ -1,6 +1,6 @@
 ghost use Rattle.std.specs.Prelude.{◌≡◌, length};
 ghost use Rattle.nal_parse.specs.Tokens.{after_blanks, lexeme_of};
-ghost use Rattle.nal_parse.specs.Reading.{IsStopAt, error_of};
+ghost use Rattle.nal_parse.specs.Inner.Reading.{IsStopAt, error_of};
 
 use crate::parse::ParseError;
 use crate::tokens::{Token, blank_length};

@@ -1,9 +1,12 @@
 ghost use Rattle.std.specs.Prelude.{◌≡◌, ◌↔◌, ◌≢◌, ◌<◌, ◌^◌, ◌≤◌, ◌+◌, ◌*◌, ◌-◌, length, take, drop, IfSome, SomeIff, OnSome, IsTrue, option_map};
 ghost use Rattle.std.specs.List.{prefix_len, list_all};
-ghost use Rattle.nal_term.specs.Names.{is_word_byte, is_digit};
-ghost use Rattle.nal_parse.specs.Tokens.{keyword_of, is_blank, run_length, quoted_length, is_number, decimal};
+ghost use Rattle.nal_term.specs.Names.{is_word, is_word_byte, is_digit};
+ghost use Rattle.nal_parse.specs.Tokens.{keyword_of, is_blank, run_length, quoted_length, is_number, value_of_digits};
 
 use nal_term::{is_letter, is_name, is_text, is_word_byte};
+
+/// How many bytes a name may have.
+const MOST_NAME: usize = 64;
 
 /// The reserved words.
 #[derive(Clone, Copy, Debug, PartialEq, Eq)]
@@ -54,9 +57,10 @@ pub enum Token<'a> {
 impl<'a> Token<'a> {
     ghost use Rattle.nal_parse.specs.Tokens.{lexeme_of, keyword_of, word_lexeme, number_lexeme, variable_lexeme, cut_quoted, cut_sign, cut, next_cut, is_number};
     ghost use Rattle.nal_parse.specs.Tokens as lexeme;
-    ghost use Rattle.nal_parse.specs.Reading.{IsWellFormed};
+    ghost use Rattle.nal_parse.specs.Inner.Reading.{IsWellFormed, goes_on};
 
     /// The next token of a text, and what follows it.
+    #[inline(always)]
     pub fn next(text: &'a [u8]) -> (Token<'a>, &'a [u8])
         ensures cut { (lexeme_of result.0, result.1.now) ≡ next_cut text.now }
         ensures form { IsWellFormed (lexeme_of result.0) }
@@ -77,6 +81,22 @@ impl<'a> Token<'a> {
         }
     }
 
+    /// Whether a term goes on with the token: as a longer one, or in a statement of it.
+    pub fn goes_on(&self) -> bool
+        ensures { result ≡ goes_on (lexeme_of self.now) }
+    {
+        matches!(
+            self,
+            Token::Dot
+                | Token::Equal
+                | Token::Less
+                | Token::AtMost
+                | Token::Keyword(Keyword::Says)
+                | Token::Keyword(Keyword::SpeaksFor)
+        )
+    }
+
+    #[inline(always)]
     fn first(text: &'a [u8]) -> (Token<'a>, &'a [u8])
         ensures cut { (lexeme_of result.0, result.1.now) ≡ cut text.now }
         ensures form { IsWellFormed (lexeme_of result.0) }
@@ -104,14 +124,17 @@ impl<'a> Token<'a> {
         }
     }
 
+    // The bytes are known to be a word, so that a name is told by its length.
+    #[tactic(auto, using(crate::proofs::Words::unreserved_name))]
     fn of_word(word: &'a [u8]) -> Token<'a>
+        requires { IsTrue (is_word word.now) }
         ensures lexeme { lexeme_of result ≡ word_lexeme word.now }
         ensures form { IsWellFormed (lexeme_of result) }
     {
         match reserved_word(word) {
             Some(keyword) => Token::Keyword(keyword),
             None => {
-                if is_name(word) {
+                if word.len() <= MOST_NAME {
                     Token::Name(word)
                 } else {
                     Token::BadName
@@ -123,7 +146,7 @@ impl<'a> Token<'a> {
     fn of_number(run: &'a [u8]) -> Token<'a>
         ensures { lexeme_of result ≡ number_lexeme run.now }
     {
-        match number(run) {
+        match number_of_digits(run) {
             Some(number) => Token::Number(number),
             None => Token::BadNumber,
         }
@@ -206,6 +229,7 @@ fn reserved_word(word: &[u8]) -> Option<Keyword>
     None
 }
 
+/// How many blanks the text begins with.
 pub fn blank_length(text: &[u8]) -> usize
     ensures length { result ≡ prefix_len is_blank text.now }
     ensures bound { result ≤ length text.now }
@@ -215,7 +239,8 @@ pub fn blank_length(text: &[u8]) -> usize
         .count()
 }
 
-fn run_length(text: &[u8]) -> usize
+/// How many letters, digits and `_` the text begins with.
+pub fn run_length(text: &[u8]) -> usize
     ensures length { result ≡ run_length text.now }
     ensures bound { result ≤ length text.now }
 {
@@ -229,9 +254,10 @@ fn quoted_length(text: &[u8]) -> usize
     text.iter().take_while(|byte| **byte != b'"').count()
 }
 
-/// The number that these digits spell, where they have no leading zero and it fits 64 bits.
-pub fn number(run: &[u8]) -> Option<u64>
-    ensures { SomeIff result (IsTrue (is_number run.now)) (decimal run.now) }
+/// The number that these bytes write in decimal digits, where they have no leading zero and it fits 64 bits; None exactly where they
+/// write none. `docs/FORMATS.md`, "Tokens", states the rule.
+pub fn number_of_digits(run: &[u8]) -> Option<u64>
+    ensures { SomeIff result (IsTrue (is_number run.now)) (value_of_digits run.now) }
 {
     let first = *run.first()?;
     if !are_digits(run) || (first == b'0' && run.len() != 1) {
@@ -246,10 +272,10 @@ fn are_digits(run: &[u8]) -> bool
     run.iter().all(|byte| byte.is_ascii_digit())
 }
 
-#[tactic(auto, using(crate::proofs::Decimal::decimal_after_ge))]
+#[tactic(auto, using(crate::proofs::Digits::value_after_ge))]
 fn value_of_digits(digits: &[u8]) -> Option<u64>
     requires { IsTrue (list_all is_digit digits.now) }
-    ensures { SomeIff result (decimal digits.now < 2 ^ 64) (decimal digits.now) }
+    ensures { SomeIff result (value_of_digits digits.now < 2 ^ 64) (value_of_digits digits.now) }
 {
     let mut rest = digits;
     let mut value = 0u64;

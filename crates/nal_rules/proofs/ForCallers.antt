@@ -4,7 +4,10 @@ use Rattle.std.proofs.Common.{◌≡◌, ◌<◌, ◌⊎◌, inl, inr, ℕ, zero
 use Rattle.std.specs.List.{Contains}
 use Rattle.nal_term.specs.Trees.{FormulaTree}
 use Rattle.nal_rules.proofs.OneVerdict as verdicts
-use Rattle.nal_rules.proofs.Same.{same_formula}
+-- whether two trees are the same, a formula that was taken out of a set, and derivations from more
+pub use Rattle.nal_rules.proofs.Same.{same_formula, same_term}
+pub use Rattle.nal_rules.proofs.Discharge.{takes_out}
+pub use Rattle.nal_rules.proofs.Weakened.{weakened}
 use Rattle.nal_rules.specs.Laws.{OneVerdict}
 use Rattle.nal_rules.specs.Verdicts.{IsLowest}
 

@@ -4,15 +4,14 @@ use Rattle.std.specs.List.{All, Contains, slice_get}
 use Rattle.std.proofs.lemmas.List.Elements.{All-head, All-tail}
 use Rattle.nal_term.specs.Trees.{TermTree, FormulaTree, atom, test, speaks_for_on, says, verum, falsum, and, or, implies, forall, exists, speaks_for}
 use Rattle.nal_rules.specs.Scope.{IsInScope, IsNameOf}
-use Rattle.nal_rules.specs.Derivation as now
-use Rattle.nal_rules.specs.Derivation.{Derivation}
+use Rattle.nal_rules.specs.Derivation.{DerivationBy, Derivation, label, ask, hyp, true_i, and_i, and_l, and_r, or_l, or_r, or_e, imp_i, imp_e, false_e, forall_i, forall_e, exists_i, exists_e, eq_refl, eq_sym, eq_trans, arith, lt_trans, lt_le_trans, says_i, deduce, says_join, sf_refl, sf_trans, sf_sub, sf_e, sf_on_e, sf_weak, handoff, handoff_on}
 use Rattle.proof_lines.specs.declared.rules.Rule.{Rule}
 use Rattle.proof_lines.specs.declared.rules.Rule.TheVariants.{Label, Ask, Hyp, TrueI, AndI, AndL, AndR, OrL, OrR, OrE, ImpI, ImpE, FalseE, ForallI, ForallE, ExistsI, ExistsE, EqRefl, EqSym, EqTrans, Arith, LtTrans, SaysI, Deduce, SaysJoin, SfRefl, SfTrans, SfSub, SfE, SfOnE, SfWeak, Handoff, HandoffOn}
 use Rattle.proof_lines.specs.Lines.{LineTree}
 use Rattle.nal_rules.specs.Faults.{Applies, IsOutOfScope, formula_at, formulas_at}
 use Rattle.nal_rules.specs.declared.verdicts.Fault.{Fault}
 use Rattle.nal_rules.specs.declared.verdicts.Fault.TheVariants.{NoSuchRef, NotHyp, WrongShape, Capture, NotFresh, OutOfScope, NotTrue, TooManyAsks, NotAsk, NotClosed, StillOpen, NotGoal}
-use Rattle.nal_rules.specs.OneName.{HasOneNameScopes, IsOutOfScopeOfName, OneNameApplies, IsInScopeOfName, OneNameDerivation, label, ask, hyp, true_i, and_i, and_l, and_r, or_l, or_r, or_e, imp_i, imp_e, false_e, forall_i, forall_e, exists_i, exists_e, eq_refl, eq_sym, eq_trans, arith, lt_trans, lt_le_trans, says_i, deduce, says_join, sf_refl, sf_trans, sf_sub, sf_e, sf_on_e, sf_weak, handoff, handoff_on}
+use Rattle.nal_rules.specs.OneName.{HasOneNameScopes, IsOutOfScopeOfName, OneNameApplies, IsInScopeOfName, CoversByName}
 
 -- the one name of a scope is in it
 only : (n : List ℕ) → Contains (n ∷ []) n
@@ -34,41 +33,45 @@ in_scope n (says p a) e = elim e [ ]
 in_scope n (speaks_for p q) e = elim e [ ]
 in_scope n (speaks_for_on p q s) e = elim e [ ]
 
-pub derived : {labels answers xs : List FormulaTree} {f : FormulaTree} → OneNameDerivation labels answers xs f → Derivation labels answers xs f
-derived (label h c) = now.label h c
-derived (ask h c) = now.ask h c
-derived hyp = now.hyp
-derived true_i = now.true_i
-derived (and_i d e) = now.and_i (derived d) (derived e)
-derived (and_l d) = now.and_l (derived d)
-derived (and_r d) = now.and_r (derived d)
-derived (or_l d) = now.or_l (derived d)
-derived (or_r d) = now.or_r (derived d)
-derived (or_e d e s h t) = now.or_e (derived d) (derived e) s (derived h) t
-derived (imp_i d t) = now.imp_i (derived d) t
-derived (imp_e d e) = now.imp_e (derived d) (derived e)
-derived (false_e d) = now.false_e (derived d)
-derived (forall_i d n) = now.forall_i (derived d) n
-derived (forall_e t d s) = now.forall_e t (derived d) s
-derived (exists_i t d s) = now.exists_i t (derived d) s
-derived (exists_e d e t n m) = now.exists_e (derived d) (derived e) t n m
-derived eq_refl = now.eq_refl
-derived (eq_sym d) = now.eq_sym (derived d)
-derived (eq_trans d e) = now.eq_trans (derived d) (derived e)
-derived (arith h) = now.arith h
-derived (lt_trans d e) = now.lt_trans (derived d) (derived e)
-derived (lt_le_trans d e) = now.lt_le_trans (derived d) (derived e)
-derived (says_i d) = now.says_i (derived d)
-derived (deduce d e) = now.deduce (derived d) (derived e)
-derived (says_join d) = now.says_join (derived d)
-derived sf_refl = now.sf_refl
-derived (sf_trans d e) = now.sf_trans (derived d) (derived e)
-derived sf_sub = now.sf_sub
-derived (sf_e d e) = now.sf_e (derived d) (derived e)
-derived (sf_on_e d e s) = now.sf_on_e (derived d) (derived e) (in_scope _ _ s)
-derived (sf_weak d) = now.sf_weak (derived d)
-derived (handoff d) = now.handoff (derived d)
-derived (handoff_on d) = now.handoff_on (derived d)
+-- what a scope covers by the older rules is in it
+covered : (s : List (List ℕ)) (f : FormulaTree) → CoversByName s f → IsInScope s f
+covered s f (n, e, h) = subst (λ s. IsInScope s f) (sym e) (in_scope n f h)
+
+pub derived : {labels answers xs : List FormulaTree} {f : FormulaTree} → DerivationBy CoversByName labels answers xs f → Derivation labels answers xs f
+derived (label h c) = label h c
+derived (ask h c) = ask h c
+derived hyp = hyp
+derived true_i = true_i
+derived (and_i d e) = and_i (derived d) (derived e)
+derived (and_l d) = and_l (derived d)
+derived (and_r d) = and_r (derived d)
+derived (or_l d) = or_l (derived d)
+derived (or_r d) = or_r (derived d)
+derived (or_e d e s h t) = or_e (derived d) (derived e) s (derived h) t
+derived (imp_i d t) = imp_i (derived d) t
+derived (imp_e d e) = imp_e (derived d) (derived e)
+derived (false_e d) = false_e (derived d)
+derived (forall_i d n) = forall_i (derived d) n
+derived (forall_e t d s) = forall_e t (derived d) s
+derived (exists_i t d s) = exists_i t (derived d) s
+derived (exists_e d e t n m) = exists_e (derived d) (derived e) t n m
+derived eq_refl = eq_refl
+derived (eq_sym d) = eq_sym (derived d)
+derived (eq_trans d e) = eq_trans (derived d) (derived e)
+derived (arith h) = arith h
+derived (lt_trans d e) = lt_trans (derived d) (derived e)
+derived (lt_le_trans d e) = lt_le_trans (derived d) (derived e)
+derived (says_i d) = says_i (derived d)
+derived (deduce d e) = deduce (derived d) (derived e)
+derived (says_join d) = says_join (derived d)
+derived sf_refl = sf_refl
+derived (sf_trans d e) = sf_trans (derived d) (derived e)
+derived sf_sub = sf_sub
+derived (sf_e d e) = sf_e (derived d) (derived e)
+derived (sf_on_e d e s) = sf_on_e (derived d) (derived e) (covered _ _ s)
+derived (sf_weak d) = sf_weak (derived d)
+derived (handoff d) = handoff (derived d)
+derived (handoff_on d) = handoff_on (derived d)
 
 -- a delegation in a formula whose scopes are of one name has such a scope
 one_name : (f : FormulaTree) (p q : TermTree) (s : List (List ℕ)) → f ≡ speaks_for_on p q s → HasOneNameScopes f → (n : List ℕ) × (s ≡ n ∷ [])

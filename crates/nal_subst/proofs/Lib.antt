@@ -3,3 +3,4 @@ pub mod Counts
 pub mod Names
 pub mod Places
 pub mod Unchanged
+pub mod ForCallers

@@ -2,7 +2,7 @@
 -- variable does not occur in the term, the substitution is that of the part alone.
 use Rattle.std.proofs.Common.{◌≡◌, ◌≢◌, ◌↔◌, ℕ, List, [], ◌∷◌, Bool, true, false, not, ◌&&◌, ◌||◌, Option, Some, None, option_map, map, if◌then◌else◌, refl, sym, ap}
 use Rattle.std.specs.Str.{bytes_eq}
-use Rattle.nal_subst.specs.Below.{part_with}
+use Rattle.nal_subst.specs.Inner.Below.{part_with}
 use Rattle.nal_subst.specs.Substitution.{term_with, both, under, formula_with}
 use Rattle.nal_term.specs.Free.{occurs_in, occurs_in_some, is_free_in}
 use Rattle.nal_term.specs.Trees.{TermTree, number, name, text, variable, subprincipal, FormulaTree, verum, falsum, atom, test, and, or, implies, forall, exists, says, speaks_for, speaks_for_on}

@@ -1,4 +1,4 @@
-pub mod Below
 pub mod Substitution
 pub mod Places
 pub mod Laws
+pub mod Inner

@@ -1,5 +1,5 @@
 ghost use Rattle.std.specs.Prelude.{◌≡◌, ◌≢◌, ◌↔◌, ◌+◌, ◌*◌, ◌<◌, ◌≤◌, None, Some, IsTrue, map, if◌then◌else◌, ◌⊎◌};
-ghost use Rattle.nal_subst.specs.Below.{part_with};
+ghost use Rattle.nal_subst.specs.Inner.Below.{part_with};
 ghost use Rattle.nal_subst.specs.Substitution.{formula_with, term_with};
 ghost use Rattle.nal_term.specs.Size.{node_count, term_list_node_count, term_node_count};
 ghost use Rattle.nal_term.specs.Trees.{formula_tree, term_tree, term_trees};

@@ -6,8 +6,6 @@ mod captures;
 mod instances;
 mod laws;
 mod substitutions;
-#[cfg(test)]
-mod tests;
 
 pub use instances::{Match, instance, instance_counted};
 pub use laws::variables_are_kept_apart;

@@ -1,5 +1,5 @@
 ghost use Rattle.std.specs.Prelude.{◌≡◌, ◌≢◌, ◌↔◌, ℕ, List, None, Some, IfOk, map};
-ghost use Rattle.nal_subst.specs.Below.{part_with};
+ghost use Rattle.nal_subst.specs.Inner.Below.{part_with};
 ghost use Rattle.nal_subst.specs.Substitution.{formula_with, term_with};
 ghost use Rattle.nal_term.specs.Trees.{FormulaTree, formula_tree, name, term_tree, term_trees};
 ghost use Rattle.nal_term.specs.Trees as tree;

@@ -3,3 +3,4 @@ pub mod EntryRows
 pub mod NamePlaces
 pub mod Places
 pub mod KeptPlaces
+pub mod ForCallers

@@ -47,22 +47,41 @@ pub enum Formula {
 }
 
 impl Drop for Formula {
-    // Written out, so that a caller that lets a formula go makes one call.
+    // Written out, so that a caller that lets a formula go makes one call. What has two terms is let go apart, so that a level of a
+    // chain takes little stack and time.
+    #[cycle(drop)]
     fn drop(self) {
         match self {
             Formula::True | Formula::False => {}
-            Formula::Atom(_, _) => {}
-            Formula::Test(_, _, _) => {}
+            Formula::Atom(_, args) => let_args_go(args),
             Formula::And(_, _) | Formula::Or(_, _) | Formula::Implies(_, _) => {}
             Formula::Forall(_, _) | Formula::Exists(_, _) => {}
-            Formula::Says(_, _) => {}
-            Formula::SpeaksFor(_, _) => {}
-            Formula::SpeaksForOn(_, _, _) => {}
+            Formula::Says(speaker, _) => let_term_go(speaker),
+            other => other.let_terms_go(),
         }
     }
 }
 
+#[inline(never)]
+fn let_args_go(_args: Args) {}
+
+#[inline(never)]
+fn let_term_go(_term: Term) {}
+
 impl Formula {
+    // Lets a comparison or a delegation go.
+    #[inline(never)]
+    #[cycle(drop)]
+    fn let_terms_go(self) {
+        match self {
+            Formula::Test(_, _, _) | Formula::SpeaksFor(_, _) => {}
+            Formula::SpeaksForOn(_, _, _) => {}
+            Formula::True | Formula::False | Formula::Atom(_, _) => {}
+            Formula::And(_, _) | Formula::Or(_, _) | Formula::Implies(_, _) => {}
+            Formula::Forall(_, _) | Formula::Exists(_, _) | Formula::Says(_, _) => {}
+        }
+    }
+
     /// A copy of the formula. An `Err` says that there was no memory for it.
     #[cycle(copy)]
     pub fn copy(&self, alloc: Global) -> Result<Formula, AllocError>

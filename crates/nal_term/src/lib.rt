@@ -3,8 +3,6 @@
 
 mod formulas;
 mod free;
-#[cfg(test)]
-mod hash_tests;
 mod keys;
 mod lists;
 mod names;
@@ -13,8 +11,6 @@ mod secrets;
 mod sizes;
 mod steps;
 mod terms;
-#[cfg(test)]
-mod tests;
 
 pub use formulas::{Compare, Formula, equal, equal_counted};
 pub use free::{

@@ -61,18 +61,26 @@ impl Name {
         if !is_name(bytes) {
             return Err(NameError::Bad);
         }
-        match Vec::from_slice(alloc, bytes) {
-            Ok(bytes) => Ok(Name { bytes }),
+        match Name::copy_of(alloc, bytes) {
+            Ok(name) => Ok(name),
             Err(AllocError) => Err(NameError::Memory),
         }
+    }
+
+    /// The name of these bytes, which are one, copied. An `Err` says that there was no memory for it.
+    pub fn copy_of(alloc: Global, bytes: &[u8]) -> Result<Name, AllocError>
+        requires { IsName bytes.now }
+        ensures { IfOk result (λ name. name ≡ bytes.now) }
+    {
+        let bytes = Vec::from_slice(alloc, bytes)?;
+        Ok(Name { bytes })
     }
 
     /// A copy of the name. An `Err` says that there was no memory for it.
     pub fn copy(&self, alloc: Global) -> Result<Name, AllocError>
         ensures { IfOk result (λ copy. copy ≡ self.now) }
     {
-        let bytes = Vec::from_slice(alloc, self.bytes.as_slice())?;
-        Ok(Name { bytes })
+        Name::copy_of(alloc, self.as_slice())
     }
 
     /// The bytes of the name.
@@ -94,18 +102,26 @@ impl Text {
         if !is_text(bytes) {
             return Err(NameError::Bad);
         }
-        match Vec::from_slice(alloc, bytes) {
-            Ok(bytes) => Ok(Text { bytes }),
+        match Text::copy_of(alloc, bytes) {
+            Ok(text) => Ok(text),
             Err(AllocError) => Err(NameError::Memory),
         }
+    }
+
+    /// The text of these bytes, which a quoted text can hold, copied. An `Err` says that there was no memory for it.
+    pub fn copy_of(alloc: Global, bytes: &[u8]) -> Result<Text, AllocError>
+        requires { IsText bytes.now }
+        ensures { IfOk result (λ text. text ≡ bytes.now) }
+    {
+        let bytes = Vec::from_slice(alloc, bytes)?;
+        Ok(Text { bytes })
     }
 
     /// A copy of the text. An `Err` says that there was no memory for it.
     pub fn copy(&self, alloc: Global) -> Result<Text, AllocError>
         ensures { IfOk result (λ copy. copy ≡ self.now) }
     {
-        let bytes = Vec::from_slice(alloc, self.bytes.as_slice())?;
-        Ok(Text { bytes })
+        Text::copy_of(alloc, self.as_slice())
     }
 
     /// The bytes of the text, without its quotation marks.

@@ -11,10 +11,10 @@ use Rattle.policy_history.specs.Events.{EntryTree, EventTree, delete, new_object
 use Rattle.policy_history.specs.Machine.{IsAccepted, IsLegal, IsLegalFrom, accepted, after, replay, replay_from}
 use Rattle.policy_history.specs.Rows.{take_out}
 use Rattle.policy_history.specs.States.{State, empty_state}
-use Rattle.policy_history.proofs.Soundness.{accepted_after, replay_accepted}
+use Rattle.policy_history.proofs.ForCallers.{accepted_after, replay_accepted}
 use Rattle.cache_machine.specs.States.{ActorTree, MachineState}
 use Rattle.cache_machine.specs.Moves.{IsStep, MoveTree, MovesAt, StepTree, after_move, write, store, idle, goes, tells, fills, raises, writes}
-use Rattle.cache_machine.proofs.Acts.{writes_own}
+use Rattle.cache_machine.proofs.ForCallers.{writes_own}
 use Rattle.nexus_drill.specs.Inner.{IsHeld, numbers_of, held_after}
 use Rattle.nexus_drill.specs.Loads.{act_of, alice, change_of, label, label_proof, last_label, ok, opening, opening_head}
 

@@ -1,2 +1,4 @@
 pub mod Labels
 pub mod Loading
+pub mod Drilling
+mod DrawRows

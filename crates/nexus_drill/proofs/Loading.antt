@@ -10,13 +10,12 @@ use Rattle.policy_history.specs.Machine.{IsLegal, replay}
 use Rattle.policy_history.specs.Values.{History, entry_trees, state_after as state_after_history}
 use Rattle.cache_machine.specs.declared.steps.Step.{Step}
 use Rattle.cache_machine.specs.Views.{step_tree}
-use Rattle.cache_machine.proofs.Ending.{outcome_of}
+use Rattle.cache_machine.proofs.ForCallers.{outcome_of, happens, head_after, none_taken, one_more_taken}
 use Rattle.cache_machine.specs.declared.steps.Outcome.{Outcome}
 use Rattle.cache_machine.specs.States.{MachineState}
 use Rattle.cache_machine.specs.Moves.{IsStep, MoveTree, StepTree}
 use Rattle.cache_machine.specs.Machines.{IsStepped, MachineValue, first_state, state_in}
 use Rattle.cache_machine.specs.Runs.{Happened, entries_of}
-use Rattle.cache_machine.proofs.Running.{happens, head_after, none_taken, one_more_taken}
 use Rattle.nexus_drill.specs.Draws.{draw, draw_of, next, state_after}
 use Rattle.nexus_drill.specs.Inner.{AreLoaded, IsDrawnStep, IsReady, held_after}
 use Rattle.nexus_drill.specs.Loads.{AreDrawn, IsCoreLine, IsLoad, act_of, change_of, is_allowed, is_denied, line_of, opening, opening_head, start, step_of}
@@ -120,7 +119,7 @@ drawn_step old new h held step ready step_is stepped before after before_is afte
       ready = record { head = head; held_is = rw (now_is, old_long, new_long) (held_step s t (h % 4) ((h / 4) % 10) held stepped.move own ready.held_is lawful many) };
     }
 
-next_state : (number place : ℕ) → state_after number (place + 1) ≡ next (state_after number place)
+pub next_state : (number place : ℕ) → state_after number (place + 1) ≡ next (state_after number place)
 next_state number place = let more : place + 1 ≡ suc place = omega arith in ap (state_after number) more
 
 pub next_loaded : (number : ℕ) (old mid new : MachineValue) (place x y h : ℕ) (held : Option ℕ) → x ≡ state_after number place → y ≡ next x → h ≡ draw_of y → AreLoaded number old place mid → IsDrawnStep mid h new held

@@ -13,6 +13,7 @@ use Rattle.nal_term.proofs.names.Name.TheSendSync.{the_send as name_send}
 use Rattle.nal_term.proofs.scopes.Scope.TheSendSync.{the_send as scope_send}
 use Rattle.nal_term.proofs.terms.Term.TheLaws.TheKnot.{crosses as term_crosses}
 use Rattle.nal_term.proofs.formulas.Formula.TheLaws.TheKnot.{send-Formula}
+use Rattle.nal_term.proofs.secrets.Secret.TheSendSync.{the_send as secret_send}
 use Rattle.proof_lines.specs.contracts.proofs.Proof as Proof
 use Rattle.proof_lines.proofs.lines.Refs.TheSendSync.{the_send as refs_send}
 use Rattle.proof_lines.proofs.rules.Rule.TheSendSync.{the_send as rule_send}
@@ -22,7 +23,6 @@ use Rattle.label_store.specs.contracts.labels.LabelStore as LabelStore
 use Rattle.goal_store.specs.contracts.goals.GoalStore as GoalStore
 use Rattle.proof_store.specs.contracts.cases.ProofStore as ProofStore
 use Rattle.object_table.proofs.objects.ObjectTable.TheSendSync.{the_send as objects_send}
-use Rattle.nal_term.proofs.secrets.Secret.TheSendSync.{the_send as secret_send}
 use Rattle.nx_io.specs.contracts.byte_list.Bytes as Bytes
 use Rattle.policy_history.specs.contracts.heads.Principal as Principal
 use Rattle.policy_history.specs.contracts.heads.Authority as Authority
@@ -39,9 +39,9 @@ use Rattle.policy_book.specs.contracts.book.Book as Book
 use Rattle.policy_book.specs.contracts.shelf.Shelf as Shelf
 use Rattle.verdict_words.proofs.seat.BookSeat.TheSendSync.{the_send as seat_send}
 use Rattle.verdict_words.proofs.mark.Mark.TheSendSync.{the_send as mark_send}
+use Rattle.verdict_words.proofs.board.Board.TheSendSync.{the_sync as board_sync}
 use Rattle.std.specs.contracts.sync.Mutex as Mutex
 use Rattle.verdict_words.specs.contracts.board.Board as Board
-use Rattle.verdict_words.proofs.board.Board.TheSendSync.{the_sync as board_sync}
 use Rattle.policy_book.specs.contracts.matter.NalMatter as NalMatter
 use Rattle.policy_book.specs.contracts.matter.NalMatterMatter.TheImpl.{ghosts as matter}
 use denote.Param.Send.{IsSync}

@@ -34,6 +34,3 @@ pub use memory_links::MemLink;
 pub use standard::{StdSink, StdSource};
 pub use streams::{Got, Put, Reach, Shared, Sink, Source, send_all};
 pub use tcp::{TcpDoor, TcpLink};
-
-#[cfg(test)]
-mod tests;

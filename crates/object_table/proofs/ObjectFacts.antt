@@ -5,7 +5,7 @@ use Rattle.std.specs.List.{position}
 use Rattle.std.proofs.lemmas.List.{map-append, length-map}
 use Rattle.std.proofs.lemmas.List.Quantifiers.{position-Some}
 use Rattle.nal_term.specs.TreeKeys.{same_bytes-Decides}
-use Rattle.nal_term.proofs.KeptPlaces.{place_stays, place_of_new}
+use Rattle.nal_term.proofs.ForCallers.{place_stays, place_of_new}
 use Rattle.object_table.specs.Objects.{ObjectRow, names_of, number_of}
 
 module _ (rows : List ObjectRow) (name : List ℕ) where

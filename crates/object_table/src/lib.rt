@@ -2,7 +2,5 @@
 #![tactic(auto)]
 
 mod objects;
-#[cfg(test)]
-mod tests;
 
 pub use objects::{MOST_OBJECTS, ObjectTable};

@@ -9,8 +9,6 @@ mod matter;
 mod naming;
 mod shelf;
 mod snapping;
-#[cfg(test)]
-mod tests;
 mod verdicts;
 mod writing;
 

@@ -10,7 +10,7 @@ use Rattle.nal_rules.specs.Faults.{formulas_where, is_ask, is_label}
 use Rattle.goal_store.specs.GoalRows.{PortRow}
 use Rattle.label_store.specs.LabelRows.{LabelRow, is_held}
 use Rattle.policy_history.specs.Judged.{binding_for, bindings_for, labels_for}
-use Rattle.policy_history.specs.OneLine.{bindings_of_line, label_of_line}
+use Rattle.policy_history.specs.Inner.OneLine.{bindings_of_line, label_of_line}
 
 formulas_more : (passes : LineTree → Bool) (ls ms : List LineTree) → formulas_where passes (ls ++ ms) ≡ formulas_where passes ls ++ formulas_where passes ms
 formulas_more passes ls ms = ap (map (λ (l : LineTree). l.formula)) (filter-append passes ls ms) ∙ map-append (λ (l : LineTree). l.formula) (filter passes ls) (filter passes ms)

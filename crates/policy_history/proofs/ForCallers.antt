@@ -23,6 +23,10 @@ use Rattle.policy_history.proofs.LineBytes as bytes
 use Rattle.policy_history.proofs.RightLaw as right
 use Rattle.policy_history.proofs.Soundness as soundness
 use Rattle.policy_history.proofs.Staying as staying
+-- objects and case numbers stay, a row is of one triple, and what an accepted entry leaves
+pub use Rattle.policy_history.proofs.Staying.{objects_stay, case_numbers_stay}
+pub use Rattle.policy_history.proofs.Changed.{same_triple}
+pub use Rattle.policy_history.proofs.Soundness.{accepted_after, replay_accepted}
 
 -- no refusal applies to an event that is accepted
 pub none_applies : (h : Head) (s : State) (session p : ℕ) (e : EventTree) → refusal_of h s session p e ≡ None → (refusal : Refusal) → applies h s session p e refusal ≡ false

@@ -6,7 +6,7 @@ use Rattle.std.proofs.lemmas.List.{get_or_append_left, get_or_push}
 use Rattle.std.proofs.lemmas.List.Elements.{All-push, All-get_or}
 use Rattle.std.proofs.lemmas.List.Folds.{Any-from_list_any}
 use Rattle.std.proofs.lemmas.List.Quantifiers.{all_pairs_push, position-Some}
-use Rattle.nal_term.proofs.Places.{fails_at}
+use Rattle.nal_term.proofs.ForCallers.{fails_at}
 use Rattle.nal_term.specs.TreeKeys.{same_bytes, same_bytes-Decides}
 use Rattle.policy_history.specs.Events.{numbered}
 use Rattle.policy_history.specs.Heads.{ArePrincipals, AreAuthorities, IsAuthority}

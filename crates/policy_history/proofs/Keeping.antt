@@ -6,10 +6,10 @@ use Rattle.policy_history.specs.declared.events.Entry.{Entry}
 use Rattle.policy_history.specs.declared.events.Refusal.{Refusal}
 use Rattle.policy_history.specs.declared.tables.Policy.{Policy}
 use Rattle.policy_history.specs.Events.{EventTree, entry_tree, event_tree, name_of}
-use Rattle.policy_history.specs.Kept.{IsKept}
+use Rattle.policy_history.specs.Inner.Kept.{IsKept}
 use Rattle.policy_history.specs.Machine.{IsAccepted, IsLegal, accepted, refusal_of, replay, reply_number}
 use Rattle.policy_history.specs.PolicyLines.{entry_line}
-use Rattle.policy_history.specs.Sound.{IsSound}
+use Rattle.policy_history.specs.Inner.Sound.{IsSound}
 use Rattle.policy_history.specs.States.{State, empty_state}
 use Rattle.policy_history.specs.Tables.{state_of}
 use Rattle.policy_history.specs.Values.{decision, entry_trees, greatest_of}

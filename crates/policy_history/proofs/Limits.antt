@@ -4,7 +4,7 @@ use Rattle.std.proofs.lemmas.Bool.{leb-true, le-leb}
 use Rattle.std.specs.Bool.{Decides}
 use Rattle.std.specs.List.{All, list_all}
 use Rattle.std.proofs.lemmas.Bool.Decides.{Decides-and, Decides-by_and, Decides-ltb, same_from_decides}
-use Rattle.nal_term.proofs.Closed.{closed_spec, closed_term_spec, closed_but_spec}
+use Rattle.nal_term.proofs.ForCallers.{closed_spec, closed_term_spec, closed_but_spec}
 use Rattle.nal_term.specs.Closed.{covers, covers_term}
 use Rattle.nal_term.specs.Trees.{TermTree, FormulaTree}
 use Rattle.policy_history.specs.Laws.{PlainTests}

@@ -10,7 +10,7 @@ use Rattle.policy_history.specs.declared.tallies.Tally.{Tally}
 use Rattle.policy_history.specs.Events.{EntryTree, EventTree, name_of}
 use Rattle.policy_history.specs.PolicyLines.{entry_line}
 use Rattle.policy_history.specs.Machine.{IsAccepted, IsLegal, IsLegalFrom, accepted, after, changed, counted, replay, replay_from}
-use Rattle.policy_history.specs.Sound.{IsSound, IsWithin}
+use Rattle.policy_history.specs.Inner.Sound.{IsSound, IsWithin}
 use Rattle.policy_history.specs.States.{State, empty_state, tally_of}
 use Rattle.policy_history.proofs.Acceptance.{changed_tallies}
 use Rattle.policy_history.proofs.Soundness.{accepted_after, sound_after, sound_replay}

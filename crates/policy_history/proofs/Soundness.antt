@@ -19,7 +19,7 @@ use Rattle.policy_history.specs.Machine.{IsAccepted, IsLegalFrom, accepted, afte
 use Rattle.policy_history.specs.Laws.{LabelNumbers, ReplayIsByStep}
 use Rattle.policy_history.specs.Values.{greatest_from}
 use Rattle.policy_history.specs.Rows.{alter, take_out}
-use Rattle.policy_history.specs.Sound.{IsSound, IsWithin}
+use Rattle.policy_history.specs.Inner.Sound.{IsSound, IsWithin}
 use Rattle.policy_history.specs.States.{State, empty_state, tally_of}
 use Rattle.policy_history.proofs.Acceptance.{changed_entries, changed_tallies, line_unspent, none_applies}
 

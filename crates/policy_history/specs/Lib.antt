@@ -6,12 +6,8 @@ pub mod Rows
 pub mod States
 pub mod Machine
 pub mod Tables
-pub mod Early
-pub mod Copies
-pub mod Sound
 pub mod Found
-pub mod OneLine
 pub mod Judged
 pub mod Laws
 pub mod Values
-pub mod Kept
+pub mod Inner

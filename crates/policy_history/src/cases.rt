@@ -10,7 +10,7 @@ ghost use Rattle.nal_rules.specs.Asking.{binding_tree, case_tree};
 ghost use Rattle.nal_rules.specs.Faults.{is_ask, is_label};
 ghost use Rattle.policy_history.specs.Found.{IsFound};
 ghost use Rattle.policy_history.specs.Judged.{binding_for, bindings_for, case_at, goal_for, labels_for, proof_for};
-ghost use Rattle.policy_history.specs.OneLine.{bindings_of_line, label_of_line};
+ghost use Rattle.policy_history.specs.Inner.OneLine.{bindings_of_line, label_of_line};
 ghost use Rattle.policy_history.specs.Tables.{state_of};
 
 use crate::events::Found;

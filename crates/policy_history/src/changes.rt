@@ -3,12 +3,12 @@ ghost use Rattle.std.specs.Prelude.{◌≡◌, ◌<◌, ◌≤◌, ◌+◌, ◌^
 ghost use Rattle.nal_term.specs.Trees.{formula_tree, term_tree};
 ghost use Rattle.proof_lines.specs.Lines.{line_trees};
 ghost use Rattle.label_store.specs.LabelRows.{LabelRow};
-ghost use Rattle.policy_history.specs.Copies.{AreCopies, IsUnopposed};
+ghost use Rattle.policy_history.specs.Inner.Copies.{AreCopies, IsUnopposed};
 ghost use Rattle.policy_history.specs.Events.{event_tree, name_of};
 ghost use Rattle.policy_history.specs.Events as tree;
 ghost use Rattle.policy_history.specs.Machine.{accepted, changed, counted, reply_number};
 ghost use Rattle.policy_history.specs.PolicyLines.{entry_line};
-ghost use Rattle.policy_history.specs.Sound.{IsSound};
+ghost use Rattle.policy_history.specs.Inner.Sound.{IsSound};
 ghost use Rattle.policy_history.specs.States.{object_or_0, tally_of};
 ghost use Rattle.policy_history.specs.Tables.{spare_of, state_of};
 

@@ -2,7 +2,7 @@
 ghost use Rattle.std.specs.Prelude.{◌≡◌, ℕ, List, IfOk, option_map};
 ghost use Rattle.nal_term.specs.Trees.{formula_tree, says, term_tree};
 ghost use Rattle.proof_lines.specs.Lines.{line_trees};
-ghost use Rattle.policy_history.specs.Copies.{AreCopies};
+ghost use Rattle.policy_history.specs.Inner.Copies.{AreCopies};
 ghost use Rattle.policy_history.specs.Events.{event_tree};
 ghost use Rattle.policy_history.specs.Events as tree;
 

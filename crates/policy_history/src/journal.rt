@@ -44,7 +44,7 @@ impl Model for Journal {
     ghost coded = { Prim.hlevel (codes, t.the_row.coded, f.the_row.coded) };
 
     ghost use Rattle.policy_history.specs.Tables.{spare_of};
-    ghost use Rattle.policy_history.specs.Kept.{IsKept};
+    ghost use Rattle.policy_history.specs.Inner.Kept.{IsKept};
 
     ghost view = { λ j. record { head = j.head; entries = j.entries.items; room = min (vec_capacity j.entries - vec_len j.entries) (spare_of j.policy) } };
 
@@ -68,7 +68,7 @@ impl Model for Spare {
 
     ghost coded = { Prim.hlevel (codes, t.the_row.coded, f.the_row.coded) };
 
-    ghost use Rattle.policy_history.specs.Copies.{AreCopies};
+    ghost use Rattle.policy_history.specs.Inner.Copies.{AreCopies};
     ghost use Rattle.policy_history.specs.Events.{event_tree};
 
     ghost view = { λ s. s.event.value };

@@ -15,8 +15,6 @@ mod refusals;
 mod spelled;
 mod tables;
 mod tallies;
-#[cfg(test)]
-mod tests;
 
 pub use events::{Due, Entry, Event, Found, Refusal};
 pub use heads::{Authorities, Authority, Head, Principal, Principals};

@@ -3,12 +3,12 @@ ghost use Rattle.std.specs.Prelude.{◌≡◌, ◌<◌, ◌+◌, ◌^◌, ◌∷
 ghost use Rattle.std.specs.List.{find};
 ghost use Rattle.nal_term.specs.Trees.{formula_tree, term_tree};
 ghost use Rattle.proof_lines.specs.Lines.{line_trees};
-ghost use Rattle.policy_history.specs.Early.{early_refusal, late_refusal};
+ghost use Rattle.policy_history.specs.Inner.Early.{early_refusal, late_refusal};
 ghost use Rattle.policy_history.specs.Events.{event_tree};
 ghost use Rattle.policy_history.specs.Events as tree;
 ghost use Rattle.object_table.specs.Objects.{number_of};
 ghost use Rattle.policy_history.specs.Judged.{object_region, region_in};
-ghost use Rattle.policy_history.specs.Sound.{IsSound};
+ghost use Rattle.policy_history.specs.Inner.Sound.{IsSound};
 ghost use Rattle.policy_history.specs.Values.{decision};
 ghost use Rattle.policy_history.specs.Machine.{applies, is_another, is_portless, is_spent, refusal_of, reply_number};
 ghost use Rattle.policy_history.specs.States.{case_named, goal_named, owner_named, proof_named, tally_of};

@@ -6,8 +6,7 @@ use Rattle.nal_term.specs.Trees.{TermTree, FormulaTree, says}
 use Rattle.proof_lines.specs.declared.rules.Rule.{Rule}
 use Rattle.proof_lines.specs.declared.rules.Rule.TheVariants.{Label, Ask}
 use Rattle.proof_lines.specs.Lines.{LineTree}
-use Rattle.nal_rules.proofs.ForCallers.{none_at_all, not_out}
-use Rattle.nal_rules.proofs.Weakened.{weakened}
+use Rattle.nal_rules.proofs.ForCallers.{none_at_all, not_out, weakened}
 use Rattle.nal_rules.specs.Asking.{Asked, IsDecided, ask_first, asks_for, lines_of, port_in}
 use Rattle.nal_rules.specs.Faults.{Applies, HasLowestFault, IsFaultless, fault_number, formulas_where, is_ask, is_label, line_at}
 use Rattle.nal_rules.specs.Verdicts.{CaseTree, IsAnsweredNo, IsMissingLabel, IsVerdict}

@@ -5,7 +5,7 @@ use Rattle.std.specs.Int.RustNames.{bit_or, bit_and}
 use Rattle.std.proofs.lemmas.Bool.{eqb-true, eq-eqb}
 use Rattle.std.proofs.lemmas.Nat.Bits.{bit_at-lt, bit_at_or, bit_at_set_same, bit_at_set_other, bit_at_clear_same, bit_at_clear_other}
 use Rattle.proof_check.specs.declared.line_sets.LineSet.{LineSet}
-use Rattle.proof_check.specs.LineSets.{has_bit, holds}
+use Rattle.proof_check.specs.Inner.LineSets.{has_bit, holds}
 
 by_equal : (k i : ℕ) (P : Bool → Type 0) → (k ≡ i → P true) → ((k ≡ i → ⊥) → P false) → P (nat_eq k i)
 by_equal k i P same other = split (nat_eq k i) refl

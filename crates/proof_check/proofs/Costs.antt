@@ -5,8 +5,8 @@ use Rattle.nal_term.specs.Trees.{FormulaTree}
 use Rattle.nal_term.specs.Size.{node_count}
 use Rattle.proof_lines.specs.Lines.{LineTree}
 use Rattle.proof_check.specs.Sizes.{greatest_in, greatest_size, proof_steps}
-use Rattle.proof_check.specs.Costs.{fault_steps, steps_before}
-use Rattle.proof_check.specs.Numbered.{fault_at}
+use Rattle.proof_check.specs.Inner.Costs.{fault_steps, steps_before}
+use Rattle.proof_check.specs.Inner.Numbered.{fault_at}
 
 -- with the next test there are at most its steps more
 pub next_before : (n z place : ℕ) → steps_before n z (place + 1) ≡ steps_before n z place + fault_steps n z (fault_at place)

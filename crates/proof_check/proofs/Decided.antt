@@ -7,7 +7,7 @@ use Rattle.nal_subst.specs.Substitution.{formula_with}
 use Rattle.proof_lines.specs.declared.rules.Rule.{Rule}
 use Rattle.proof_lines.specs.declared.rules.Rule.TheVariants.{Label, Ask, Hyp, TrueI, AndI, AndL, AndR, OrL, OrR, OrE, ImpI, ImpE, FalseE, ForallI, ForallE, ExistsI, ExistsE, EqRefl, EqSym, EqTrans, Arith, LtTrans, SaysI, Deduce, SaysJoin, SfRefl, SfTrans, SfSub, SfE, SfOnE, SfWeak, Handoff, HandoffOn}
 use Rattle.nal_rules.specs.Faults.{HasForm}
-use Rattle.nal_rules.proofs.Same.{same_formula, same_term}
+use Rattle.nal_rules.proofs.ForCallers.{same_formula, same_term}
 
 abbrev pub Decided : Type 0 → Type 0
 Decided P = P ⊎ (P → ⊥)

@@ -12,8 +12,8 @@ use Rattle.proof_lines.specs.declared.rules.Rule.TheVariants.{Label, Ask, Hyp, T
 use Rattle.proof_lines.specs.Lines.{LineTree}
 use Rattle.nal_rules.specs.Derivation.{IsFresh, label, ask, hyp, true_i, and_i, and_l, and_r, or_l, or_r, or_e, imp_i, imp_e, false_e, forall_i, forall_e, exists_i, exists_e, eq_refl, eq_sym, eq_trans, arith, lt_trans, lt_le_trans, says_i, deduce, says_join, sf_refl, sf_trans, sf_sub, sf_e, sf_on_e, sf_weak, handoff, handoff_on}
 use Rattle.nal_rules.specs.Faults.{formula_at, supports_of, HasForm, IsCaptured, IsNotFresh, IsFreeBelow, IsTrueComparison, IsSays, RestsOn}
-use Rattle.nal_rules.proofs.Discharge.{takes_out}
-use Rattle.proof_check.specs.Sound.{IsWithinScope}
+use Rattle.nal_rules.proofs.ForCallers.{takes_out}
+use Rattle.proof_check.specs.Inner.Sound.{IsWithinScope}
 use Rattle.proof_check.proofs.Rested.{AreRested, rested_append, rested_taken}
 use Rattle.proof_check.proofs.Steps.{IsSupported, IsPremise, ArePremises, Carries, at_first, at_second, at_third, same_derived, none_line, one_line, two_line, none_step, one_step, two_step}
 

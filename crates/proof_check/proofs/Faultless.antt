@@ -18,10 +18,10 @@ use Rattle.nal_rules.specs.Scope.{IsNameOf, IsInScope}
 use Rattle.nal_rules.specs.declared.verdicts.Fault.{Fault}
 use Rattle.nal_rules.specs.declared.verdicts.Fault.TheVariants.{NoSuchRef, NotHyp, WrongShape, Capture, NotFresh, OutOfScope, NotTrue, TooManyAsks, NotAsk, NotClosed, StillOpen, NotGoal}
 use Rattle.nal_rules.specs.Faults.{line_at, formula_at, formulas_at, RestsOn, hypotheses_of, HasForm, IsHyp, IsFaultless, IsOutOfScope, IsTrueComparison, IsSays, Applies, formulas_where, is_label, is_ask}
-use Rattle.nal_rules.proofs.Same.{same_formula}
-use Rattle.proof_check.specs.Premises.{HasFormAt}
-use Rattle.proof_check.specs.Rests.{is_hyp_at}
-use Rattle.proof_check.specs.Sound.{AreEarlier, IsWithinScope, IsMet, IsSoundAt}
+use Rattle.nal_rules.proofs.ForCallers.{same_formula}
+use Rattle.proof_check.specs.Inner.Premises.{HasFormAt}
+use Rattle.proof_check.specs.Inner.Rests.{is_hyp_at}
+use Rattle.proof_check.specs.Inner.Sound.{AreEarlier, IsWithinScope, IsMet, IsSoundAt}
 use Rattle.proof_check.proofs.Decided.{Decided, decided_as, decided_both, either_decided, as_test, as_says, form_decided}
 use Rattle.proof_check.proofs.Reached.{hyps_told, hyps_missing}
 use Rattle.proof_check.proofs.Rested.{AreRested}

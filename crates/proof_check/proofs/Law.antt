@@ -11,7 +11,7 @@ use Rattle.nal_rules.specs.Derivation.{Derives}
 use Rattle.nal_rules.specs.declared.verdicts.Fault.{Fault}
 use Rattle.nal_rules.specs.declared.verdicts.Fault.TheVariants.{NoSuchRef, WrongShape, Capture, NotFresh, OutOfScope, NotTrue, NotAsk, NotClosed, StillOpen, NotGoal}
 use Rattle.nal_rules.specs.Faults.{line_at, formula_at, formulas_at, formulas_where, is_label, is_ask, RestsOn, itself}
-use Rattle.proof_check.specs.Sound.{AreEarlier, IsMet, IsSoundAt}
+use Rattle.proof_check.specs.Inner.Sound.{AreEarlier, IsMet, IsSoundAt}
 use Rattle.proof_check.proofs.Found.{at_last}
 use Rattle.proof_check.proofs.Rested.{rested_through}
 use Rattle.proof_check.proofs.Steps.{IsSupported, ArePremises}

@@ -16,3 +16,4 @@ pub mod Faultless
 pub mod AllowedCases
 pub mod Lookups
 pub mod LineFacts
+pub mod ForCallers

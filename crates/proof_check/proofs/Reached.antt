@@ -10,8 +10,8 @@ use Rattle.proof_lines.specs.declared.rules.Rule.TheVariants.{Label, Ask, Hyp, T
 use Rattle.proof_lines.specs.Lines.{LineTree}
 use Rattle.nal_rules.specs.Faults.{line_at, supports_of, IsHyp, RestsOn, itself, through}
 use Rattle.proof_check.specs.declared.line_sets.LineSet.{LineSet}
-use Rattle.proof_check.specs.LineSets.{column_of, holds}
-use Rattle.proof_check.specs.Rests.{is_hyp_rule, is_hyp_at, is_kept, reaches, leads, rests_by, IsColumnTo, IsColumn}
+use Rattle.proof_check.specs.Inner.LineSets.{column_of, holds}
+use Rattle.proof_check.specs.Inner.Rests.{is_hyp_rule, is_hyp_at, is_kept, reaches, leads, rests_by, IsColumnTo, IsColumn}
 use Rattle.proof_check.proofs.Found.{at_within}
 
 both_true : (a b : Bool) → (a && b) ≡ true → (a ≡ true) × (b ≡ true)

@@ -9,8 +9,8 @@ use Rattle.proof_lines.specs.Lines.{LineTree}
 use Rattle.nal_rules.specs.declared.verdicts.Fault.{Fault}
 use Rattle.nal_rules.specs.declared.verdicts.Fault.TheVariants.{NoSuchRef, NotHyp, WrongShape, Capture, NotFresh, OutOfScope, NotTrue, TooManyAsks, NotAsk, NotClosed, StillOpen, NotGoal}
 use Rattle.nal_rules.specs.Faults.{line_at, is_ask, Applies, IsHyp, IsOutOfScope, fault_number, HasFault, IsFaultless}
-use Rattle.proof_check.specs.Numbered.{fault_at}
-use Rattle.proof_check.specs.Sound.{IsMet, IsSoundAt, IsWithinScope}
+use Rattle.proof_check.specs.Inner.Numbered.{fault_at}
+use Rattle.proof_check.specs.Inner.Sound.{IsMet, IsSoundAt, IsWithinScope}
 
 scope_refutes : (r : Rule) (premises : List FormulaTree) → IsWithinScope r premises → IsOutOfScope r premises → ⊥
 scope_refutes SfOnE [] w o = absurd o

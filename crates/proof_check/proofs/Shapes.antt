@@ -7,8 +7,8 @@ use Rattle.nal_term.specs.Trees.{TermTree, subprincipal, FormulaTree, test, and,
 use Rattle.proof_lines.specs.declared.rules.Rule.TheVariants.{Deduce, AndL, AndR, OrL, OrR, EqRefl, EqSym, EqTrans, LtTrans, SaysI, SfRefl, SfSub, SfTrans, SfE, SfOnE, SfWeak, ForallE, ExistsI}
 use Rattle.proof_lines.specs.Lines.{LineTree, HasRuleForm, reference_count}
 use Rattle.nal_rules.specs.Faults.{formula_at, formulas_at, HasForm, IsCaptured}
-use Rattle.proof_check.specs.Premises.{premise_at, HasFormAt}
-use Rattle.proof_check.specs.Sound.{IsCapturedAt}
+use Rattle.proof_check.specs.Inner.Premises.{premise_at, HasFormAt}
+use Rattle.proof_check.specs.Inner.Sound.{IsCapturedAt}
 use Rattle.nal_subst.specs.Substitution.{formula_with}
 use Rattle.nal_subst.specs.declared.instances.Match.{Match}
 use Rattle.nal_subst.specs.declared.instances.Match.TheVariants.{Yes, No, Capture}

@@ -3,7 +3,7 @@ use Rattle.std.proofs.Common.{◌≡◌, ◌⊎◌, ℕ, suc, ◌<◌, ◌≤◌
 use Rattle.std.specs.List.{Contains}
 use Rattle.std.proofs.lemmas.List.Elements.{All-nil, All-cons}
 use Rattle.std.proofs.lemmas.Bool.{cases_lt}
-use Rattle.proof_check.specs.Sound.{AreEarlier}
+use Rattle.proof_check.specs.Inner.Sound.{AreEarlier}
 
 bad_head : (k x : ℕ) (refs : List ℕ) → ((x ≡ 0) ⊎ (k ≤ x)) → (i : ℕ) × Contains (x ∷ refs) i × ((i ≡ 0) ⊎ (k ≤ i))
 bad_head k x refs h = (x, (0, omega arith, refl), h)

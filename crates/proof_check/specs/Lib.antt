@@ -1,11 +1,5 @@
 pub mod LineLists
-pub mod Premises
-pub mod Sound
-pub mod Numbered
-pub mod Rests
-pub mod Kinds
 pub mod Results
 pub mod Sizes
-pub mod Costs
-pub mod LineSets
 pub mod Laws
+pub mod Inner

@@ -4,10 +4,10 @@ ghost use Rattle.nal_term.specs.Trees.{formula_tree};
 ghost use Rattle.proof_lines.specs.Lines.{line_trees};
 ghost use Rattle.nal_rules.specs.Derivation.{Derives};
 ghost use Rattle.nal_rules.specs.Faults.{HasLowestFault, IsFaultless, formulas_where, is_ask, is_label, numbers_from};
-ghost use Rattle.proof_check.specs.LineSets.{AreHypothesisSets};
+ghost use Rattle.proof_check.specs.Inner.LineSets.{AreHypothesisSets};
 ghost use Rattle.proof_check.specs.Results.{IsRightError};
 ghost use Rattle.proof_check.specs.Sizes.{greatest_in, greatest_size, line_steps, proof_steps};
-ghost use Rattle.proof_check.specs.Sound.{IsSoundAt};
+ghost use Rattle.proof_check.specs.Inner.Sound.{IsSoundAt};
 
 use crate::faults::line_fault;
 use crate::hypothesis_sets::hypothesis_sets;

@@ -4,12 +4,12 @@ ghost use Rattle.nal_term.specs.Size.{node_count};
 ghost use Rattle.nal_term.specs.Trees.{formula_tree};
 ghost use Rattle.proof_lines.specs.Lines.{HasRuleForm, line_tree, line_trees, takes_term};
 ghost use Rattle.nal_rules.specs.Faults.{Applies, HasFault, IsSays, IsTrueComparison, RestsOn, is_ask};
-ghost use Rattle.proof_check.specs.Costs.{fault_steps};
-ghost use Rattle.proof_check.specs.Premises.{HasFormAt};
-ghost use Rattle.proof_check.specs.LineSets.{AreHypothesisSets};
+ghost use Rattle.proof_check.specs.Inner.Costs.{fault_steps};
+ghost use Rattle.proof_check.specs.Inner.Premises.{HasFormAt};
+ghost use Rattle.proof_check.specs.Inner.LineSets.{AreHypothesisSets};
 ghost use Rattle.proof_check.specs.Sizes.{greatest_in, line_size, line_steps};
-ghost use Rattle.proof_check.specs.Numbered.{fault_at};
-ghost use Rattle.proof_check.specs.Sound.{AreEarlier, IsCapturedAt, IsClosedWhereDue, IsMet, IsScopeMet, IsScopeUnmet, IsSoundAt};
+ghost use Rattle.proof_check.specs.Inner.Numbered.{fault_at};
+ghost use Rattle.proof_check.specs.Inner.Sound.{AreEarlier, IsCapturedAt, IsClosedWhereDue, IsMet, IsScopeMet, IsScopeUnmet, IsSoundAt};
 ghost use Rattle.proof_lines.specs.declared.rules.Rule.TheVariants.{Arith, Ask, SfOnE};
 
 use crate::comparisons::is_true_comparison;

@@ -2,8 +2,8 @@ ghost use Rattle.std.specs.Prelude.{◌≡◌, ◌↔◌, ◌+◌, ◌*◌, ◌�
 ghost use Rattle.nal_term.specs.Size.{node_count};
 ghost use Rattle.nal_term.specs.Free.{is_free_in};
 ghost use Rattle.nal_term.specs.Trees.{FormulaTree, formula_tree};
-ghost use Rattle.proof_check.specs.LineSets.{AreHypothesisSets};
-ghost use Rattle.proof_check.specs.Rests.{is_kept};
+ghost use Rattle.proof_check.specs.Inner.LineSets.{AreHypothesisSets};
+ghost use Rattle.proof_check.specs.Inner.Rests.{is_kept};
 ghost use Rattle.proof_check.specs.Sizes.{greatest_in};
 ghost use Rattle.proof_lines.specs.Lines.{HasRuleForm, line_tree, line_trees};
 ghost use Rattle.nal_rules.specs.Faults.{IsFreeBelow, IsNotFresh, formula_at};

@@ -1,6 +1,6 @@
 ghost use Rattle.std.specs.Prelude.{◌≡◌, length};
 ghost use Rattle.std.specs.List.{list_all};
-ghost use Rattle.proof_check.specs.Rests.{is_hyp_at};
+ghost use Rattle.proof_check.specs.Inner.Rests.{is_hyp_at};
 ghost use Rattle.proof_lines.specs.Lines.{HasRuleForm, line_tree, line_trees};
 ghost use Rattle.nal_rules.specs.Faults.{hypotheses_of};
 ghost use Rattle.proof_lines.specs.declared.rules.Rule.TheVariants.{ExistsE, ImpI, OrE};

@@ -1,7 +1,7 @@
 ghost use Rattle.std.specs.Prelude.{◌≡◌, ◌↔◌, ◌<◌, ◌≤◌, ℕ, IsTrue, length};
 ghost use Rattle.std.specs.List.{list_any};
-ghost use Rattle.proof_check.specs.LineSets.{AreHypothesisSets, column_of, holds};
-ghost use Rattle.proof_check.specs.Rests.{leads, reaches, rests_by};
+ghost use Rattle.proof_check.specs.Inner.LineSets.{AreHypothesisSets, column_of, holds};
+ghost use Rattle.proof_check.specs.Inner.Rests.{leads, reaches, rests_by};
 ghost use Rattle.proof_lines.specs.Lines.{HasRuleForm, line_tree, line_trees};
 ghost use Rattle.nal_rules.specs.Faults.{RestsOn, supports_of};
 ghost use Rattle.proof_lines.specs.declared.rules.Rule.TheVariants.{ExistsE, ImpI, OrE};

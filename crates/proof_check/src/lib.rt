@@ -21,8 +21,6 @@ mod scope;
 mod statement_forms;
 mod substitutions;
 mod supports;
-#[cfg(test)]
-mod tests;
 
 pub use checks::{CheckError, Checked, check, check_counted};
 pub use laws::{allowed_cases_derive, faultless_proofs_derive};

@@ -1,5 +1,5 @@
 ghost use Rattle.std.specs.Prelude.{◌≡◌, ◌<◌, ◌≤◌, ℕ, false, not, ◌&&◌, ◌||◌, nat_eq};
-ghost use Rattle.proof_check.specs.LineSets.{has_bit, holds};
+ghost use Rattle.proof_check.specs.Inner.LineSets.{has_bit, holds};
 
 /// The greatest number that a set can hold: that of a proof's last line.
 const MOST: u64 = 256;

@@ -1,7 +1,7 @@
 ghost use Rattle.std.specs.Prelude.{◌≡◌, IfOk};
 ghost use Rattle.proof_lines.specs.Lines.{line_tree, line_trees};
 ghost use Rattle.nal_rules.specs.Faults.{numbers_from};
-ghost use Rattle.proof_check.specs.Kinds.{is_of_kind};
+ghost use Rattle.proof_check.specs.Inner.Kinds.{is_of_kind};
 
 use crate::lists::LineList;
 use proof_lines::{Line, Proof, Rule};

@@ -3,7 +3,7 @@ ghost use Rattle.nal_term.specs.Size.{node_count};
 ghost use Rattle.nal_term.specs.Trees.{formula_tree};
 ghost use Rattle.proof_lines.specs.Lines.{HasRuleForm, line_tree, line_trees, reference_count, takes_term};
 ghost use Rattle.nal_rules.specs.Faults.{formula_at, line_at};
-ghost use Rattle.proof_check.specs.Premises.{HasFormAt, premise_at};
+ghost use Rattle.proof_check.specs.Inner.Premises.{HasFormAt, premise_at};
 ghost use Rattle.proof_check.specs.Sizes.{greatest_in, line_size};
 
 use crate::forms::{

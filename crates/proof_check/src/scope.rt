@@ -3,7 +3,7 @@ ghost use Rattle.nal_term.specs.Size.{node_count, term_node_count};
 ghost use Rattle.nal_term.specs.Trees.{formula_tree, term_tree};
 ghost use Rattle.nal_rules.specs.Faults.{IsOutOfScope};
 ghost use Rattle.nal_rules.specs.Scope.{IsInScope, IsNameOf};
-ghost use Rattle.proof_check.specs.Sound.{IsWithinScope};
+ghost use Rattle.proof_check.specs.Inner.Sound.{IsWithinScope};
 ghost use Rattle.proof_lines.specs.declared.rules.Rule.TheVariants.{SfOnE};
 
 use nal_term::{Formula, Scope, Steps, Term, equal_terms_counted};

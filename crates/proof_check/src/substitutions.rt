@@ -1,9 +1,9 @@
 ghost use Rattle.std.specs.Prelude.{◌≡◌, ◌≢◌, ◌↔◌, ◌+◌, ◌*◌, ◌≤◌, ◌∷◌, [], ℕ, Some, None, true, option_map};
 ghost use Rattle.nal_term.specs.Size.{node_count, term_node_count};
 ghost use Rattle.nal_term.specs.Trees.{formula_tree, term_tree};
-ghost use Rattle.proof_check.specs.Premises.{HasFormAt};
+ghost use Rattle.proof_check.specs.Inner.Premises.{HasFormAt};
 ghost use Rattle.proof_check.specs.Sizes.{greatest_in, line_size};
-ghost use Rattle.proof_check.specs.Sound.{IsCapturedAt};
+ghost use Rattle.proof_check.specs.Inner.Sound.{IsCapturedAt};
 ghost use Rattle.proof_lines.specs.Lines.{HasRuleForm, line_tree, line_trees, reference_count, takes_term};
 ghost use Rattle.nal_rules.specs.Faults.{HasForm, IsCaptured};
 ghost use Rattle.proof_lines.specs.declared.rules.Rule.TheVariants.{ExistsI, ForallE};

@@ -4,8 +4,6 @@
 mod lines;
 mod proofs;
 mod rules;
-#[cfg(test)]
-mod tests;
 
 pub use lines::{Line, Refs};
 pub use proofs::{Proof, PushError};

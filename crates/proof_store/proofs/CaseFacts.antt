@@ -2,7 +2,7 @@
 use Rattle.std.proofs.Common.{◌≡◌, ℕ, ◌<◌, ◌++◌, ◌∷◌, [], List, Option, Some, None, length, get_or, slice_set, nat_eq, ◌&&◌}
 use Rattle.std.specs.Cmp.Lexicographic.{pointwise}
 use Rattle.std.proofs.lemmas.List.Quantifiers.{position-Some}
-use Rattle.nal_term.proofs.KeptPlaces.{place_stays, place_stays_set}
+use Rattle.nal_term.proofs.ForCallers.{place_stays, place_stays_set}
 use Rattle.proof_lines.specs.Lines.{LineTree}
 use Rattle.proof_store.specs.Cases.{CaseRow, is_case, number_of}
 use Rattle.proof_store.proofs.HeldCases.{same_case}

@@ -11,13 +11,12 @@ use Rattle.indexmap.specs.IndexMap.{insert_entry}
 use Rattle.indexmap.specs.Layout.{set_value_at}
 use Rattle.indexmap.proofs.MapLemmas.{Found-position, Missing-position, insert_entry-first, insert_entry-absent}
 use Rattle.nal_term.specs.TreeKeys.{same_bytes, same_bytes-Decides}
-use Rattle.nal_term.proofs.EntryRows.{keys_in, position_agrees, position_of_none, map-agrees, map-map}
-use Rattle.nal_term.proofs.NamePlaces.{same_place, other_name, place_of_name}
-use Rattle.nal_term.proofs.Places.{put_item, length-put_item, get_or-put_item}
+use Rattle.nal_term.proofs.ForCallers.{keys_in, position_agrees, position_of_none, map-agrees, map-map, same_place, other_name, place_of_name, put_item, length-put_item, get_or-put_item}
 use Rattle.proof_lines.specs.Lines.{line_trees}
 use Rattle.proof_lines.specs.declared.lines.Line.{Line}
 use Rattle.proof_store.specs.Cases.{CaseRow, case_row, is_case, number_of, proof_of}
-use Rattle.proof_store.specs.Held.{Entry, held_case, HasPlaces, AreHeld}
+use Rattle.proof_store.specs.Held.{Entry, held_case}
+use Rattle.proof_store.specs.Inner.Places.{HasPlaces, AreHeld}
 
 -- a key: the subject, the place of the operation, and the object
 abbrev pub Key : Type 0

@@ -1,2 +1,3 @@
 pub mod Cases
 pub mod Held
+pub mod Inner

@@ -29,7 +29,8 @@ impl Model for ProofStore {
     ghost use Rattle.nal_term.specs.contracts.terms.Term as t;
     ghost use Rattle.nal_term.specs.contracts.formulas.Formula as f;
     ghost use Rattle.proof_store.specs.Cases.{Cases};
-    ghost use Rattle.proof_store.specs.Held.{held_case, AreHeld};
+    ghost use Rattle.proof_store.specs.Held.{held_case};
+    ghost use Rattle.proof_store.specs.Inner.Places.{AreHeld};
     ghost use Rattle.indexmap.specs.IndexMap.{spare as room};
     ghost use Rattle.indexmap.specs.IndexSet.{spare as set_room};
 

@@ -2,7 +2,5 @@
 #![tactic(auto)]
 
 mod cases;
-#[cfg(test)]
-mod tests;
 
 pub use cases::{MOST_CASES, ProofStore};

@@ -10,7 +10,7 @@ use Rattle.proof_lines.specs.declared.rules.Rule.TheVariants.{Label, Ask, Hyp, T
 use Rattle.proof_lines.specs.Lines.{reference_count, takes_term}
 use Rattle.proof_text.specs.ProofText.{Head, HasHead, BeginsWithRun, BeginsWithNumber, BeginsWithNumbers, BeginsWithOptionalTerm, BeginsWithTerm, bracket_length, trimmed}
 use Rattle.proof_text.specs.RuleNames.{rule_name}
-use Rattle.proof_text.specs.Reading.{Reads, NoForm, BeginsWithBracket, BeginsWithColon, all_rules, rule_named}
+use Rattle.proof_text.specs.Inner.Reading.{Reads, NoForm, BeginsWithBracket, BeginsWithColon, all_rules, rule_named}
 use Rattle.nal_parse.specs.Grammar.{IsTermText}
 
 -- each rule has its name, and no other rule has it

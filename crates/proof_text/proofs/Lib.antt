@@ -1,4 +1,3 @@
-pub mod Decimal
 pub mod HeadParts
 pub mod LineParts
 pub mod Numbers

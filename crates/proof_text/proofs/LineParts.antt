@@ -9,8 +9,8 @@ use Rattle.proof_lines.specs.Lines.{LineTree, HasRuleForm, takes_term}
 use Rattle.proof_text.specs.declared.read.ProofError.TheVariants as error
 use Rattle.proof_text.specs.ProofText.{Head, HasHead, IsLineText, BeginsWithOptionalTerm}
 use Rattle.proof_text.specs.ProofText.IsWrong.{bad_line, bad_number, too_many, formula as bad_formula}
-use Rattle.proof_text.specs.Reading.{Reads, NoForm}
-use Rattle.proof_text.specs.Bodies.{ReadsLine, IsWrongLine}
+use Rattle.proof_text.specs.Inner.Reading.{Reads, NoForm}
+use Rattle.proof_text.specs.Inner.Lines.{ReadsLine, IsWrongLine}
 use Rattle.proof_text.proofs.Numbers.{numbers_length}
 
 module _ (k : ℕ) (seg : List ℕ) (h : Head) (rest : List ℕ) (reads : Reads (HasHead seg) h rest) where

@@ -1,12 +1,12 @@
 -- A text begins with at most one list of so many numbers.
 use Rattle.std.proofs.Common.{◌≡◌, ℕ, suc, ◌<◌, List, [], ◌∷◌, ◌++◌, length, refl, ap, subst, ◌∙◌, sym, arith}
-use Rattle.nal_parse.specs.Tokens.{decimal}
+use Rattle.nal_parse.specs.Tokens.{value_of_digits}
 use Rattle.proof_text.specs.ProofText.{BeginsWithNumber, BeginsWithNumbers}
 use Rattle.proof_text.specs.ProofText.BeginsWithNumbers.{none, number}
-use Rattle.proof_text.specs.Reading.{Reads, NoForm}
+use Rattle.proof_text.specs.Inner.Reading.{Reads, NoForm}
 
 pub number_same : (b : List ℕ) (n : ℕ) (r : List ℕ) (m : ℕ) (s : List ℕ) → BeginsWithNumber b n r → BeginsWithNumber b m s → (n ≡ m) × (r ≡ s)
-number_same b n r m s h k = (h.3 ∙ (ap decimal (h.1.0 ∙ sym k.1.0) ∙ sym k.3), h.1.1 ∙ sym k.1.1)
+number_same b n r m s h k = (h.3 ∙ (ap value_of_digits (h.1.0 ∙ sym k.1.0) ∙ sym k.3), h.1.1 ∙ sym k.1.1)
 
 cons_same : {n m : ℕ} {ns ms : List ℕ} → n ≡ m → ns ≡ ms → n ∷ ns ≡ m ∷ ms
 cons_same e f = cc

@@ -1,11 +1,10 @@
 -- Canonical texts hold no line feed.
-use Rattle.std.proofs.Common.{◌≡◌, ◌≤◌, ◌+◌, ◌==◌, ℕ, List, [], ◌∷◌, ◌++◌, length, Bool, true, not, IsTrue, All, codes, refl, ◌∙◌, arith}
+use Rattle.std.proofs.Common.{◌≡◌, ◌≤◌, ◌+◌, ◌==◌, ℕ, List, [], ◌∷◌, ◌++◌, length, true, not, All, codes, refl, ◌∙◌, arith}
 use Rattle.std.specs.List.{list_all}
 use Rattle.std.proofs.lemmas.List.Folds.{list_all-append}
 use Rattle.nal_term.specs.Trees.{TermTree, FormulaTree}
 use Rattle.nal_parse.specs.Canonical.{formula_text, term_text, IsSpellable, IsSpellableTerm}
-use Rattle.nal_parse.proofs.Written.{both}
-use Rattle.nal_parse.proofs.PrintedTerms.{All-first, All-rest}
+use Rattle.nal_parse.proofs.ForCallers.{both, All-first, All-rest}
 use Rattle.proof_lines.specs.Lines.{HasRuleForm, LineTree}
 use Rattle.proof_text.specs.CanonicalProof.{IsSpellableLine, ProofFits, line_text, lines_text, proof_text}
 use Rattle.proof_text.specs.Laws.{IsOneLine}

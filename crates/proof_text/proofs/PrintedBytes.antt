@@ -11,8 +11,7 @@ use Rattle.nal_term.specs.Trees.{TermTree, FormulaTree}
 use Rattle.nal_term.specs.Trees as tree
 use Rattle.nal_parse.specs.Tokens.{is_blank}
 use Rattle.nal_parse.specs.Canonical.{term_text, joined, enclosed, scope_text, comparison_sign, strength, part_text, formula_text, IsSpellable, IsSpellableTerm}
-use Rattle.nal_parse.proofs.Written.{both, name_bytes, number_digits}
-use Rattle.nal_parse.proofs.PrintedTerms.{All-first, All-rest}
+use Rattle.nal_parse.proofs.ForCallers.{both, name_bytes, number_digits, All-first, All-rest}
 use Rattle.proof_text.specs.ProofText.{is_cut}
 
 -- no byte cuts the text

@@ -11,9 +11,7 @@ use Rattle.nal_term.specs.Trees as tree
 use Rattle.nal_parse.specs.Tokens.{is_blank, after_blanks, run_length}
 use Rattle.nal_parse.specs.Grammar.{IsFormulaText, IsTermText}
 use Rattle.nal_parse.specs.Canonical.{formula_text, term_text, FormulaFits, TermFits, IsSpellable, IsSpellableTerm}
-use Rattle.nal_parse.proofs.Written.{Breaks, prefix_len-run, both, name_bytes, number_digits, number_is_number, digits_words, text_unquoted}
-use Rattle.nal_parse.proofs.PrintedTerms.{All-first, All-rest, term_text_spells}
-use Rattle.nal_parse.proofs.PrintedFormulas.{formula_text_spells}
+use Rattle.nal_parse.proofs.ForCallers.{Breaks, prefix_len-run, both, name_bytes, number_digits, number_is_number, digits_words, text_unquoted, All-first, All-rest, term_text_spells, formula_text_spells}
 use Rattle.proof_lines.specs.declared.rules.Rule.{Rule}
 use Rattle.proof_lines.specs.declared.rules.Rule.TheVariants.{Label, Ask, Hyp, TrueI, AndI, AndL, AndR, OrL, OrR, OrE, ImpI, ImpE, FalseE, ForallI, ForallE, ExistsI, ExistsE, EqRefl, EqSym, EqTrans, Arith, LtTrans, SaysI, Deduce, SaysJoin, SfRefl, SfTrans, SfSub, SfE, SfOnE, SfWeak, Handoff, HandoffOn}
 use Rattle.proof_lines.specs.declared.lines.Line.{Line}

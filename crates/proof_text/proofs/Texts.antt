@@ -5,7 +5,7 @@ use Rattle.proof_text.specs.declared.read.ProofError.{ProofError}
 use Rattle.proof_text.specs.declared.read.ProofError.TheVariants as error
 use Rattle.proof_text.specs.ProofText.{AreLines, AreWrong, IsHeader, IsTail, IsWrong, SpellsProof, IsMisspelled, segments}
 use Rattle.proof_text.specs.ProofText.AreWrong.{header, body}
-use Rattle.proof_text.specs.Bodies.{IsBody}
+use Rattle.proof_text.specs.Inner.Lines.{IsBody}
 use Rattle.proof_text.proofs.Walk.{wrong_lines}
 
 pub ok_gives : {T E : Type 0} (r : Result T E) (P Q : T → Type 0) → ((x : T) → P x → Q x) → IfOk r P → IfOk r Q

@@ -12,7 +12,7 @@ use Rattle.proof_text.specs.ProofText.{Head, HasHead, IsLineText, AreLines, IsTa
 use Rattle.proof_text.specs.RuleNames.{rule_name}
 use Rattle.proof_text.specs.ProofText.AreLines.{end, line}
 use Rattle.proof_text.specs.ProofText.IsWrong.{nothing, no_end, blank_end, after as wrong_end, bad_line, bad_number, too_many, formula as bad_formula, further}
-use Rattle.proof_text.specs.Bodies.{IsBody, ReadsLine, IsWrongLine}
+use Rattle.proof_text.specs.Inner.Lines.{IsBody, ReadsLine, IsWrongLine}
 use Rattle.proof_text.proofs.HeadParts.{same_rule}
 use Rattle.proof_text.proofs.Numbers.{number_same, numbers_same}
 

@@ -2,6 +2,6 @@ pub mod Bodies
 pub mod CanonicalProof
 pub mod Places
 pub mod ProofText
-pub mod Reading
 pub mod RuleNames
 pub mod Laws
+pub mod Inner

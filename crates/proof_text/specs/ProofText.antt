@@ -2,7 +2,7 @@
 use Rattle.std.specs.Prelude.{◌≡◌, ◌≢◌, ◌<◌, ◌≤◌, ◌+◌, ◌-◌, ◌⊎◌, ℕ, suc, List, [], ◌∷◌, length, take, drop, map, Bool, true, false, ◌||◌, ◌==◌, IsTrue, Option, Some, None, codes, if◌then◌else◌}
 use Rattle.std.specs.List.{suffix_len}
 use Rattle.nal_term.specs.Trees.{TermTree, FormulaTree}
-use Rattle.nal_parse.specs.Tokens.{is_blank, after_blanks, run_length, is_number, decimal}
+use Rattle.nal_parse.specs.Tokens.{is_blank, after_blanks, run_length, is_number, value_of_digits}
 use Rattle.nal_parse.specs.Grammar.{IsFormulaText, IsTermText}
 use Rattle.nal_parse.specs.Errors.{IsFormulaError}
 use Rattle.nal_parse.specs.declared.parse.ParseError.{ParseError}
@@ -46,7 +46,7 @@ BeginsWithRun bytes run rest =
 
 -- the text begins, after blanks, with this number, which `rest` follows
 abbrev pub BeginsWithNumber : List ℕ → ℕ → List ℕ → Type 0
-BeginsWithNumber bytes n rest = (run : List ℕ) × BeginsWithRun bytes run rest × IsTrue (is_number run) × (n ≡ decimal run)
+BeginsWithNumber bytes n rest = (run : List ℕ) × BeginsWithRun bytes run rest × IsTrue (is_number run) × (n ≡ value_of_digits run)
 
 -- the text begins with k numbers, which `rest` follows: the references of a line
 pub data BeginsWithNumbers : ℕ → List ℕ → List ℕ → List ℕ → Type 0 where

@@ -2,7 +2,7 @@ ghost use Rattle.std.specs.Prelude.{◌≡◌, IfOk, MatchOption, option_map};
 ghost use Rattle.nal_term.specs.Trees.{term_tree};
 ghost use Rattle.proof_lines.specs.Lines.{reference_count};
 ghost use Rattle.proof_text.specs.ProofText.{BeginsWithNumbers, BeginsWithTerm, BeginsWithOptionalTerm, HasHead};
-ghost use Rattle.proof_text.specs.Reading.{Reads, NoForm, head_of};
+ghost use Rattle.proof_text.specs.Inner.Reading.{Reads, NoForm, head_of};
 
 use crate::names::rule_of;
 use crate::parts::{after_colon, bracket, number, numbers, run};

@@ -16,8 +16,3 @@ pub use lengths::{proof_fits, proof_length};
 pub use printer::print_proof;
 pub use read::{ProofError, read_proof};
 pub use segments::{end_segment, segment_line};
-
-#[cfg(test)]
-mod printing_tests;
-#[cfg(test)]
-mod tests;

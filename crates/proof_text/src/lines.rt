@@ -1,6 +1,7 @@
 ghost use Rattle.std.specs.Prelude.{◌≢◌, ◌≤◌, IfOk, IfErr};
 ghost use Rattle.proof_lines.specs.Lines.{line_tree};
-ghost use Rattle.proof_text.specs.Bodies.{ReadsLine, IsWrongLine, NoInnerMemory};
+ghost use Rattle.proof_text.specs.Bodies.{NoInnerMemory};
+ghost use Rattle.proof_text.specs.Inner.Lines.{ReadsLine, IsWrongLine};
 
 use crate::heads::head;
 use crate::read::ProofError;

@@ -1,6 +1,6 @@
 ghost use Rattle.std.specs.Prelude.{◌≡◌};
 ghost use Rattle.proof_text.specs.RuleNames.{rule_name};
-ghost use Rattle.proof_text.specs.Reading.{rule_named};
+ghost use Rattle.proof_text.specs.Inner.Reading.{rule_named};
 
 use proof_lines::Rule;
 
@@ -41,7 +41,7 @@ const RULES: [Rule; 33] = [
 ];
 
 /// The rule with this name. `docs/FORMATS.md`, "Proof text", lists the names.
-#[tactic(auto, unfolding(crate::specs::Reading::rule_named))]
+#[tactic(auto, unfolding(crate::specs::Inner::Reading::rule_named))]
 pub fn rule_of(name: &[u8]) -> Option<Rule>
     ensures { result ≡ rule_named name.now }
 {

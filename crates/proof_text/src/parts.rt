@@ -1,12 +1,9 @@
 ghost use Rattle.std.specs.Prelude.{◌≡◌, ◌≤◌, ◌<◌, ◌^◌, length, IsTrue, SomeIff, MatchOption, false, List, ℕ};
-ghost use Rattle.std.specs.List.{list_all};
-ghost use Rattle.nal_term.specs.Names.{is_digit};
-ghost use Rattle.nal_parse.specs.Tokens.{run_length, is_number, decimal};
 ghost use Rattle.proof_text.specs.ProofText.{bracket_length, BeginsWithRun, BeginsWithNumber, BeginsWithNumbers};
-ghost use Rattle.proof_text.specs.Reading.{Reads, NoForm, BeginsWithBracket, BeginsWithColon};
+ghost use Rattle.proof_text.specs.Inner.Reading.{Reads, NoForm, BeginsWithBracket, BeginsWithColon};
 
 use crate::segments::{after_blanks, trim};
-use nal_term::is_word_byte;
+use nal_parse::{number_of_digits, run_length};
 
 /// The run of letters, digits and `_` that a text begins with after blanks, and what follows it.
 pub fn run(text: &[u8]) -> (&[u8], &[u8])
@@ -23,50 +20,10 @@ pub fn number(text: &[u8]) -> Option<(u64, &[u8])>
         (λ r. Reads (BeginsWithNumber text.now) r.0 r.1.now) }
 {
     let (digits, rest) = run(text);
-    match number_of(digits) {
+    match number_of_digits(digits) {
         Some(number) => Some((number, rest)),
         None => None,
     }
-}
-
-fn run_length(text: &[u8]) -> usize
-    ensures length { result ≡ run_length text.now }
-    ensures bound { result ≤ length text.now }
-{
-    text.iter().take_while(|byte| is_word_byte(**byte)).count()
-}
-
-/// The number that these digits write, where they have no leading zero and it fits 64 bits.
-fn number_of(digits: &[u8]) -> Option<u64>
-    ensures { SomeIff result (IsTrue (is_number digits.now)) (decimal digits.now) }
-{
-    let first = *digits.first()?;
-    if !are_digits(digits) || (first == b'0' && digits.len() != 1) {
-        return None;
-    }
-    decimal_value(digits)
-}
-
-fn are_digits(bytes: &[u8]) -> bool
-    ensures { result ≡ list_all is_digit bytes.now }
-{
-    bytes.iter().all(|byte| byte.is_ascii_digit())
-}
-
-#[tactic(auto, using(crate::proofs::Decimal::decimal_after_ge))]
-fn decimal_value(digits: &[u8]) -> Option<u64>
-    requires { IsTrue (list_all is_digit digits.now) }
-    ensures { SomeIff result (decimal digits.now < 2 ^ 64) (decimal digits.now) }
-{
-    let mut rest = digits;
-    let mut value = 0u64;
-    while let Some((digit, others)) = rest.split_first() {
-        value = value
-            .checked_mul(10)?
-            .checked_add(u64::from(*digit - b'0'))?;
-        rest = others;
-    }
-    Some(value)
 }
 
 #[tactic(auto, using(crate::proofs::Places::bracket_more, crate::proofs::Places::bracket_more_quoted, crate::proofs::Places::bracket_all))]

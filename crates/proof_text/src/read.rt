@@ -2,8 +2,9 @@ ghost use Rattle.std.specs.Prelude.{◌≡◌, ◌≢◌, ◌<◌, ◌↔◌, �
 ghost use Rattle.std.specs.Option.{option_copied};
 ghost use Rattle.proof_lines.specs.Lines.{LineTree, HasRuleForm, line_tree, line_trees};
 ghost use Rattle.proof_text.specs.ProofText.{IsHeader, IsTail, IsWrong, IsMisspelled, IsProofText, IsRefused, SpellsProof};
-ghost use Rattle.proof_text.specs.Bodies.{IsBody, NoInnerMemory};
-ghost use Rattle.proof_text.specs.Reading.{segments_after};
+ghost use Rattle.proof_text.specs.Bodies.{NoInnerMemory};
+ghost use Rattle.proof_text.specs.Inner.Lines.{IsBody};
+ghost use Rattle.proof_text.specs.Inner.Reading.{segments_after};
 
 use crate::lengths::proof_length;
 use crate::lines::line;

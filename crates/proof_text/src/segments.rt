@@ -4,7 +4,9 @@ ghost use Rattle.std.specs.Option.{option_copied};
 ghost use Rattle.nal_parse.specs.Tokens.{is_blank, after_blanks};
 ghost use Rattle.proof_text.specs.ProofText.{trimmed, is_cut, segments};
 ghost use Rattle.proof_text.specs.Places.{line_feeds_before, end_segment_of};
-ghost use Rattle.proof_text.specs.Reading.{segments_after, left};
+ghost use Rattle.proof_text.specs.Inner.Reading.{segments_after, left};
+
+use nal_parse::blank_length;
 
 /// The number of the line of the input, counted from 0, on which a segment begins: how many line feeds
 /// stand before the segment with this number, the header being segment 0. Where the text has fewer
@@ -73,7 +75,7 @@ pub fn trim(text: &[u8]) -> &[u8]
 pub fn after_blanks(text: &[u8]) -> &[u8]
     ensures { result.now ≡ after_blanks text.now }
 {
-    &text[leading_blanks(text)..]
+    &text[blank_length(text)..]
 }
 
 fn piece_length(text: &[u8]) -> usize
@@ -83,13 +85,6 @@ fn piece_length(text: &[u8]) -> usize
     text.iter()
         .take_while(|byte| !(**byte == b'\n' || **byte == b';'))
         .count()
-}
-
-fn leading_blanks(text: &[u8]) -> usize
-    ensures length { result ≡ prefix_len is_blank text.now }
-    ensures bound { result ≤ length text.now }
-{
-    text.iter().take_while(|byte| is_blank(**byte)).count()
 }
 
 fn trailing_blanks(text: &[u8]) -> usize

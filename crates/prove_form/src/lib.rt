@@ -5,8 +5,6 @@ mod answers;
 mod givens;
 mod progress;
 mod read;
-#[cfg(test)]
-mod tests;
 
 pub use answers::{ProveError, found_line, prove_of};
 pub use givens::{Givens, ProveForm};

@@ -10,16 +10,14 @@ use Rattle.policy_history.specs.Events.{EntryTree, entry_tree}
 use Rattle.policy_history.specs.Judged.{IsHome}
 use Rattle.policy_history.specs.Machine.{replay}
 use Rattle.policy_history.specs.Values.{entry_trees}
-use Rattle.policy_history.proofs.Staying.{objects_stay, case_numbers_stay}
-use Rattle.policy_history.proofs.ForCallers.{case_there, object_there}
+use Rattle.policy_history.proofs.ForCallers.{objects_stay, case_numbers_stay, case_there, object_there}
 use Rattle.verdict_words.specs.declared.places.CasePlace.{CasePlace}
 use Rattle.verdict_words.specs.declared.views.Item.{Item}
 use Rattle.verdict_words.specs.Histories.{IsPrefix, own}
 use Rattle.verdict_words.specs.Rule.{last_met, met_after}
 use Rattle.verdict_words.specs.Values.{PassValue, met_seen}
 use Rattle.verdict_words.specs.Words.{IsPlace}
-use Rattle.verdict_words.proofs.Kept.{met_append}
-use Rattle.verdict_words.proofs.Working.{all_with}
+use Rattle.verdict_words.proofs.ForCallers.{met_append, all_with}
 use Rattle.policy_book.specs.Books.{session_of}
 use Rattle.session_core.specs.Told.{IsPlaceIn}
 use Rattle.session_core.specs.Inner.Boarding.{AreKnown, IsKnownRow, own_in}

@@ -9,9 +9,7 @@ use Rattle.std.proofs.lemmas.List.Elements.{recursion_from_All, All-from_recursi
 use Rattle.std.proofs.lemmas.Option.{slice_get_within, get_or_from_slice_get}
 use Rattle.indexmap.specs.IndexMap.{insert_entry}
 use Rattle.nal_term.specs.TreeKeys.{same_bytes, same_bytes-Decides}
-use Rattle.nal_term.proofs.EntryRows.{map-agrees}
-use Rattle.nal_term.proofs.NamePlaces.{other_name, place_of_name, same_place}
-use Rattle.nal_term.proofs.Places.{get_or-put_item, length-put_item, put_item}
+use Rattle.nal_term.proofs.ForCallers.{map-agrees, other_name, place_of_name, same_place, get_or-put_item, length-put_item, put_item}
 use Rattle.verdict_words.specs.declared.places.CasePlace.{CasePlace}
 use Rattle.session_core.specs.Standing.{most_known}
 use Rattle.session_core.specs.Inner.Knowing.{AreHeld, IsNamed, KnownEntry, KnownRow, is_row_of, joined_rows, knows_row, place_among, row_of}

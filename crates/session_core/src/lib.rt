@@ -23,6 +23,3 @@ pub use told_laws::{
     only_allowed_calls_run_and_only_changes_add, what_was_told_stays_told,
     worked_sessions_are_told, wrong_answers_are_never_told,
 };
-
-#[cfg(test)]
-mod tests;

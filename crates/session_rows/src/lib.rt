@@ -15,3 +15,5 @@ mod frames;
 mod plays;
 #[cfg(test)]
 mod refusals;
+#[cfg(test)]
+mod sessions;

@@ -22,6 +22,3 @@ pub use replies::Reply;
 pub use reply_reader::{ReplyRead, read_reply};
 pub use requests::Request;
 pub use writing::{write_reply, write_request};
-
-#[cfg(test)]
-mod tests;

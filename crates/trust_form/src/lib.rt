@@ -5,10 +5,6 @@ mod answers;
 mod givens;
 mod progress;
 mod read;
-#[cfg(test)]
-mod tests;
-#[cfg(test)]
-mod valuation_tests;
 mod words;
 
 pub use answers::{TrustError, trust_line, trust_of};

@@ -10,7 +10,8 @@ use Rattle.atomic_table.specs.declared.shared.Seat.{Seat}
 use Rattle.verdict_words.specs.Rule.{IsSeated}
 use Rattle.verdict_words.specs.Steps.{receiving, releasing, released, returning, returned, without}
 use Rattle.verdict_words.specs.Values.{Identity, PassValue, IsPass, board_of, seen_of, trail_of, resting}
-use Rattle.verdict_words.specs.Settling.{met_of, met_held, last_turn, without_all, view_of, away, receiving_all, releasing_all, held_of, IsHolding}
+use Rattle.verdict_words.specs.Settling.{met_of, last_turn, without_all}
+use Rattle.verdict_words.specs.Inner.Settling.{met_held, view_of, away, receiving_all, releasing_all, held_of, IsHolding}
 use Rattle.verdict_words.specs.declared.views.Origin.{Origin}
 use Rattle.verdict_words.specs.declared.views.Item.TheVariants.{Met}
 use Rattle.verdict_words.specs.declared.views.Loading.TheVariants.{Nothing}

@@ -9,7 +9,8 @@ use Rattle.verdict_words.specs.Words.{register_word}
 use Rattle.verdict_words.specs.Rule.{is_on, Stepped, IsPart, PassOk}
 use Rattle.verdict_words.specs.Steps.{OneList, checked}
 use Rattle.verdict_words.specs.Values.{Identity, PassValue, SeatValue, seen_of, turn_of, lag_of, raised_of}
-use Rattle.verdict_words.specs.Settling.{met_held, all_met, last_turn, without_all, IsMet, away, receiving_all, releasing_all, held_of}
+use Rattle.verdict_words.specs.Settling.{all_met, last_turn, without_all, IsMet}
+use Rattle.verdict_words.specs.Inner.Settling.{met_held, away, receiving_all, releasing_all, held_of}
 use Rattle.verdict_words.specs.declared.places.Held.{Held}
 use Rattle.verdict_words.specs.declared.views.Item.TheVariants.{Met}
 use Rattle.verdict_words.specs.declared.views.Origin.{Origin}

@@ -5,4 +5,4 @@ pub mod Rule
 pub mod Steps
 pub mod Settling
 pub mod Answers
-pub mod Flags
+pub mod Inner

@@ -16,10 +16,6 @@ module _ {E H : Type 0} where
   abbrev pub met_of : Identity E H → List E → ℕ → List Item → PassValue E H
   met_of board entries session trail = record { board = board; session = session; seen = entries; trail = trail ++ Met (length entries) ∷ [] }
 
-  -- a pass that the book holds, once it was met
-  abbrev pub met_held : Identity E H → List E → PassView E H → PassValue E H
-  met_held board entries p = met_of board entries p.session p.trail
-
   -- the passes once they were met
   abbrev pub all_met : Identity E H → List E → List (PassValue E H) → List (PassValue E H)
   all_met board entries passes = map (λ (pass : PassValue E H). met_of board entries pass.session pass.trail) passes
@@ -41,39 +37,3 @@ module _ {E H : Type 0} where
     pub below : pass.session < seat.next
     pub own_entries : All (λ s. s ≢ pass.session) seat.lag
         → (own session seat.entries pass.session ≡ own session pass.seen pass.session) × (own session seat.entries pass.session ≡ own session (met_seen pass) pass.session)
-
-  -- what the seat of a pass knows
-  abbrev pub view_of : PassValue E H → View E H
-  view_of pass = resting pass.board.origin pass.session pass.seen pass.trail
-
-  -- a pass whose view the book holds
-  abbrev pub away : PassValue E H → PassValue E H
-  away pass = record { board = board_of {E = E} {H = H} Spent pass.board; session = pass.session; seen = []; trail = [] }
-
-  -- the book takes passes in, one after another
-  abbrev pub receiving_all : View E H → List (PassValue E H) → View E H
-  receiving_all v [] = v
-  receiving_all v (pass ∷ passes) = receiving_all (receiving v (view_of pass)) passes
-
-  -- the book gives so many passes back
-  abbrev pub releasing_all : List (PassView E H) → View E H → View E H
-  releasing_all [] v = v
-  releasing_all (p ∷ ps) v = releasing_all ps (releasing v)
-
-  abbrev pub held_of : View E H → List (PassView E H)
-  held_of (Book b) = b.held
-  held_of (Pass p) = []
-  held_of Spent = []
-
-  -- the seat is the book's
-  abbrev pub IsBooks : Me (Unit {0}) (View E H) → Type 0
-  IsBooks me = (b : BookView E H) × (me ≡ (Book b, []))
-
-  -- The book's seat holds passes of this board that can be given back: the history is of this length, and the sessions are numbered from the first one on
-  pub record IsHolding (board : Identity E H) (count : ℕ) (sessions : List ℕ) (me : Me (Unit {0}) (View E H)) : Type 0 where
-    pub book : BookView E H
-    pub is : me ≡ (Book book, [])
-    pub long : count ≡ length book.history
-    pub begins : IsPrefix board.origin.opening book.history
-    pub of : All (λ (p : PassView E H). (p.origin ≡ board.origin) × (board.origin.first ≤ p.session)) book.held
-    pub sessions_are : sessions ≡ map (λ (p : PassView E H). p.session) book.held

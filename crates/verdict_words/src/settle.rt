@@ -4,7 +4,8 @@ ghost use Rattle.verdict_words.specs.Words.{most_entries, register_word};
 ghost use Rattle.verdict_words.specs.Rule.{IsPart};
 ghost use Rattle.verdict_words.specs.Steps.{OneList, receiving, releasing};
 ghost use Rattle.verdict_words.specs.Values.{seen_of};
-ghost use Rattle.verdict_words.specs.Settling.{met_held, all_met, last_turn, without_all, IsMet, view_of, away, receiving_all, releasing_all, held_of, IsBooks, IsHolding};
+ghost use Rattle.verdict_words.specs.Settling.{all_met, last_turn, without_all, IsMet};
+ghost use Rattle.verdict_words.specs.Inner.Settling.{met_held, view_of, away, receiving_all, releasing_all, held_of, IsBooks, IsHolding};
 
 use crate::board::Board;
 use crate::mark::Mark;

@@ -19,7 +19,7 @@ pub struct Flags;
 
 impl Matter for Flags {
     ghost use Rattle.std.specs.Prelude.{ℕ};
-    ghost use Rattle.verdict_words.specs.Flags.{IsAllowed, Raises, IsOwnPlace, stays_allowed};
+    ghost use Rattle.verdict_words.specs.Inner.Flags.{IsAllowed, Raises, IsOwnPlace, stays_allowed};
 
     type Entry = Flag;
 

@@ -1,6 +1,6 @@
 use Rattle.std.proofs.Common.{◌≡◌, refl, ap, sym, ◌∙◌}
 use Rattle.proof_lines.specs.Lines.{LineTree, line_tree}
-use Rattle.proof_check.proofs.LineFacts.{no_line, read_line, same_line}
+use Rattle.proof_check.proofs.ForCallers.{no_line, read_line, same_line}
 use Rattle.cache_machine.proofs.verdicts.is_ask_line.Goals as goal
 
 pub returns-in-Ask : goal.returns-in-Ask

@@ -1,5 +1,5 @@
 use Rattle.nal_term.specs.Trees.{formula_tree}
-use Rattle.nal_subst.proofs.Names.{name_defined}
+use Rattle.nal_subst.proofs.ForCallers.{name_defined}
 use Rattle.form_lines.proofs.statements.goal_for_subject.Goals as goal
 
 pub unreachable-requires : goal.unreachable-requires

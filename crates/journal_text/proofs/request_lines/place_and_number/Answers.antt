@@ -2,7 +2,7 @@ use Rattle.std.proofs.Common.{◌≡◌, Err, ap, subst, sym}
 use Rattle.std.specs.Fmt.{decimal}
 use Rattle.std.proofs.lemmas.Result.{err_from_is_err_and}
 use Rattle.nal_term.specs.Names.{IsName}
-use Rattle.journal_text.specs.RequestForms.{cut}
+use Rattle.journal_text.specs.Inner.RequestForms.{cut}
 use Rattle.journal_text.specs.declared.request_lines.LineError.TheVariants.{Bad}
 use Rattle.journal_text.proofs.RequestCuts.{cut_is, name_has_no_space, no_cut}
 use Rattle.journal_text.proofs.request_lines.place_and_number.Goals as goal

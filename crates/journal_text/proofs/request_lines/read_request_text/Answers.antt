@@ -2,7 +2,7 @@ use Rattle.std.proofs.Common.{◌≡◌, Some, ap, subst, sym, ◌∙◌}
 use Rattle.std.proofs.lemmas.Result.{IfOk-weaker}
 use Rattle.session_wire.specs.declared.requests.Request.{Request}
 use Rattle.journal_text.specs.RequestLines.{IsRequestText}
-use Rattle.journal_text.specs.RequestForms.{HasParts, form_named, form_of, parts_of, word_of}
+use Rattle.journal_text.specs.Inner.RequestForms.{HasParts, form_named, form_of, parts_of, word_of}
 use Rattle.journal_text.proofs.OneRequest.{form_of_word, named_word, one_request, parts_of_text, text_of_parts, text_parts}
 use Rattle.journal_text.proofs.RequestCuts.{no_cut}
 use Rattle.journal_text.proofs.request_lines.read_request_text.Goals as goal

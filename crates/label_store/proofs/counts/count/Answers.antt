@@ -1,5 +1,5 @@
 use Rattle.std.proofs.Common.{◌≡◌, ap, arith, refl}
-use Rattle.label_store.specs.Held.{same_key}
+use Rattle.label_store.specs.Inner.Kept.{same_key}
 use Rattle.label_store.proofs.HeldCounts.{same_key-Decides, counted_le, one_if}
 use Rattle.label_store.proofs.counts.count.Goals as goal
 

@@ -1,5 +1,5 @@
 use Rattle.std.proofs.Common.{◌∙◌, sym, ap, arith, ◌+◌, ◌&&◌, cond, take, length-take}
-use Rattle.label_store.specs.Held.{same_key, counted}
+use Rattle.label_store.specs.Inner.Kept.{same_key, counted}
 use Rattle.label_store.proofs.HeldCounts.{key_of, one_if, counted_more, counted_le}
 use Rattle.label_store.proofs.counts.recount.Goals.{then-row, else-row}
 use Rattle.label_store.proofs.counts.recount.Goals as goal

@@ -1,6 +1,6 @@
 use Rattle.std.proofs.Common.{◌≡◌, ◌+◌, ◌≤◌, length, take}
 use Rattle.indexmap.specs.IndexMap.{index_map_len, spare}
-use Rattle.label_store.specs.Held.{Key, count_of, counted}
+use Rattle.label_store.specs.Inner.Kept.{Key, count_of, counted}
 use Rattle.label_store.proofs.counts.recount.Given as goal
 
 abbrev pub invariant-loop-place : goal.invariant-loop-place

@@ -3,7 +3,7 @@ use Rattle.std.proofs.lemmas.List.{take_all}
 use Rattle.goal_store.specs.GoalRows.{ports}
 use Rattle.proof_lines.specs.Lines.{line_tree, line_trees}
 use Rattle.policy_history.specs.Judged.{bindings_for}
-use Rattle.policy_history.specs.OneLine.{bindings_of_line}
+use Rattle.policy_history.specs.Inner.OneLine.{bindings_of_line}
 use Rattle.policy_history.proofs.CaseLists.{bindings_more, lines_more}
 use Rattle.policy_history.proofs.cases.bindings.Goals as goal
 

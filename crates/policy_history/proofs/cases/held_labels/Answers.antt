@@ -3,7 +3,7 @@ use Rattle.std.proofs.lemmas.List.{take_all}
 use Rattle.label_store.specs.LabelRows.{rows as label_rows}
 use Rattle.proof_lines.specs.Lines.{line_tree, line_trees}
 use Rattle.policy_history.specs.Judged.{labels_for}
-use Rattle.policy_history.specs.OneLine.{label_of_line}
+use Rattle.policy_history.specs.Inner.OneLine.{label_of_line}
 use Rattle.policy_history.proofs.CaseLists.{labels_more, lines_more}
 use Rattle.policy_history.proofs.cases.held_labels.Goals as goal
 

@@ -1,5 +1,5 @@
 use Rattle.std.proofs.Common.{[], ◌∷◌}
-use Rattle.nal_term.proofs.Closed.{closed_but_spec}
+use Rattle.nal_term.proofs.ForCallers.{closed_but_spec}
 use Rattle.nal_term.specs.Closed.{covers}
 use Rattle.nal_term.specs.Trees.{formula_tree}
 use Rattle.policy_history.proofs.Limits.{same_test}

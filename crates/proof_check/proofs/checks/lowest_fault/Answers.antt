@@ -3,7 +3,7 @@ use Rattle.std.proofs.lemmas.List.{length-map}
 use Rattle.nal_term.specs.Trees.{formula_tree}
 use Rattle.proof_lines.specs.Lines.{line_tree, line_trees}
 use Rattle.proof_check.specs.Sizes.{greatest_in, line_steps}
-use Rattle.proof_check.specs.Sound.{IsSoundAt}
+use Rattle.proof_check.specs.Inner.Sound.{IsSoundAt}
 use Rattle.proof_check.proofs.Costs.{until_number}
 use Rattle.proof_check.proofs.Found.{at_within}
 use Rattle.proof_check.proofs.Refuted.{sound_faultless}

@@ -3,7 +3,7 @@ use Rattle.nal_term.specs.Size.{node_count}
 use Rattle.nal_term.specs.Trees.{formula_tree}
 use Rattle.proof_lines.specs.Lines.{line_trees}
 use Rattle.proof_check.specs.Sizes.{greatest_in, line_steps}
-use Rattle.proof_check.specs.Sound.{IsSoundAt}
+use Rattle.proof_check.specs.Inner.Sound.{IsSoundAt}
 use Rattle.proof_check.proofs.checks.lowest_fault.Given as goal
 
 abbrev pub invariant-loop-number : goal.invariant-loop-number

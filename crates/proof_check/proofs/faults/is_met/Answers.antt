@@ -3,7 +3,7 @@ use Rattle.std.proofs.lemmas.List.{length-map}
 use Rattle.nal_term.specs.Trees.{formula_tree}
 use Rattle.proof_lines.specs.Lines.{line_tree, line_trees}
 use Rattle.nal_rules.specs.Faults.{Applies, hypotheses_of}
-use Rattle.proof_check.specs.Sound.{AreEarlier, IsMet}
+use Rattle.proof_check.specs.Inner.Sound.{AreEarlier, IsMet}
 use Rattle.proof_check.proofs.Reached.{hyps_told, hyps_missing}
 use Rattle.proof_check.proofs.Told.{bad_reference}
 use Rattle.proof_check.proofs.faults.is_met.Goals as goal

@@ -2,7 +2,7 @@ use Rattle.std.proofs.Common.{◌≡◌, ◌∙◌, ◌∷◌, [], length, ap, s
 use Rattle.nal_term.specs.Trees.{formula_tree}
 use Rattle.proof_lines.specs.Lines.{line_trees, reference_count}
 use Rattle.nal_rules.specs.Faults.{IsOutOfScope}
-use Rattle.proof_check.specs.Sound.{IsWithinScope}
+use Rattle.proof_check.specs.Inner.Sound.{IsWithinScope}
 use Rattle.proof_check.proofs.Shapes.{two_known, two_unknown_first, two_unknown_second}
 use Rattle.proof_check.proofs.faults.is_within_scope_at.Goals as goal
 

@@ -4,8 +4,8 @@ use Rattle.proof_lines.specs.Lines.{line_tree, line_trees}
 use Rattle.nal_term.specs.Trees.{formula_tree}
 use Rattle.nal_rules.specs.Faults.{fault_number}
 use Rattle.std.proofs.lemmas.Bool.{cases_lt}
-use Rattle.proof_check.specs.Numbered.{fault_at}
-use Rattle.proof_check.specs.Sound.{IsMet}
+use Rattle.proof_check.specs.Inner.Numbered.{fault_at}
+use Rattle.proof_check.specs.Inner.Sound.{IsMet}
 use Rattle.proof_check.specs.Sizes.{greatest_in}
 use Rattle.proof_check.proofs.Costs.{next_before}
 use Rattle.proof_check.proofs.Found.{at_within}

@@ -4,9 +4,9 @@ use Rattle.nal_term.specs.Trees.{formula_tree}
 use Rattle.proof_lines.specs.Lines.{line_tree, line_trees}
 use Rattle.nal_rules.specs.declared.verdicts.Fault.{Fault}
 use Rattle.nal_rules.specs.Faults.{fault_number}
-use Rattle.proof_check.specs.Costs.{steps_before}
+use Rattle.proof_check.specs.Inner.Costs.{steps_before}
 use Rattle.proof_check.specs.Sizes.{greatest_in}
-use Rattle.proof_check.specs.Sound.{IsMet}
+use Rattle.proof_check.specs.Inner.Sound.{IsMet}
 use Rattle.proof_check.proofs.faults.line_fault.Given as goal
 
 abbrev pub invariant-loop-place : goal.invariant-loop-place

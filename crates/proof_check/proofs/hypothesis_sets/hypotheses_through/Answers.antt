@@ -1,7 +1,7 @@
 use Rattle.std.proofs.Common.{◌∙◌, ap}
 use Rattle.std.specs.List.{list_any}
-use Rattle.proof_check.specs.LineSets.{column_of}
-use Rattle.proof_check.specs.Rests.{reaches}
+use Rattle.proof_check.specs.Inner.LineSets.{column_of}
+use Rattle.proof_check.specs.Inner.Rests.{reaches}
 use Rattle.proof_check.proofs.Reached.{plain_leads}
 use Rattle.proof_check.proofs.hypothesis_sets.hypotheses_through.Goals as goal
 

@@ -2,8 +2,8 @@ use Rattle.std.proofs.Common.{◌≡◌, ◌+◌, ◌-◌, ◌++◌, ◌∷◌, 
 use Rattle.std.proofs.lemmas.List.{length-map, length-append}
 use Rattle.proof_lines.specs.Lines.{line_tree, line_trees}
 use Rattle.nal_rules.specs.Faults.{line_at}
-use Rattle.proof_check.specs.LineSets.{column_of, holds}
-use Rattle.proof_check.specs.Rests.{IsColumnTo, rests_by}
+use Rattle.proof_check.specs.Inner.LineSets.{column_of, holds}
+use Rattle.proof_check.specs.Inner.Rests.{IsColumnTo, rests_by}
 use Rattle.proof_check.proofs.Found.{line_at_tree}
 use Rattle.proof_check.proofs.Reached.{column_ends, first_set, next_set}
 use Rattle.proof_check.proofs.hypothesis_sets.hypothesis_sets.Goals as goal

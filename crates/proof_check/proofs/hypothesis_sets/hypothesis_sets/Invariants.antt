@@ -1,7 +1,7 @@
 use Rattle.std.proofs.Common.{◌≡◌, ℕ, ◌+◌, length}
 use Rattle.proof_lines.specs.Lines.{line_trees}
-use Rattle.proof_check.specs.LineSets.{column_of}
-use Rattle.proof_check.specs.Rests.{IsColumnTo}
+use Rattle.proof_check.specs.Inner.LineSets.{column_of}
+use Rattle.proof_check.specs.Inner.Rests.{IsColumnTo}
 use Rattle.proof_check.proofs.hypothesis_sets.hypothesis_sets.Given as goal
 
 abbrev pub invariant-loop-index : goal.invariant-loop-index

@@ -1,7 +1,7 @@
 use Rattle.std.proofs.Common.{Err, ◌≡◌, ◌+◌, ◌++◌, ◌∷◌, [], append-nil, true, false, subst, sym}
 use Rattle.nal_term.specs.declared.lists.ListError.{ListError}
 use Rattle.proof_lines.specs.Lines.{line_tree}
-use Rattle.proof_check.specs.Kinds.{is_of_kind}
+use Rattle.proof_check.specs.Inner.Kinds.{is_of_kind}
 use Rattle.proof_check.specs.LineLists.{IsLineList}
 use Rattle.proof_check.proofs.Counted.{numbers_more, more_line_list}
 use Rattle.proof_check.proofs.numbers.numbers_of.Goals as goal

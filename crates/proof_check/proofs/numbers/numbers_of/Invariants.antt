@@ -1,7 +1,7 @@
 use Rattle.std.proofs.Common.{◌≡◌, take}
 use Rattle.proof_lines.specs.Lines.{line_trees}
 use Rattle.nal_rules.specs.Faults.{numbers_from}
-use Rattle.proof_check.specs.Kinds.{is_of_kind}
+use Rattle.proof_check.specs.Inner.Kinds.{is_of_kind}
 use Rattle.proof_check.proofs.numbers.numbers_of.Given as goal
 
 abbrev pub invariant-loop-index : goal.invariant-loop-index

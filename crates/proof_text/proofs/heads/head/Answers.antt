@@ -1,7 +1,7 @@
 use Rattle.std.proofs.Common.{sym, subst, ◌∙◌, option_map}
 use Rattle.nal_term.specs.Trees.{term_tree}
 use Rattle.proof_text.specs.ProofText.{BeginsWithOptionalTerm}
-use Rattle.proof_text.specs.Reading.{Reads, NoForm}
+use Rattle.proof_text.specs.Inner.Reading.{Reads, NoForm}
 use Rattle.proof_text.proofs.HeadParts as parts
 use Rattle.proof_text.proofs.heads.head.Goals as goal
 

@@ -1,6 +1,6 @@
 use Rattle.std.proofs.Common.{arith}
 use Rattle.nal_term.specs.Trees.{formula_tree}
-use Rattle.proof_text.specs.Reading.{head_of}
+use Rattle.proof_text.specs.Inner.Reading.{head_of}
 use Rattle.proof_text.proofs.LineParts as parts
 use Rattle.proof_text.proofs.lines.line.Goals as goal
 

@@ -2,7 +2,7 @@ use Rattle.std.proofs.Common.{arith, ◌≡◌, ℕ, List, ◌≤◌, ◌+◌, l
 use Rattle.std.proofs.lemmas.List.{take_all, take_more_set}
 use Rattle.proof_text.specs.ProofText.{BeginsWithNumbers}
 use Rattle.proof_text.specs.ProofText.BeginsWithNumbers.{none}
-use Rattle.proof_text.specs.Reading.{Reads}
+use Rattle.proof_text.specs.Inner.Reading.{Reads}
 use Rattle.proof_text.proofs.Numbers.{numbers_push, numbers_read, numbers_stop}
 use Rattle.proof_text.proofs.parts.numbers.Goals as goal
 

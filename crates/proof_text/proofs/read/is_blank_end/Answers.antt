@@ -1,7 +1,7 @@
 use Rattle.std.proofs.Common.{◌≡◌, List, ℕ, ◌∷◌, [], IsTrue, false, ap, sym, ◌∙◌}
 use Rattle.std.specs.Option.{option_copied}
 use Rattle.proof_text.specs.ProofText.{segments}
-use Rattle.proof_text.specs.Reading.{segments_after}
+use Rattle.proof_text.specs.Inner.Reading.{segments_after}
 use Rattle.proof_text.proofs.Pieces.{segments_some}
 use Rattle.proof_text.proofs.read.is_blank_end.Goals as goal
 

@@ -3,8 +3,8 @@ use Rattle.std.proofs.lemmas.List.{length_push}
 use Rattle.std.specs.Option.{option_copied}
 use Rattle.proof_lines.specs.declared.lines.Line.{Line}
 use Rattle.proof_lines.specs.Lines.{line_tree, line_trees}
-use Rattle.proof_text.specs.Reading.{segments_after}
-use Rattle.proof_text.specs.Bodies.{ReadsLine}
+use Rattle.proof_text.specs.Inner.Reading.{segments_after}
+use Rattle.proof_text.specs.Inner.Lines.{ReadsLine}
 use Rattle.proof_text.proofs.LineParts.{line_form}
 use Rattle.proof_text.proofs.Texts.{refutes}
 use Rattle.proof_text.proofs.Walk as walk

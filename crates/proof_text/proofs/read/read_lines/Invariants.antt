@@ -1,7 +1,7 @@
 use Rattle.std.proofs.Common.{◌≤◌, ◌+◌, length}
 use Rattle.std.specs.Option.{option_copied}
 use Rattle.proof_lines.specs.Lines.{line_trees}
-use Rattle.proof_text.specs.Reading.{segments_after, left}
+use Rattle.proof_text.specs.Inner.Reading.{segments_after, left}
 use Rattle.proof_text.proofs.Walk.{Carries}
 use Rattle.proof_text.proofs.read.read_lines.Given as goal
 

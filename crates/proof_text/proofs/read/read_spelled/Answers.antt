@@ -1,6 +1,6 @@
 use Rattle.std.proofs.Common.{◌≤◌, length, arith}
 use Rattle.std.specs.Option.{option_copied}
-use Rattle.proof_text.specs.Reading.{segments_after}
+use Rattle.proof_text.specs.Inner.Reading.{segments_after}
 use Rattle.proof_text.proofs.Texts.{body_of, header_refused, body_refused, not_both, refutes, ok_gives, err_gives}
 use Rattle.proof_text.proofs.read.read_spelled.Goals as goal
 

@@ -1,7 +1,7 @@
 use Rattle.std.proofs.Common.{◌≡◌, ◌≤◌, ◌+◌, length}
 use Rattle.std.specs.Option.{option_copied}
 use Rattle.proof_text.specs.Places.{end_place, end_segment_of}
-use Rattle.proof_text.specs.Reading.{segments_after, left}
+use Rattle.proof_text.specs.Inner.Reading.{segments_after, left}
 use Rattle.proof_text.proofs.segments.end_segment.Given as goal
 
 abbrev pub invariant-loop-rest : goal.invariant-loop-rest

@@ -1,7 +1,7 @@
 use Rattle.std.proofs.Common.{length, map, subst, sym}
 use Rattle.policy_history.specs.Values.{entry_trees}
 use Rattle.cache_machine.specs.Views.{actor_tree}
-use Rattle.cache_machine.specs.Words.{IsWorded}
+use Rattle.cache_machine.specs.Inner.Words.{IsWorded}
 use Rattle.cache_machine.proofs.Starting.{first_worded, made_first, trees_length}
 use Rattle.cache_machine.proofs.machine.Machine.new.Goals as goal
 

@@ -1,7 +1,7 @@
 use Rattle.std.proofs.Common.{◌∙◌, sym, ap, subst}
 use Rattle.std.specs.Option.{is_some}
 use Rattle.nal_term.specs.Trees.{formula_tree}
-use Rattle.goal_store.specs.Held.{AreHeld}
+use Rattle.goal_store.specs.Inner.Places.{AreHeld}
 use Rattle.goal_store.proofs.HeldGoals.{goal_place_of_key, goal_of_key, goal_of_unknown, is_some-option_map, held-remove, rows-remove, rows_in}
 use Rattle.goal_store.proofs.goals.GoalStore.clear.Goals as goal
 

@@ -1,6 +1,6 @@
 use Rattle.std.proofs.Common.{◌∙◌, sym, ap, map}
 use Rattle.std.specs.Option.{is_some}
-use Rattle.nal_term.proofs.EntryRows.{map-remove}
+use Rattle.nal_term.proofs.ForCallers.{map-remove}
 use Rattle.goal_store.specs.GoalRows.{port_row}
 use Rattle.goal_store.proofs.HeldPorts.{port_place_of_key, port_of_key}
 use Rattle.goal_store.proofs.goals.GoalStore.unbind.Goals as goal

@@ -1,6 +1,6 @@
 use Rattle.std.proofs.Common.{◌∙◌, sym, refl, true, arith}
 use Rattle.label_store.specs.declared.labels.LabelRefusal.TheVariants as LabelRefusal
-use Rattle.label_store.specs.Held.{hole}
+use Rattle.label_store.specs.Inner.Kept.{hole}
 use Rattle.indexmap.specs.Layout.{set_value_at}
 use Rattle.label_store.proofs.LiveRows.{some_is_no_none, same_some}
 use Rattle.label_store.proofs.HeldLabels.{refused_none, refused_other, holder_is, removed_rows, set_held, tidied_held, tidied_rows}

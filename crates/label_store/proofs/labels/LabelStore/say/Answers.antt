@@ -1,7 +1,7 @@
 use Rattle.std.proofs.Common.{◌∙◌, sym, subst, ap, ◌<◌, ◌≤◌, ◌+◌, length, length-append, [], ◌∷◌, true, arith}
 use Rattle.std.specs.List.{list_any, All}
 use Rattle.label_store.specs.LabelRows.{LabelRow, rows}
-use Rattle.label_store.specs.Held.{same_label, same_key, counted}
+use Rattle.label_store.specs.Inner.Kept.{same_label, same_key, counted}
 use Rattle.label_store.proofs.HeldLabels.{above_entries, said_rows, said_held}
 use Rattle.label_store.proofs.HeldCounts.{counted_push, one_if, tidied_counted, tidied_length}
 use Rattle.label_store.proofs.labels.LabelStore.say.Goals as goal

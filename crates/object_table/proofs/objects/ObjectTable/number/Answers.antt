@@ -1,5 +1,5 @@
 use Rattle.std.proofs.Common.{◌∙◌, sym}
-use Rattle.nal_term.proofs.NamePlaces.{name_at_place, name_without_place}
+use Rattle.nal_term.proofs.ForCallers.{name_at_place, name_without_place}
 use Rattle.object_table.proofs.objects.ObjectTable.number.Goals as goal
 
 pub returns-in-Some-clause-found : goal.returns-in-Some-clause-found

@@ -3,7 +3,7 @@ use Rattle.std.specs.Option.{option_or}
 use Rattle.std.proofs.lemmas.List.Folds.{find-append}
 use Rattle.policy_history.specs.declared.heads.Head.{Head}
 use Rattle.policy_history.specs.declared.events.Refusal.{Refusal}
-use Rattle.policy_history.specs.Early.{early_refusals, late_refusals, early_refusal, late_refusal}
+use Rattle.policy_history.specs.Inner.Early.{early_refusals, late_refusals, early_refusal, late_refusal}
 use Rattle.policy_history.specs.Events.{EventTree, event_tree}
 use Rattle.policy_history.specs.Machine.{applies, refusal_of}
 use Rattle.policy_history.specs.States.{State}

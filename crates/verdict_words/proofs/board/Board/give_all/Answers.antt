@@ -2,7 +2,7 @@ use Rattle.std.proofs.Common.{rules, ◌≡◌, suc, ◌+◌, ◌<◌, sym, ap, 
 use Rattle.std.proofs.lemmas.List.{length-map}
 use Rattle.verdict_words.specs.Steps.{releasing}
 use Rattle.verdict_words.specs.Values.{seen_of}
-use Rattle.verdict_words.specs.Settling.{met_held, releasing_all, held_of}
+use Rattle.verdict_words.specs.Inner.Settling.{met_held, releasing_all, held_of}
 use Rattle.verdict_words.proofs.Settled.{next, many_held, releasing_next, progress, progress_at, progress_next}
 use Rattle.verdict_words.proofs.board.Board.give_all.Goals as goal
 

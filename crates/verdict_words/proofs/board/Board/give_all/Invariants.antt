@@ -1,6 +1,6 @@
 use Rattle.std.proofs.Common.{◌≡◌, [], map, take}
 use Rattle.verdict_words.specs.Values.{seen_of}
-use Rattle.verdict_words.specs.Settling.{met_held, releasing_all, held_of}
+use Rattle.verdict_words.specs.Inner.Settling.{met_held, releasing_all, held_of}
 use Rattle.verdict_words.proofs.Settled.{progress}
 use Rattle.verdict_words.proofs.board.Board.give_all.Given as goal
 

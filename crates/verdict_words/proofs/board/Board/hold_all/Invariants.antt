@@ -1,5 +1,5 @@
 use Rattle.std.proofs.Common.{◌≡◌, [], map, take}
-use Rattle.verdict_words.specs.Settling.{away, receiving_all}
+use Rattle.verdict_words.specs.Inner.Settling.{away, receiving_all}
 use Rattle.verdict_words.proofs.Settled.{progress}
 use Rattle.verdict_words.proofs.board.Board.hold_all.Given as goal
 

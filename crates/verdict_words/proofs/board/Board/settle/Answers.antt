@@ -7,7 +7,8 @@ use Rattle.verdict_words.specs.Words.{register_word}
 use Rattle.verdict_words.specs.Rule.{IsPart, AreOf}
 use Rattle.verdict_words.specs.Steps.{checked}
 use Rattle.verdict_words.specs.Values.{PassValue, seen_of}
-use Rattle.verdict_words.specs.Settling.{met_held, all_met, held_of}
+use Rattle.verdict_words.specs.Settling.{all_met}
+use Rattle.verdict_words.specs.Inner.Settling.{met_held, held_of}
 use Rattle.verdict_words.proofs.Meetings.{checks}
 use Rattle.verdict_words.proofs.PassSteps.{asked}
 use Rattle.verdict_words.proofs.Seated.{rests, rests_seated}

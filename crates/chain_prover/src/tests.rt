@@ -1,4 +1,0 @@
-mod cases;
-mod chains;
-mod formulas;
-mod limits;

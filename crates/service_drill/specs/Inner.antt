@@ -1,0 +1,31 @@
+-- Words that only the contracts of private functions use. No statement about a run rests on them.
+use Rattle.std.specs.Prelude.{◌≡◌, ℕ, List, map, Some}
+use Rattle.std.specs.List.{count_by, sum_by}
+use Rattle.nx_io.specs.MemoryDoors.{Doorway}
+use Rattle.nx_io.specs.MemoryLinks.{Wire}
+use Rattle.session_core.specs.declared.board_serving.Report.{Report}
+use Rattle.session_wire.specs.declared.replies.Reply.{Reply}
+use Rattle.session_wire.specs.Frames.{reply_frames}
+use Rattle.nexus_serve.specs.Views.{DoorView, LinkView, door_view, link_view}
+use Rattle.service_drill.specs.Runs.{allows, denies}
+
+-- what a link in memory tells, and a door
+abbrev pub wire_view : Wire → LinkView
+wire_view = link_view (λ (l : Wire). Some l.supply.left) (λ l. l.supply.given) (λ l. l.store.sent) (λ l. l.supply.over) (λ l. l.closed) (λ l. l.place) (λ l. l.toward) (λ l. l.faults)
+
+abbrev pub view_of : Doorway → DoorView
+view_of = door_view wire_view (λ (d : Doorway). Some d.links) (λ d. d.over) (λ d. d.gave) (λ d. d.listened) (λ d. d.faults)
+
+-- the bytes are the frames of replies, of which so many allow a call and so many deny one
+pub record CountsReplies (sent : List ℕ) (counts : ℕ × ℕ) : Type 0 where
+  pub replies : List Reply
+  pub replies_are : sent ≡ reply_frames replies
+  pub allowed : counts.0 ≡ count_by allows replies
+  pub denied : counts.1 ≡ count_by denies replies
+
+-- so of the links of reports, all together
+pub record CountsReports (reports : List (Report Wire)) (counts : ℕ × ℕ) : Type 0 where
+  pub replies : List (List Reply)
+  pub replies_are : map (λ (report : Report Wire). report.link.store.sent) reports ≡ map reply_frames replies
+  pub allowed : counts.0 ≡ sum_by (count_by allows) replies
+  pub denied : counts.1 ≡ sum_by (count_by denies) replies

@@ -1,0 +1,54 @@
+-- What the calls of a settlement do to what a seat knows, one after another.
+use Rattle.std.specs.Prelude.{◌≡◌, ◌≢◌, ℕ, ◌<◌, ◌≤◌, List, [], ◌∷◌, ◌++◌, length, map, All}
+use Rattle.atomic_table.specs.Table.{Me}
+use Rattle.verdict_words.specs.Histories.{IsPrefix, own}
+use Rattle.verdict_words.specs.Steps.{receiving, releasing, without}
+use Rattle.verdict_words.specs.Values.{Identity, SeatValue, PassValue, met_seen, board_of, resting}
+use Rattle.verdict_words.specs.declared.views.Item.{Item}
+use Rattle.verdict_words.specs.declared.views.Item.TheVariants.{Met}
+use Rattle.verdict_words.specs.declared.views.PassView.{PassView}
+use Rattle.verdict_words.specs.declared.views.BookView.{BookView}
+use Rattle.verdict_words.specs.declared.views.View.{View}
+use Rattle.verdict_words.specs.declared.views.View.TheVariants.{Book, Pass, Spent}
+use Rattle.verdict_words.specs.Settling.{met_of}
+
+module _ {E H : Type 0} where
+  -- a pass that the book holds, once it was met
+  abbrev pub met_held : Identity E H → List E → PassView E H → PassValue E H
+  met_held board entries p = met_of board entries p.session p.trail
+
+  -- what the seat of a pass knows
+  abbrev pub view_of : PassValue E H → View E H
+  view_of pass = resting pass.board.origin pass.session pass.seen pass.trail
+
+  -- a pass whose view the book holds
+  abbrev pub away : PassValue E H → PassValue E H
+  away pass = record { board = board_of {E = E} {H = H} Spent pass.board; session = pass.session; seen = []; trail = [] }
+
+  -- the book takes passes in, one after another
+  abbrev pub receiving_all : View E H → List (PassValue E H) → View E H
+  receiving_all v [] = v
+  receiving_all v (pass ∷ passes) = receiving_all (receiving v (view_of pass)) passes
+
+  -- the book gives so many passes back
+  abbrev pub releasing_all : List (PassView E H) → View E H → View E H
+  releasing_all [] v = v
+  releasing_all (p ∷ ps) v = releasing_all ps (releasing v)
+
+  abbrev pub held_of : View E H → List (PassView E H)
+  held_of (Book b) = b.held
+  held_of (Pass p) = []
+  held_of Spent = []
+
+  -- the seat is the book's
+  abbrev pub IsBooks : Me (Unit {0}) (View E H) → Type 0
+  IsBooks me = (b : BookView E H) × (me ≡ (Book b, []))
+
+  -- The book's seat holds passes of this board that can be given back: the history is of this length, and the sessions are numbered from the first one on
+  pub record IsHolding (board : Identity E H) (count : ℕ) (sessions : List ℕ) (me : Me (Unit {0}) (View E H)) : Type 0 where
+    pub book : BookView E H
+    pub is : me ≡ (Book book, [])
+    pub long : count ≡ length book.history
+    pub begins : IsPrefix board.origin.opening book.history
+    pub of : All (λ (p : PassView E H). (p.origin ≡ board.origin) × (board.origin.first ≤ p.session)) book.held
+    pub sessions_are : sessions ≡ map (λ (p : PassView E H). p.session) book.held
