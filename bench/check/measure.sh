@@ -7,6 +7,7 @@
 # Needs python3, GNU time, and Debian's packages metamath and metamath-databases. Prints megabytes a second and the
 # peak of memory for
 #   policy      a proof of 256 lines with 4,096 labels and 4,096 answers of a kilobyte each,
+#   parts       the same with labels and answers of two hundred parts each, which differ in their leftmost part,
 #   proof       the same proof with the one label and the one answer that it needs,
 # the ratio to metamath's rate, and the seconds that the longest inputs, of 64 MiB, take. Each is the best of five
 # runs.
@@ -44,7 +45,7 @@ best /dev/null metamath "read $(basename "$library")" "verify proof *" exit
 peer=$(rate "$(stat -c %s "$library")" "$seconds")
 echo "metamath  $(stat -c %s "$library") bytes  $seconds s  $peer MB/s"
 
-for name in policy proof; do
+for name in policy parts proof; do
     bytes=$(stat -c %s "$work/$name")
     best "$work/$name" "$program" check
     own=$(rate "$bytes" "$seconds")

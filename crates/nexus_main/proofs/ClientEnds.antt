@@ -25,7 +25,7 @@ use Rattle.nexus_main.specs.Inner.Ends.{Tells, whole, part, nothing}
 use Rattle.nexus_main.specs.Clients.{AreRequestsOf, EndsClient, IsCompleteClient, RunsClient, client_status, no_memory, refusal_cut_off, refused, requests_form, source_failed, talked, unreached}
 use Rattle.nexus_main.specs.Commands.{IsPlain, client_words}
 use Rattle.nexus_main.specs.Services.{HandsBack}
-use Rattle.nexus_main.specs.declared.commands.Command.TheVariants.{Check, Script, Core, Trust, Prove, Recover}
+use Rattle.nexus_main.specs.declared.commands.Command.TheVariants.{Check, Script, Core, Trust, Prove, Recover, Drill}
 use Rattle.nexus_main.proofs.Programs.{apart}
 use Rattle.nexus_main.proofs.Refusals.{not_refused, refusal_status, refused_by}
 
@@ -155,6 +155,7 @@ client_not_plain are (Trust, within, e) = cc (sym are ∙ e)
 client_not_plain are (Prove, within, e) = cc (sym are ∙ e)
 client_not_plain are (Recover, within, e) = cc (sym are ∙ e)
 client_not_plain are (Core number steps, within, e) = cc (sym are ∙ e)
+client_not_plain are (Drill number workers calls, within, e) = cc (sym are ∙ e)
 
 -- what holds of what is handed back
 pub handed : {K : Type 0} {P Q : K → Type 0} (output : Option K) → ((k : K) → P k → Q k) → HandsBack output P → HandsBack output Q

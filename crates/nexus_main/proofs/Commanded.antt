@@ -3,24 +3,24 @@ use Rattle.std.proofs.Common.{◌≡◌, ◌==◌, ◌∷◌, false, ℕ, List, 
 use Rattle.std.proofs.lemmas.Bool.Decides.{Decides-eqb}
 use Rattle.policy_history.specs.Values.{History}
 use Rattle.run_streams.specs.Runs.{SinkRun, SourceRun}
-use Rattle.nexus_main.specs.declared.commands.Command.TheVariants.{Check, Script, Core, Trust, Prove, Recover}
-use Rattle.nexus_main.specs.Commands.{IsLoad, IsPlain, check_words, core_words, prove_words, recover_words, script_words, trust_words}
+use Rattle.nexus_main.specs.declared.commands.Command.TheVariants.{Check, Script, Core, Trust, Prove, Recover, Drill}
+use Rattle.nexus_main.specs.Commands.{IsDrill, IsLoad, IsPlain, check_words, core_words, drill_words, prove_words, recover_words, script_words, trust_words}
 use Rattle.nexus_main.specs.Commanded.{RunsCommand}
-use Rattle.nexus_main.specs.Cores.{RunsCore}
+use Rattle.nexus_main.specs.LoadRuns.{RunsCore, RunsDrill}
 use Rattle.nexus_main.specs.Program.{RunsCheck}
 use Rattle.nexus_main.specs.Proves.{RunsProve}
 use Rattle.nexus_main.specs.Recovers.{RunsRecover}
 use Rattle.nexus_main.specs.Scripts.{PanelRun, RunsScript}
 use Rattle.nexus_main.specs.Trusts.{RunsTrust}
 use Rattle.nexus_main.specs.Answers.{no_memory as answer_memory}
-use Rattle.nexus_main.specs.Cores.{no_memory as core_memory}
+use Rattle.nexus_main.specs.LoadRuns.{no_memory as load_memory}
 use Rattle.nexus_main.specs.Program.{no_memory as check_memory}
 use Rattle.nexus_main.specs.Scripts.{no_memory as script_memory}
 use Rattle.nexus_main.proofs.AnswerEnds.{runs_answer}
-use Rattle.nexus_main.proofs.CoreEnds.{runs_core}
+use Rattle.nexus_main.proofs.LoadEnds.{runs_load}
 use Rattle.nexus_main.proofs.Programs.{apart, runs_check}
 use Rattle.nexus_main.proofs.ScriptEnds.{runs_script}
-use Rattle.nexus_main.proofs.Words.{core_same}
+use Rattle.nexus_main.proofs.Words.{core_same, drill_same}
 
 -- the words of no command, whatever is done
 pub none_commanded : {words : List (List ℕ)} {source : SourceRun} {sink : SinkRun} {panel : PanelRun} {journal : Option History} {status : ℕ} → (IsPlain words → ⊥)
@@ -32,6 +32,7 @@ none_commanded none = record {
   prove = λ e. absurd (none (Prove, tt, e));
   recover = λ e. absurd (none (Recover, tt, e));
   core = λ number steps e within. absurd (none (Core number steps, within, e));
+  drill = λ number workers calls e within. absurd (none (Drill number workers calls, within, e));
 }
 
 -- ---- The words of one command are not those of another
@@ -53,6 +54,7 @@ check_commanded are runs = record {
   prove = λ e. absurd (other_letter check_words prove_words are e refl);
   recover = λ e. absurd (other_letter check_words recover_words are e refl);
   core = λ number steps e within. absurd (cc (sym are ∙ e));
+  drill = λ number workers calls e within. absurd (cc (sym are ∙ e));
 }
 
 pub script_commanded : {words : List (List ℕ)} {source : SourceRun} {sink : SinkRun} {panel : PanelRun} {journal : Option History} {status : ℕ} → words ≡ script_words
@@ -64,6 +66,7 @@ script_commanded are runs = record {
   prove = λ e. absurd (other_letter script_words prove_words are e refl);
   recover = λ e. absurd (other_letter script_words recover_words are e refl);
   core = λ number steps e within. absurd (cc (sym are ∙ e));
+  drill = λ number workers calls e within. absurd (cc (sym are ∙ e));
 }
 
 pub trust_commanded : {words : List (List ℕ)} {source : SourceRun} {sink : SinkRun} {panel : PanelRun} {journal : Option History} {status : ℕ} → words ≡ trust_words
@@ -75,6 +78,7 @@ trust_commanded are runs = record {
   prove = λ e. absurd (other_letter trust_words prove_words are e refl);
   recover = λ e. absurd (other_letter trust_words recover_words are e refl);
   core = λ number steps e within. absurd (cc (sym are ∙ e));
+  drill = λ number workers calls e within. absurd (cc (sym are ∙ e));
 }
 
 pub prove_commanded : {words : List (List ℕ)} {source : SourceRun} {sink : SinkRun} {panel : PanelRun} {journal : Option History} {status : ℕ} → words ≡ prove_words
@@ -86,6 +90,7 @@ prove_commanded are runs = record {
   prove = λ e. runs;
   recover = λ e. absurd (other_letter prove_words recover_words are e refl);
   core = λ number steps e within. absurd (cc (sym are ∙ e));
+  drill = λ number workers calls e within. absurd (cc (sym are ∙ e));
 }
 
 pub recover_commanded : {words : List (List ℕ)} {source : SourceRun} {sink : SinkRun} {panel : PanelRun} {journal : Option History} {status : ℕ} → words ≡ recover_words
@@ -97,6 +102,7 @@ recover_commanded are runs = record {
   prove = λ e. absurd (other_letter recover_words prove_words are e refl);
   recover = λ e. runs;
   core = λ number steps e within. absurd (cc (sym are ∙ e));
+  drill = λ number workers calls e within. absurd (cc (sym are ∙ e));
 }
 
 pub core_commanded : {words : List (List ℕ)} {source : SourceRun} {sink : SinkRun} {panel : PanelRun} {journal : Option History} {status : ℕ} (m n : ℕ) → words ≡ core_words m n → IsLoad m n
@@ -108,6 +114,19 @@ core_commanded {sink = sink} {status = status} m n are mine runs = record {
   prove = λ e. absurd (cc (sym are ∙ e));
   recover = λ e. absurd (cc (sym are ∙ e));
   core = λ number steps e within. (let same = core_same number steps m n within mine (sym e ∙ are) in rw (same.0, same.1) runs);
+  drill = λ number workers calls e within. absurd (cc (sym are ∙ e));
+}
+
+pub drill_commanded : {words : List (List ℕ)} {source : SourceRun} {sink : SinkRun} {panel : PanelRun} {journal : Option History} {status : ℕ} (l m n : ℕ) → words ≡ drill_words l m n → IsDrill l m n
+    → RunsDrill l m n sink status → RunsCommand words source sink panel journal status
+drill_commanded {source = source} {sink = sink} {status = status} l m n are mine runs = record {
+  check = λ e. absurd (cc (sym are ∙ e));
+  script = λ e. absurd (cc (sym are ∙ e));
+  trust = λ e. absurd (cc (sym are ∙ e));
+  prove = λ e. absurd (cc (sym are ∙ e));
+  recover = λ e. absurd (cc (sym are ∙ e));
+  core = λ number steps e within. absurd (cc (sym are ∙ e));
+  drill = λ number workers calls e within. (let same = drill_same number workers calls l m n within mine (sym e ∙ are) in rw (same.0, same.1, same.2) runs);
 }
 
 -- ---- Where there was no memory for the words, nothing was read or written
@@ -120,5 +139,6 @@ memory_commanded {source = source} {sink = sink} {panel = panel} {status = statu
   trust = λ e. runs_answer (λ answer is e three. apart status 6 3 six three refl) (answer_memory six none still still_too);
   prove = λ e. runs_answer (λ answer is e three. apart status 6 3 six three refl) (answer_memory six none still still_too);
   recover = λ e. runs_answer (λ answer is e three. apart status 6 3 six three refl) (answer_memory six none still still_too);
-  core = λ number steps e within. runs_core (core_memory six none still_too);
+  core = λ number steps e within. runs_load (load_memory six none still_too);
+  drill = λ number workers calls e within. runs_load (load_memory six none still_too);
 }

@@ -3,7 +3,7 @@ use Rattle.std.proofs.Common.{◌≡◌, ◌≢◌, ◌<◌, ◌++◌, ◌∷◌
 use Rattle.std.proofs.lemmas.Bool.Decides.{Decides-eqb}
 use Rattle.nal_term.specs.Names.{IsName}
 use Rattle.nal_term.specs.Trees.{FormulaTree}
-use Rattle.nal_term.specs.declared.formulas.Formula.{Formula}
+use Rattle.nexus_main.specs.declared.keys.FormulaKey.{FormulaKey}
 use Rattle.form_lines.specs.Statements.{IsGoal, IsStatement}
 use Rattle.nexus_main.specs.CheckForm.{Stage, header_due, subject_due, labels_due, yes_due, proof_due, Follows, header, subject, label, first_yes, next_yes, goal, goal_after_yes}
 use Rattle.nexus_main.specs.Inner.Forms.{formula_trees}
@@ -16,7 +16,7 @@ header_wrong other (header e) = other e
 pub proof_wrong : {line x : List ℕ} {ls ys : List FormulaTree} {g : FormulaTree} {next : Stage} → Follows (proof_due x ls ys g) line next → ⊥
 proof_wrong f = elim f [ ]
 
-pub subject_follows : {line x y : List ℕ} {ls : List Formula} → line ≡ codes "subject " ++ x → IsName x → y ≡ x → ls ≡ [] → Follows subject_due line (labels_due y (formula_trees ls))
+pub subject_follows : {line x y : List ℕ} {ls : List FormulaKey} → line ≡ codes "subject " ++ x → IsName x → y ≡ x → ls ≡ [] → Follows subject_due line (labels_due y (formula_trees ls))
 subject_follows e n q l = rw (q, l) (subject e n)
 
 pub subject_wrong : {line : List ℕ} {next : Stage} → ((x : List ℕ) → line ≡ codes "subject " ++ x → IsName x → ⊥) → Follows subject_due line next → ⊥
@@ -49,19 +49,19 @@ label_not_goal e f = numbers_apart 108 103 (ap (λ (bs : List ℕ). get_or bs 0 
 pub yes_not_goal : {line x y : List ℕ} → line ≡ codes "yes " ++ x → line ≡ codes "goal " ++ y → ⊥
 yes_not_goal e f = numbers_apart 121 103 (ap (λ (bs : List ℕ). get_or bs 0 0) (sym e ∙ f)) refl
 
-pub label_follows : {line text x : List ℕ} {ls : List FormulaTree} (longer : List Formula) → line ≡ codes "label " ++ text → length ls < 4096
+pub label_follows : {line text x : List ℕ} {ls : List FormulaTree} (longer : List FormulaKey) → line ≡ codes "label " ++ text → length ls < 4096
     → ((f : FormulaTree) × IsStatement text f × (formula_trees longer ≡ ls ++ f ∷ [])) → Follows (labels_due x ls) line (labels_due x (formula_trees longer))
 label_follows longer e room m = rw m.2 (label e room m.1)
 
-pub first_yes_follows : {line text x : List ℕ} {ls : List FormulaTree} {none : List Formula} (longer : List Formula) → line ≡ codes "yes " ++ text → none ≡ []
+pub first_yes_follows : {line text x : List ℕ} {ls : List FormulaTree} {none : List FormulaKey} (longer : List FormulaKey) → line ≡ codes "yes " ++ text → none ≡ []
     → ((f : FormulaTree) × IsStatement text f × (formula_trees longer ≡ formula_trees none ++ f ∷ [])) → Follows (labels_due x ls) line (yes_due x ls (formula_trees longer))
 first_yes_follows longer e n m = let q = rw n at m.2 in rw q (first_yes e m.1)
 
-pub next_yes_follows : {line text x : List ℕ} {ls ys : List FormulaTree} (longer : List Formula) → line ≡ codes "yes " ++ text → length ys < 4096
+pub next_yes_follows : {line text x : List ℕ} {ls ys : List FormulaTree} (longer : List FormulaKey) → line ≡ codes "yes " ++ text → length ys < 4096
     → ((f : FormulaTree) × IsStatement text f × (formula_trees longer ≡ ys ++ f ∷ [])) → Follows (yes_due x ls ys) line (yes_due x ls (formula_trees longer))
 next_yes_follows longer e room m = rw m.2 (next_yes e room m.1)
 
-pub goal_follows : {line text x : List ℕ} {ls : List FormulaTree} {g : FormulaTree} {none : List Formula} → line ≡ codes "goal " ++ text → IsGoal text g → none ≡ []
+pub goal_follows : {line text x : List ℕ} {ls : List FormulaTree} {g : FormulaTree} {none : List FormulaKey} → line ≡ codes "goal " ++ text → IsGoal text g → none ≡ []
     → Follows (labels_due x ls) line (proof_due x ls (formula_trees none) g)
 goal_follows e g n = rw n (goal e g)
 
@@ -87,31 +87,31 @@ yes_wrong b c (goal_after_yes e g) = c _ _ e g
 pub header_only : {line : List ℕ} {next : Stage} → Follows header_due line next → next ≡ subject_due
 header_only (header e) = refl
 
-pub subject_only : {line x y : List ℕ} {ls : List Formula} {next : Stage} → line ≡ codes "subject " ++ x → y ≡ x → ls ≡ [] → Follows subject_due line next → next ≡ labels_due y (formula_trees ls)
+pub subject_only : {line x y : List ℕ} {ls : List FormulaKey} {next : Stage} → line ≡ codes "subject " ++ x → y ≡ x → ls ≡ [] → Follows subject_due line next → next ≡ labels_due y (formula_trees ls)
 subject_only e q l (subject f n) = rw (q, l, same_after_subject f e) refl
 
 -- one stage follows a label
-pub label_only : {line text x : List ℕ} {ls : List FormulaTree} {next : Stage} (longer : List Formula) → line ≡ codes "label " ++ text
+pub label_only : {line text x : List ℕ} {ls : List FormulaTree} {next : Stage} (longer : List FormulaKey) → line ≡ codes "label " ++ text
     → ((f : FormulaTree) → IsStatement text f → formula_trees longer ≡ ls ++ f ∷ []) → Follows (labels_due x ls) line next → next ≡ labels_due x (formula_trees longer)
 label_only {x = x} longer e only (label d room s) = ap (labels_due x) (sym (only _ (rw (same_after_label e d) s)))
 label_only longer e only (first_yes d s) = absurd (label_not_yes e d)
 label_only longer e only (goal d g) = absurd (label_not_goal e d)
 
 -- one stage follows the first yes formula
-pub first_yes_only : {line text x : List ℕ} {ls : List FormulaTree} {none : List Formula} {next : Stage} (longer : List Formula) → line ≡ codes "yes " ++ text → none ≡ []
+pub first_yes_only : {line text x : List ℕ} {ls : List FormulaTree} {none : List FormulaKey} {next : Stage} (longer : List FormulaKey) → line ≡ codes "yes " ++ text → none ≡ []
     → ((f : FormulaTree) → IsStatement text f → formula_trees longer ≡ formula_trees none ++ f ∷ []) → Follows (labels_due x ls) line next → next ≡ yes_due x ls (formula_trees longer)
 first_yes_only longer e n only (label d room s) = absurd (label_not_yes d e)
 first_yes_only {x = x} {ls = ls} longer e n only (first_yes d s) = ap (yes_due x ls) (sym (rw n at only _ (rw (same_after_yes e d) s)))
 first_yes_only longer e n only (goal d g) = absurd (yes_not_goal e d)
 
 -- one stage follows a further yes formula
-pub next_yes_only : {line text x : List ℕ} {ls ys : List FormulaTree} {next : Stage} (longer : List Formula) → line ≡ codes "yes " ++ text
+pub next_yes_only : {line text x : List ℕ} {ls ys : List FormulaTree} {next : Stage} (longer : List FormulaKey) → line ≡ codes "yes " ++ text
     → ((f : FormulaTree) → IsStatement text f → formula_trees longer ≡ ys ++ f ∷ []) → Follows (yes_due x ls ys) line next → next ≡ yes_due x ls (formula_trees longer)
 next_yes_only {x = x} {ls = ls} longer e only (next_yes d room s) = ap (yes_due x ls) (sym (only _ (rw (same_after_yes e d) s)))
 next_yes_only longer e only (goal_after_yes d g) = absurd (yes_not_goal e d)
 
 -- one stage follows the goal
-pub goal_only : {line text x : List ℕ} {ls : List FormulaTree} {g : FormulaTree} {none : List Formula} {next : Stage} → line ≡ codes "goal " ++ text → none ≡ []
+pub goal_only : {line text x : List ℕ} {ls : List FormulaTree} {g : FormulaTree} {none : List FormulaKey} {next : Stage} → line ≡ codes "goal " ++ text → none ≡ []
     → ((f : FormulaTree) → IsGoal text f → f ≡ g) → Follows (labels_due x ls) line next → next ≡ proof_due x ls (formula_trees none) g
 goal_only e n only (label d room s) = absurd (label_not_goal d e)
 goal_only e n only (first_yes d s) = absurd (yes_not_goal d e)

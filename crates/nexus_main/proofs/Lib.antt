@@ -1,6 +1,6 @@
 pub mod Following
 pub mod Segments
-pub mod Hashes
+pub mod SameKeys
 pub mod Inputs
 pub mod Verdicts
 pub mod Words
@@ -11,7 +11,7 @@ pub mod Justified
 mod ScriptEnds
 mod Refusals
 mod AnswerEnds
-mod CoreEnds
+mod LoadEnds
 mod Commanded
 mod ServiceEnds
 mod ClientEnds

@@ -1,11 +1,9 @@
 -- What a verdict rests on: that answers exist, where an ask line has its answer, and that each principal is bound.
-use Rattle.std.proofs.Common.{◌≡◌, ◌<◌, ◌≤◌, ◌+◌, ◌-◌, ◌⊎◌, ◌↔◌, inl, inr, ℕ, zero, suc, List, [], ◌∷◌, length, filter, take, Bool, true, false, not, IsTrue, Contains, slice_index_or, Option, Some, None, Result, Err, refl, sym, ap, subst, ◌∙◌, arith}
+use Rattle.std.proofs.Common.{◌≡◌, ◌<◌, ◌≤◌, ◌+◌, ◌-◌, ◌⊎◌, ◌↔◌, inl, inr, ℕ, zero, suc, List, [], ◌∷◌, length, filter, take, Bool, true, false, not, IsTrue, Contains, Option, Some, None, Result, Err, refl, sym, ap, subst, ◌∙◌, arith}
 use Rattle.std.specs.List.{slice_get, flat_map}
 use Rattle.std.proofs.lemmas.List.Elements.{Contains-append_left, Contains-append_right, Contains-append_cases}
 use Rattle.std.specs.Prelude.{codes}
 use Rattle.std.proofs.lemmas.List.{length-map}
-use Rattle.nal_term.specs.declared.formulas.Formula.{Formula}
-use Rattle.nexus_main.specs.Inner.Forms.{formula_trees}
 use Rattle.nal_term.specs.Trees.{TermTree, FormulaTree, formula_tree, says}
 use Rattle.nal_term.specs.Trees as tree
 use Rattle.nal_subst.specs.Substitution.{formula_with}
@@ -14,7 +12,7 @@ use Rattle.proof_lines.specs.declared.lines.Line.{Line}
 use Rattle.proof_lines.specs.Lines.{LineTree, line_tree, line_trees}
 use Rattle.std.proofs.lemmas.Option.{slice_get_within}
 use Rattle.nal_rules.specs.Faults.{is_ask, line_at, HasLowestFault, IsFaultless}
-use Rattle.nal_rules.proofs.Same.{same_formula}
+use Rattle.nal_rules.proofs.ForCallers.{same_formula}
 use Rattle.nal_rules.specs.Verdicts.{HasCause, IsMissingLabel, IsUnbound, IsAnsweredNo, cause_number}
 use Rattle.nal_rules.specs.declared.verdicts.Fault.{Fault}
 use Rattle.nal_rules.specs.declared.verdicts.Cause.{Cause}
@@ -132,22 +130,6 @@ no_unanswered : {ys : List FormulaTree} (proof : List LineTree) (bs : List Bool)
     → IsAnsweredNo proof bs k → IsUnanswered proof ys k
 no_unanswered proof bs a zero u = absurd (cc u.1)
 no_unanswered proof bs a (suc k) u = (u.0, u.1, u.2, λ c. u.3 ((answered proof bs a k u.0 u.1 u.2).1 c))
-
--- a formula that none of a list's is equal to is not among its trees
-pub not_among : (fs : List Formula) (f : Formula) (n : ℕ) → length fs ≤ n
-    → ((k : ℕ) (d : Formula) → k < n → formula_tree (slice_index_or fs k d) ≡ formula_tree f → ⊥) → IsTrue false ↔ Contains (formula_trees fs) (formula_tree f)
-not_among fs f n h inv = (
-  (λ t. absurd (cc t)),
-  λ c.
-      let s = length-map fs formula_tree in
-      let short : c.0 < length fs = omega (arith, c.1, s) in
-      absurd (inv c.0 f (omega (arith, short, h)) (get_tree fs c.0 f ∙ c.2)),
-)
-  where
-    get_tree : (fs : List Formula) (k : ℕ) (f : Formula) → formula_tree (slice_index_or fs k f) ≡ slice_index_or (formula_trees fs) k (formula_tree f)
-    get_tree [] k f = refl
-    get_tree (g ∷ gs) zero f = refl
-    get_tree (g ∷ gs) (suc k) f = get_tree gs k f
 
 get_line : (ls : List Line) (i : ℕ) (l : Line) → Some l ≡ slice_get ls i → slice_get (line_trees ls) i ≡ Some (line_tree l)
 get_line [] i l e = absurd (cc e)

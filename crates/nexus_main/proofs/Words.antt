@@ -11,9 +11,9 @@ use Rattle.std.proofs.lemmas.Str.Ascii.{IsAscii-from_all}
 use Rattle.std.specs.List.{list_all}
 use Rattle.std.specs.Prelude.{nat_le, ◌&&◌}
 use Rattle.nal_term.specs.Secrets.{is_secret_byte}
-use Rattle.nexus_main.specs.Commands.{IsAddress, IsCommand, IsLoad, IsService, IsWithin, check_words, client_words, command_words, core_words, prove_words, recover_words, script_words, serve_words, trust_words}
+use Rattle.nexus_main.specs.Commands.{IsAddress, IsCommand, IsDrill, IsLoad, IsService, IsWithin, check_words, client_words, command_words, core_words, drill_words, prove_words, recover_words, script_words, serve_words, trust_words}
 use Rattle.nexus_main.specs.declared.commands.Command.{Command}
-use Rattle.nexus_main.specs.declared.commands.Command.TheVariants.{Check, Script, Core, Trust, Prove, Recover}
+use Rattle.nexus_main.specs.declared.commands.Command.TheVariants.{Check, Script, Core, Trust, Prove, Recover, Drill}
 
 -- one text more
 pub next_text : {T W : Type 0} (f : T → List ℕ) (g : W → List ℕ) (ts us : List T) (ws : List W) (t : T) (w : W) (k : ℕ) → map f ts ≡ take k (map g ws)
@@ -68,6 +68,48 @@ core_same number steps m n within other e =
     let first : decimal number ≡ decimal m = cc e in
     let second : decimal steps ≡ decimal n = cc e in
     (decimal_injective number m within.number_is other.number_is first, decimal_injective steps n (steps_small number steps within) (steps_small m n other) second)
+
+drill_is_text : IsUtf8 (codes "drill")
+unfolding lib.Utf8.encode
+drill_is_text = (codes "drill", (refl, refl))
+
+-- so few workers and calls are counted in 64 bits
+workers_small : (number workers calls : ℕ) → IsDrill number workers calls → workers < 2 ^ 64
+workers_small number workers calls within = let few = within.workers_are in omega (arith, few)
+
+calls_small : (number workers calls : ℕ) → IsDrill number workers calls → calls < 2 ^ 64
+calls_small number workers calls within = let few = within.calls_are in omega (arith, few)
+
+drill_words_are_texts : (number workers calls : ℕ) → IsDrill number workers calls → All IsUtf8 (drill_words number workers calls)
+drill_words_are_texts number workers calls within =
+    All-cons IsUtf8 (codes "drill") (decimal number ∷ decimal workers ∷ decimal calls ∷ []) drill_is_text
+    (All-cons IsUtf8 (decimal number) (decimal workers ∷ decimal calls ∷ []) (number_is_text number within.number_is)
+    (All-cons IsUtf8 (decimal workers) (decimal calls ∷ []) (number_is_text workers (workers_small number workers calls within))
+    (All-cons IsUtf8 (decimal calls) [] (number_is_text calls (calls_small number workers calls within)) (All-nil IsUtf8))))
+
+-- the words of `drill` tell its numbers
+pub drill_same : (number workers calls l m n : ℕ) → IsDrill number workers calls → IsDrill l m n → drill_words number workers calls ≡ drill_words l m n
+    → (number ≡ l) × (workers ≡ m) × (calls ≡ n)
+drill_same number workers calls l m n within other e =
+    let first : decimal number ≡ decimal l = cc e in
+    let second : decimal workers ≡ decimal m = cc e in
+    let third : decimal calls ≡ decimal n = cc e in (
+      decimal_injective number l within.number_is other.number_is first,
+      decimal_injective workers m (workers_small number workers calls within) (workers_small l m n other) second,
+      decimal_injective calls n (calls_small number workers calls within) (calls_small l m n other) third,
+    )
+
+-- a load in threads is told by its words
+pub drill_told : (number workers calls workers_read calls_read : ℕ) (words : List (List ℕ)) (word a b c : List ℕ) → words ≡ word ∷ a ∷ b ∷ c ∷ []
+    → words ≡ drill_words number workers calls → b ≡ decimal workers_read → c ≡ decimal calls_read → workers_read < 2 ^ 64 → calls_read < 2 ^ 64
+    → IsDrill number workers calls → (workers_read ≡ workers) × (calls_read ≡ calls)
+drill_told number workers calls workers_read calls_read words word a b c are told y z small small_too within =
+    let all = sym are ∙ told in
+    let second : b ≡ decimal workers = cc all in
+    let third : c ≡ decimal calls = cc all in (
+      decimal_injective workers_read workers small (workers_small number workers calls within) (sym y ∙ second),
+      decimal_injective calls_read calls small_too (calls_small number workers calls within) (sym z ∙ third),
+    )
 
 -- digits tell how many steps a load has
 pub same_steps : (n number steps : ℕ) → n < 2 ^ 64 → IsLoad number steps → decimal n ≡ decimal steps → n ≡ steps
@@ -151,6 +193,7 @@ plain_is_text Script within = script_words_are_texts
 plain_is_text Trust within = trust_words_are_texts
 plain_is_text Prove within = prove_words_are_texts
 plain_is_text Recover within = recover_words_are_texts
+plain_is_text (Drill number workers calls) within = drill_words_are_texts number workers calls within
 plain_is_text (Core number steps) within = core_words_are_texts number steps within
 
 client_is_text : IsUtf8 (codes "client")

@@ -2,8 +2,8 @@
 use Rattle.std.specs.Prelude.{◌≡◌, ℕ, List, Option}
 use Rattle.policy_history.specs.Values.{History}
 use Rattle.run_streams.specs.Runs.{SinkRun, SourceRun}
-use Rattle.nexus_main.specs.Commands.{IsLoad, check_words, core_words, prove_words, recover_words, script_words, trust_words}
-use Rattle.nexus_main.specs.Cores.{RunsCore}
+use Rattle.nexus_main.specs.Commands.{IsDrill, IsLoad, check_words, core_words, drill_words, prove_words, recover_words, script_words, trust_words}
+use Rattle.nexus_main.specs.LoadRuns.{RunsCore, RunsDrill}
 use Rattle.nexus_main.specs.Program.{RunsCheck}
 use Rattle.nexus_main.specs.Proves.{RunsProve}
 use Rattle.nexus_main.specs.Recovers.{RunsRecover}
@@ -18,3 +18,4 @@ pub record RunsCommand (words : List (List ℕ)) (source : SourceRun) (sink : Si
   pub prove : words ≡ prove_words → RunsProve source sink status
   pub recover : words ≡ recover_words → RunsRecover source sink status
   pub core : (number steps : ℕ) → words ≡ core_words number steps → IsLoad number steps → RunsCore number steps sink status
+  pub drill : (number workers calls : ℕ) → words ≡ drill_words number workers calls → IsDrill number workers calls → RunsDrill number workers calls sink status

@@ -3,7 +3,7 @@ use Rattle.std.specs.Prelude.{◌≡◌, ◌≢◌, ◌<◌, ◌≤◌, ◌^◌,
 use Rattle.std.specs.Fmt.{decimal}
 use Rattle.nal_term.specs.Secrets.{IsSecret}
 use Rattle.nexus_main.specs.declared.commands.Command.{Command}
-use Rattle.nexus_main.specs.declared.commands.Command.TheVariants.{Check, Script, Core, Trust, Prove, Recover}
+use Rattle.nexus_main.specs.declared.commands.Command.TheVariants.{Check, Script, Core, Trust, Prove, Recover, Drill}
 
 abbrev pub check_words : List (List ℕ)
 check_words = codes "check" ∷ []
@@ -33,6 +33,16 @@ pub record IsLoad (number steps : ℕ) : Type 0 where
   pub number_is : number < 2 ^ 64
   pub steps_are : steps ≤ most_steps
 
+-- a number from which a load is drawn, on how many workers it runs, and how many drawn requests each has
+abbrev pub drill_words : ℕ → ℕ → ℕ → List (List ℕ)
+drill_words number workers calls = codes "drill" ∷ decimal number ∷ decimal workers ∷ decimal calls ∷ []
+
+-- the numbers of `drill` are within their bounds
+pub record IsDrill (number workers calls : ℕ) : Type 0 where
+  pub number_is : number < 2 ^ 64
+  pub workers_are : (1 ≤ workers) × (workers ≤ 64)
+  pub calls_are : (1 ≤ calls) × (calls ≤ 4000)
+
 -- the words of a command
 abbrev pub command_words : Command → List (List ℕ)
 command_words Check = check_words
@@ -41,10 +51,12 @@ command_words Trust = trust_words
 command_words Prove = prove_words
 command_words Recover = recover_words
 command_words (Core number steps) = core_words number steps
+command_words (Drill number workers calls) = drill_words number workers calls
 
 -- the numbers of a command, if it has some, are within their bounds
 abbrev pub IsWithin : Command → Type 0
 IsWithin (Core number steps) = IsLoad number steps
+IsWithin (Drill number workers calls) = IsDrill number workers calls
 IsWithin _ = Unit {0}
 
 -- the words are those of a command, but not of a service or a client

@@ -6,7 +6,7 @@ pub mod Outcomes
 pub mod Program
 pub mod Inner
 pub mod Scripts
-pub mod Cores
+pub mod LoadRuns
 pub mod Refusals
 pub mod Answers
 pub mod Trusts

@@ -1,3 +1,4 @@
+use crate::keys::FormulaKey;
 use crate::places::line_of_error;
 use crate::stages::Progress;
 use form_lines::LineError;
@@ -11,8 +12,8 @@ use text_lines::first_line;
 #[derive(Drop)]
 pub struct Input {
     pub subject: Name,
-    pub labels: Vec<Formula>,
-    pub yes: Vec<Formula>,
+    pub labels: Vec<FormulaKey>,
+    pub yes: Vec<FormulaKey>,
     pub goal: Formula,
     pub proof: Proof,
 }
@@ -72,8 +73,8 @@ impl Input {
     fn with_proof(
         alloc: Global,
         subject: Name,
-        labels: Vec<Formula>,
-        yes: Vec<Formula>,
+        labels: Vec<FormulaKey>,
+        yes: Vec<FormulaKey>,
         goal: Formula,
         rest: &[u8],
         lines: u64,

@@ -1,6 +1,6 @@
 //! The words by which commands are called.
 ghost use Rattle.std.specs.Prelude.{◌≡◌, ◌≢◌, ◌↔◌, ◌<◌, ◌≤◌, ◌^◌, ◌∷◌, [], ℕ, List, IsTrue, MatchOption, map};
-ghost use Rattle.nexus_main.specs.Commands.{IsAddress, IsClientCall, IsLoad, IsPlain, IsService, IsWithin, client_words, command_words, core_words, most_steps, serve_words};
+ghost use Rattle.nexus_main.specs.Commands.{IsAddress, IsClientCall, IsDrill, IsLoad, IsPlain, IsService, IsWithin, client_words, command_words, core_words, drill_words, most_steps, serve_words};
 
 use nal_term::is_secret;
 use text_lines::read_number;
@@ -10,6 +10,9 @@ const MOST_STEPS: u64 = 1_000_000;
 
 /// How many workers a service has at most.
 const MOST_WORKERS: u64 = 64;
+
+/// How many drawn requests a worker of a load has at most.
+const MOST_CALLS: u64 = 4000;
 
 /// How many sessions a worker serves at most.
 const MOST_SESSIONS: u64 = 65_536;
@@ -37,7 +40,16 @@ pub enum Command {
     /// Makes a policy text of one that was cut.
     Recover,
     /// Takes so many steps of a load that is drawn from a number.
-    Core { number: u64, steps: u64 },
+    Core {
+        number: u64,
+        steps: u64,
+    },
+    /// Runs a load that is drawn from a number on so many threads, each with so many drawn requests.
+    Drill {
+        number: u64,
+        workers: u64,
+        calls: u64,
+    },
 }
 
 /// The service that is called by these words. None exactly where they are those of none.
@@ -126,8 +138,52 @@ pub fn command_of(words: &[&str]) -> Option<Command>
     } else if is_word(words, "recover") {
         Some(Command::Recover)
     } else {
-        core_of(words)
+        load_of(words)
     }
+}
+
+/// The load that is called by these words, if they are those of `core` or `drill`.
+fn load_of(words: &[&str]) -> Option<Command>
+    ensures { MatchOption result
+        (((number steps : ℕ) → IsLoad number steps → map (λ w. w.now) words.now ≢ core_words number steps)
+        × ((number workers calls : ℕ) → IsDrill number workers calls → map (λ w. w.now) words.now ≢ drill_words number workers calls))
+        (λ command. IsWithin command × (map (λ w. w.now) words.now ≡ command_words command)) }
+{
+    match core_of(words) {
+        Some(command) => Some(command),
+        None => drill_of(words),
+    }
+}
+
+/// The load that is called by these words, if they are those of `drill`.
+fn drill_of(words: &[&str]) -> Option<Command>
+    ensures { MatchOption result ((number workers calls : ℕ) → IsDrill number workers calls → map (λ w. w.now) words.now ≢ drill_words number workers calls)
+        (λ command. IsWithin command × (map (λ w. w.now) words.now ≡ command_words command)) }
+{
+    let (word, rest) = words.split_first()?;
+    if !is_same(word, "drill") {
+        return None;
+    }
+    let (number_text, workers_text, calls_text) = three(rest)?;
+    let number = read_number(number_text.as_bytes())?;
+    let workers = read_number(workers_text.as_bytes())?;
+    let calls = read_number(calls_text.as_bytes())?;
+    if !is_drill(workers, calls) {
+        return None;
+    }
+    Some(Command::Drill {
+        number,
+        workers,
+        calls,
+    })
+}
+
+/// Whether a load in threads may have so many workers, and so many drawn requests for each.
+fn is_drill(workers: u64, calls: u64) -> bool
+    ensures value { IsTrue result ↔ ((1 ≤ workers) × (workers ≤ 64) × (1 ≤ calls) × (calls ≤ 4000)) }
+    ensures small { (workers < 2 ^ 64) × (calls < 2 ^ 64) }
+{
+    (1..=MOST_WORKERS).contains(&workers) && (1..=MOST_CALLS).contains(&calls)
 }
 
 /// The load that is called by these words, if they are those of `core`.

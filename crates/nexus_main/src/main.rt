@@ -9,6 +9,7 @@ mod check_form;
 mod client;
 mod commands;
 mod judge;
+mod keys;
 #[cfg(test)]
 mod kinds_tests;
 mod laws;

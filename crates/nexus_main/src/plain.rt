@@ -3,14 +3,14 @@ ghost use Rattle.std.specs.Prelude.{◌≡◌, ◌≢◌, ◌⊎◌, ℕ, None, 
 ghost use Rattle.nx_io.specs.Streams.{Gave, Grows, gained};
 ghost use Rattle.run_streams.specs.Runs.{sink_run, source_run};
 ghost use Rattle.nexus_main.specs.Commanded.{RunsCommand};
-ghost use Rattle.nexus_main.specs.Commands.{IsPlain, core_words, script_words};
+ghost use Rattle.nexus_main.specs.Commands.{IsPlain, core_words, drill_words, script_words};
 ghost use Rattle.nexus_main.specs.Scripts.{panel_run};
 
 use crate::answering::answer_input;
 use crate::answers::{Found, Recovered};
 use crate::check::check;
 use crate::commands::{Command, command_of};
-use crate::load::load;
+use crate::load::{drill, load};
 use crate::script::script;
 use authority_ask::Panel;
 use nx_io::{Sink, Source};
@@ -18,6 +18,8 @@ use policy_history::Journal;
 use std::alloc::Global;
 use std::net::{Net, TcpListener, TcpStream};
 use std::rt::Clock;
+use std::sync::Wait;
+use std::thread::Threads;
 use trust_check::Trust;
 
 /// How a command ended that is neither a service nor a client.
@@ -35,7 +37,7 @@ pub struct PlainEnd<P> {
 /// sink; `script` reads a policy and the requests of sessions, answers each, and writes the replies and then the policy as they
 /// left it; `trust` reads what an owner assumes and a goal, and writes whether the untrusted can reach it; `prove` reads labels and
 /// a goal, and writes a proof by a chain of delegations; `recover` reads a policy text that may be cut, and writes it whole; `core`
-/// reads nothing, and writes the line of a generated load.
+/// reads nothing, and writes the line of a generated load; and so does `drill`, whose load runs on threads.
 ///
 /// The status is 0 where all was done (of `check` at `allowed`, of `trust` at `safe`, of `prove` at a proof), 1 at `denied`, where a
 /// goal is not safe and where there is no chain, 2 where the words are not those of a command, which then reads and writes nothing,
@@ -54,7 +56,7 @@ pub fn run_plain<R, S: Source, K: Sink, P: Panel>(
     panel: P,
 ) -> PlainEnd<P>
 where
-    R: Net<Listener = TcpListener, Stream = TcpStream> + Clock,
+    R: Net<Listener = TcpListener, Stream = TcpStream> + Clock + Wait + Threads + Sync,
     ensures other_words { ¬ IsPlain (map (λ w. w.now) words.now)
         → (result.status ≡ 2) × (input.new ≡ input.old) × (output.new ≡ output.old) }
     ensures gave { Gave (S.left input.old) (S.left input.new) (S.given input.old) (S.given input.new) }
@@ -68,6 +70,7 @@ where
         (P.faults panel) (P.faults result.panel))
         result.journal result.status }
     ensures core_reads_nothing { (number steps : ℕ) → map (λ w. w.now) words.now ≡ core_words number steps → input.new ≡ input.old }
+    ensures drill_reads_nothing { (number workers calls : ℕ) → map (λ w. w.now) words.now ≡ drill_words number workers calls → input.new ≡ input.old }
     ensures other_panel { map (λ w. w.now) words.now ≢ script_words → (result.panel ≡ panel) × (result.journal ≡ None) }
 {
     match command_of(words) {
@@ -99,6 +102,17 @@ where
         },
         Some(Command::Core { number, steps }) => PlainEnd {
             status: load(alloc, number, steps, output),
+            journal: None,
+            panel,
+        },
+        Some(
+            Command::Drill {
+                number,
+                workers,
+                calls,
+            },
+        ) => PlainEnd {
+            status: drill(rt, alloc, number, workers, calls, output),
             journal: None,
             panel,
         },

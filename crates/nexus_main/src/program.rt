@@ -4,7 +4,7 @@ ghost use Rattle.run_streams.specs.Runs.{sink_run, source_run};
 ghost use Rattle.nexus_serve.specs.Views.{door_view, link_view, panel_view, report_view};
 ghost use Rattle.nexus_main.specs.Clients.{EndsClient, RunsClient};
 ghost use Rattle.nexus_main.specs.Commanded.{RunsCommand};
-ghost use Rattle.nexus_main.specs.Commands.{IsAddress, IsClientCall, IsCommand, IsService, IsServiceCall, client_words, core_words, script_words, serve_words};
+ghost use Rattle.nexus_main.specs.Commands.{IsAddress, IsClientCall, IsCommand, IsService, IsServiceCall, client_words, core_words, drill_words, script_words, serve_words};
 ghost use Rattle.nexus_main.specs.Scripts.{panel_run};
 ghost use Rattle.nexus_main.specs.Services.{HandsBack, RunsService};
 
@@ -48,10 +48,10 @@ pub struct Ended<D: Door, P: Panel, K: Sink> {
 /// Runs the program: `check` reads one input from the source and writes its outcome to the sink; `script` reads a policy and
 /// the requests of sessions, answers each, and writes the replies and then the policy as they left it; `trust` reads what an
 /// owner assumes and a goal, and writes whether the untrusted can reach it; `prove` reads labels and a goal, and writes a proof by
-/// a chain of delegations; `recover` reads a policy text that may be cut, and writes it whole; `core` reads nothing, and writes the
-/// line of a generated load; `client` reads request lines, sends each over a link to an address, and writes the line of its reply
-/// before the next is sent; `serve` reads a policy, listens at an address, serves the sessions of its workers, and writes the
-/// policy text as the journal grows.
+/// a chain of delegations; `recover` reads a policy text that may be cut, and writes it whole; `core` and `drill` read nothing, and
+/// write the line of a generated load, which `drill` runs on threads; `client` reads request lines, sends each over a link to an
+/// address, and writes the line of its reply before the next is sent; `serve` reads a policy, listens at an address, serves the
+/// sessions of its workers, and writes the policy text as the journal grows.
 ///
 /// The status is 0 where all was done (of `check` at `allowed`, of `trust` at `safe`, of `prove` at a proof), 1 at `denied`, where a
 /// goal is not safe and where there is no chain, 2 where the words are not those of a command, which then reads and writes nothing,
@@ -92,6 +92,7 @@ where
         (P.faults panel) (P.faults result.panel))
         result.journal result.status) }
     ensures core_reads_nothing { (number steps : ℕ) → map (λ w. w.now) words.now ≡ core_words number steps → input.new ≡ input.old }
+    ensures drill_reads_nothing { (number workers calls : ℕ) → map (λ w. w.now) words.now ≡ drill_words number workers calls → input.new ≡ input.old }
     ensures client { (address : List ℕ) → map (λ w. w.now) words.now ≡ client_words address → IsAddress address → HandsBack result.output (λ k. RunsClient address
         (source_run (S.left input.old) (S.given input.old) (S.given input.new) (S.over input.new) (S.faults input.old) (S.faults input.new))
         (sink_run (K.sent output) (K.sent k) (K.faults output) (K.faults k))

@@ -6,6 +6,8 @@ use std::alloc::{AllocError, Global};
 use std::net::{Net, TcpListener, TcpStream};
 use std::process::Abort;
 use std::rt::Clock;
+use std::sync::Wait;
+use std::thread::Threads;
 
 // A script: the answers of its authorities, its input, all that is written, and the status.
 #[derive(Clone, Copy)]
@@ -143,7 +145,7 @@ fn try_out<R>(
     reach_fails: &[u64],
 ) -> Result<(), AllocError>
 where
-    R: Net<Listener = TcpListener, Stream = TcpStream> + Clock + Abort,
+    R: Net<Listener = TcpListener, Stream = TcpStream> + Clock + Wait + Threads + Sync + Abort,
 {
     let mut source = MemSource::new(alloc, script.input.as_bytes(), 100, source_fails)?;
     let mut sink = MemSink::new(alloc, 4096, 11, sink_fails)?;

@@ -1,6 +1,10 @@
-ghost use Rattle.std.specs.Prelude.{◌≡◌, ◌↔◌, IsTrue, codes};
+ghost use Rattle.std.specs.Prelude.{◌≡◌, ◌≢◌, ◌↔◌, ◌∷◌, ◌++◌, [], IfErr, IfOk, IsTrue, codes};
+ghost use Rattle.nal_term.specs.Trees.{FormulaTree};
+ghost use Rattle.form_lines.specs.Statements.{IsStatement};
+ghost use Rattle.nexus_main.specs.Inner.Forms.{formula_trees};
 
-use form_lines::{LineError, goal, with_statement};
+use crate::keys::FormulaKey;
+use form_lines::{LineError, goal, statement};
 use nal_term::{Formula, Name, NameError};
 use std::alloc::Global;
 use text_lines::after_word;
@@ -12,11 +16,11 @@ pub enum Progress {
     HeaderDue,
     SubjectDue,
     /// The subject, and the labels so far.
-    LabelsDue(Name, Vec<Formula>),
+    LabelsDue(Name, Vec<FormulaKey>),
     /// The subject, the labels, and the yes formulas so far.
-    YesDue(Name, Vec<Formula>, Vec<Formula>),
+    YesDue(Name, Vec<FormulaKey>, Vec<FormulaKey>),
     /// The subject, the labels, the yes formulas and the goal.
-    ProofDue(Name, Vec<Formula>, Vec<Formula>, Formula),
+    ProofDue(Name, Vec<FormulaKey>, Vec<FormulaKey>, Formula),
 }
 
 /// How many labels, and how many yes formulas, an input may have.
@@ -75,7 +79,7 @@ impl Progress {
     fn after_labels(
         alloc: Global,
         subject: Name,
-        labels: Vec<Formula>,
+        labels: Vec<FormulaKey>,
         line: &[u8],
     ) -> Result<Progress, LineError>
         ensures ok { IfOk result (λ next. Follows (labels_due subject (formula_trees labels.items)) line.now (stage_of next)) }
@@ -88,13 +92,13 @@ impl Progress {
             if labels.len() >= MOST_FORMULAS {
                 return Err(LineError::Wrong);
             }
-            return match with_statement(alloc, labels, text) {
+            return match with_key(alloc, labels, text) {
                 Ok(labels) => Ok(Progress::LabelsDue(subject, labels)),
                 Err(error) => Err(error),
             };
         }
         if let Some(text) = after_word(line, "yes ") {
-            return match with_statement(alloc, Vec::new(alloc), text) {
+            return match with_key(alloc, Vec::new(alloc), text) {
                 Ok(yes) => Ok(Progress::YesDue(subject, labels, yes)),
                 Err(error) => Err(error),
             };
@@ -111,8 +115,8 @@ impl Progress {
     fn after_yes(
         alloc: Global,
         subject: Name,
-        labels: Vec<Formula>,
-        yes: Vec<Formula>,
+        labels: Vec<FormulaKey>,
+        yes: Vec<FormulaKey>,
         line: &[u8],
     ) -> Result<Progress, LineError>
         ensures ok { IfOk result (λ next.
@@ -126,7 +130,7 @@ impl Progress {
             if yes.len() >= MOST_FORMULAS {
                 return Err(LineError::Wrong);
             }
-            return match with_statement(alloc, yes, text) {
+            return match with_key(alloc, yes, text) {
                 Ok(yes) => Ok(Progress::YesDue(subject, labels, yes)),
                 Err(error) => Err(error),
             };
@@ -138,6 +142,31 @@ impl Progress {
             Ok(goal) => Ok(Progress::ProofDue(subject, labels, yes, goal)),
             Err(error) => Err(error),
         }
+    }
+}
+
+/// The list with the key of this text's formula, a closed `P says S`, at its end. `Wrong` exactly where the text is none.
+fn with_key(
+    alloc: Global,
+    mut keys: Vec<FormulaKey>,
+    text: &[u8],
+) -> Result<Vec<FormulaKey>, LineError>
+    ensures ok { IfOk result (λ longer. (f : FormulaTree) × IsStatement text.now f
+        × (formula_trees longer.items ≡ formula_trees keys.items ++ f ∷ [])) }
+    ensures only { IfOk result (λ longer. (f : FormulaTree) → IsStatement text.now f
+        → formula_trees longer.items ≡ formula_trees keys.items ++ f ∷ []) }
+    ensures wrong { IfErr result (λ e. e ≢ LineError.Memory → (f : FormulaTree) → ¬ IsStatement text.now f) }
+{
+    let formula = match statement(alloc, text) {
+        Ok(formula) => formula,
+        Err(error) => return Err(error),
+    };
+    let Ok(key) = FormulaKey::of(alloc, &formula) else {
+        return Err(LineError::Memory);
+    };
+    match keys.push(key) {
+        Ok(()) => Ok(keys),
+        Err(_) => Err(LineError::Memory),
     }
 }
 

@@ -6,7 +6,7 @@ ghost use Rattle.nexus_serve.specs.Views.{door_view, link_view, panel_view, repo
 ghost use Rattle.nexus_main.specs.Arguments.{words_of_call};
 ghost use Rattle.nexus_main.specs.Clients.{RunsClient};
 ghost use Rattle.nexus_main.specs.Commanded.{RunsCommand};
-ghost use Rattle.nexus_main.specs.Commands.{IsAddress, IsClientCall, IsCommand, IsService, IsServiceCall, client_words, core_words, script_words, serve_words};
+ghost use Rattle.nexus_main.specs.Commands.{IsAddress, IsClientCall, IsCommand, IsService, IsServiceCall, client_words, core_words, drill_words, script_words, serve_words};
 ghost use Rattle.nexus_main.specs.Scripts.{panel_run};
 ghost use Rattle.nexus_main.specs.Services.{HandsBack, RunsService};
 
@@ -72,6 +72,7 @@ where
         (P.faults panel) (P.faults result.panel))
         result.journal (exit_status result.code)) }
     ensures core_reads_nothing { (number steps : ℕ) → words_of_call (gained (A.told arguments.old) (A.told arguments.new)) ≡ core_words number steps → input.new ≡ input.old }
+    ensures drill_reads_nothing { (number workers calls : ℕ) → words_of_call (gained (A.told arguments.old) (A.told arguments.new)) ≡ drill_words number workers calls → input.new ≡ input.old }
     ensures client { (address : List ℕ) → words_of_call (gained (A.told arguments.old) (A.told arguments.new)) ≡ client_words address → IsAddress address → HandsBack result.output (λ k. RunsClient address
         (source_run (S.left input.old) (S.given input.old) (S.given input.new) (S.over input.new) (S.faults input.old) (S.faults input.new))
         (sink_run (K.sent output) (K.sent k) (K.faults output) (K.faults k))

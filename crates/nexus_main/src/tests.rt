@@ -8,7 +8,9 @@ use std::env::FillError;
 use std::io::{self, ErrorKind, Read, Write};
 use std::net::{Net, TcpListener, TcpStream};
 use std::rt::{Clock, Env};
+use std::sync::Wait;
 use std::test::Fail;
+use std::thread::Threads;
 
 // An input, what is written of it, and the status.
 #[derive(Clone, Copy)]
@@ -90,7 +92,7 @@ fn status_of<R, S: Source, K: Sink>(
     sink: &mut K,
 ) -> Result<u8, AllocError>
 where
-    R: Net<Listener = TcpListener, Stream = TcpStream> + Clock,
+    R: Net<Listener = TcpListener, Stream = TcpStream> + Clock + Wait + Threads + Sync,
 {
     let panel = MemPanel::new(alloc, &[], &[], &[])?;
     Ok(run_plain(rt, alloc, words, source, sink, panel).status)
@@ -280,6 +282,10 @@ fn loads_are_taken(rt: HostRuntime) -> Result<(), AllocError> {
             written: "steps 0 idle 0 writes 0 allowed 0 denied 0 length 4\n",
         },
         LoadCase {
+            words: &["drill", "0", "1", "1"],
+            written: "workers 1 requests 8 allowed 1 denied 0 length 6\n",
+        },
+        LoadCase {
             words: &["core", "7", "1000"],
             written: "steps 1000 idle 869 writes 12 allowed 10 denied 11 length 16\n",
         },
@@ -308,13 +314,18 @@ fn other_words_are_not_run(rt: HostRuntime) -> Result<(), AllocError> {
     let alloc = rt.alloc();
     let mut source = MemSource::new(alloc, ALLOWED.as_bytes(), 7, &[])?;
     let mut sink = MemSink::new(alloc, 64, 1, &[])?;
-    let calls: [&'static [&'static str]; 14] = [
+    let calls: [&'static [&'static str]; 19] = [
         &[],
         &["chec"],
         &["check", "check"],
         &["script", "script"],
         &["check", "script"],
         &["trust", "trust"],
+        &["drill", "0", "0", "1"],
+        &["drill", "0", "65", "1"],
+        &["drill", "0", "1", "0"],
+        &["drill", "0", "1", "4001"],
+        &["drill", "0", "1"],
         &["check", "0", "1"],
         &["core"],
         &["core", "0"],

@@ -1,7 +1,7 @@
 -- The plain values of what the program reads of an input.
 use Rattle.std.specs.Prelude.{◌≡◌, ◌+◌, ℕ, List, map}
 use Rattle.nal_term.specs.Trees.{FormulaTree, formula_tree}
-use Rattle.nal_term.specs.declared.formulas.Formula.{Formula}
+use Rattle.nexus_main.specs.declared.keys.FormulaKey.{FormulaKey}
 use Rattle.proof_lines.specs.Lines.{line_trees}
 use Rattle.proof_text.specs.ProofText.{IsProofText, IsRefused}
 use Rattle.proof_text.specs.declared.read.ProofError.{ProofError}
@@ -12,9 +12,13 @@ use Rattle.nexus_main.specs.declared.stages.Progress.{Progress}
 use Rattle.nexus_main.specs.declared.stages.Progress.TheVariants.{HeaderDue, SubjectDue, LabelsDue, YesDue, ProofDue}
 use Rattle.nexus_main.specs.CheckForm.{CheckForm, Stage, header_due, subject_due, labels_due, yes_due, proof_due, IsWrongAt, IsLineOfError}
 
--- the trees of a list of formulas
-abbrev pub formula_trees : List Formula → List FormulaTree
-formula_trees fs = map formula_tree fs
+-- the formula of a key
+abbrev pub tree_of : FormulaKey → FormulaTree
+tree_of key = formula_tree key.formula.value
+
+-- the formulas of keys
+abbrev pub formula_trees : List FormulaKey → List FormulaTree
+formula_trees keys = map tree_of keys
 
 -- the stage that the program's progress is
 abbrev pub stage_of : Progress → Stage

@@ -2,9 +2,10 @@ use Rattle.nexus_main.specs.Inner.Forms.{formula_trees}
 use Rattle.nexus_main.proofs.Verdicts.{label_line, not_label}
 use Rattle.nexus_main.proofs.judge.is_missing_label.Goals as goal
 
-pub returns-in-Label : goal.returns-in-Label
-returns-in-Label c =
-    label_line c.args.proof.now (formula_trees c.args.labels.now) c.args.number c.in-Some.line.now c.contains.result c.in-Some.ensures.zero c.in-Some.ensures.value c.in-Label.is c.contains.ensures
+pub returns-in_ok-key-in-Label : goal.returns-in_ok-key-in-Label
+returns-in_ok-key-in-Label c =
+    label_line c.args.proof.now (formula_trees c.args.labels.now) c.args.number c.in-Some.line.now c.is_among.result c.in-Some.ensures.zero c.in-Some.ensures.value c.in-Label.is
+    (rw c.in_ok-key-in-Label.ensures at c.is_among.ensures)
 
 pub returns-in_default-rule : goal.returns-in_default-rule
 returns-in_default-rule c =

@@ -8,7 +8,7 @@ use Rattle.nexus_main.proofs.judge.unanswered.Goals as goal
 pub loop-number-preserved : goal.loop-number-preserved
 loop-number-preserved c =
     one_more {P = IsUnanswered (line_trees c.args.proof.now) (formula_trees c.args.yes.now)} c.loop-number.invariant
-    (λ m. absurd (cc (c.if-is_unanswered.ensures.1 m)))
+    (λ m. let is = c.in_ok-is_unanswered.ensures.1 m in let not = c.if-branch.false in absurd cc)
 
 pub returns : goal.returns
 returns c = λ k m.

@@ -1,6 +1,6 @@
 use Rattle.std.proofs.Common.{refl}
 use Rattle.nx_io.proofs.ForCallers.{gained-by}
-use Rattle.nexus_main.specs.Cores.{cut_off}
+use Rattle.nexus_main.specs.LoadRuns.{cut_off}
 use Rattle.nexus_main.proofs.load.load.Goals as goal
 
 pub returns-clause-ends : goal.returns-clause-ends

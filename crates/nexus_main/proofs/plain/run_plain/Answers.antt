@@ -2,8 +2,8 @@ use Rattle.std.specs.Prelude.{option_map}
 use Rattle.policy_history.specs.Values.{entry_trees}
 use Rattle.proof_lines.specs.Lines.{line_trees}
 use Rattle.nexus_main.proofs.AnswerEnds.{runs_as}
-use Rattle.nexus_main.proofs.Commanded.{check_commanded, core_commanded, none_commanded, prove_commanded, recover_commanded, script_commanded, trust_commanded}
-use Rattle.nexus_main.proofs.CoreEnds.{runs_core}
+use Rattle.nexus_main.proofs.Commanded.{check_commanded, core_commanded, drill_commanded, none_commanded, prove_commanded, recover_commanded, script_commanded, trust_commanded}
+use Rattle.nexus_main.proofs.LoadEnds.{runs_load}
 use Rattle.nexus_main.proofs.Programs.{runs_check}
 use Rattle.nexus_main.proofs.ScriptEnds.{runs_script}
 use Rattle.nexus_main.proofs.plain.run_plain.Goals as goal
@@ -29,4 +29,15 @@ returns-in-Some-Recover-clause-command g c = recover_commanded (rw c.in-Some-Rec
 pub returns-in-Some-Core-clause-command : goal.returns-in-Some-Core-clause-command
 returns-in-Some-Core-clause-command g c =
     let of_words = rw c.in-Some-Core.field-0-is at c.in-Some-Core.ensures in
-    core_commanded c.in-Some-Core.number c.in-Some-Core.steps of_words.1 of_words.0 (runs_core c.load.ensures.ends)
+    core_commanded c.in-Some-Core.number c.in-Some-Core.steps of_words.1 of_words.0 (runs_load c.load.ensures.ends)
+
+pub drill-requires-clause-workers : goal.drill-requires-clause-workers
+drill-requires-clause-workers g c κs within = (rw c.in-Some-Drill.field-0-is at c.in-Some-Drill.ensures).0.workers_are
+
+pub drill-requires-clause-calls : goal.drill-requires-clause-calls
+drill-requires-clause-calls g c κs within = (rw c.in-Some-Drill.field-0-is at c.in-Some-Drill.ensures).0.calls_are.1
+
+pub returns-in-Some-Drill-clause-command : goal.returns-in-Some-Drill-clause-command
+returns-in-Some-Drill-clause-command g c =
+    let of_words = rw c.in-Some-Drill.field-0-is at c.in-Some-Drill.ensures in
+    drill_commanded c.in-Some-Drill.number c.in-Some-Drill.workers c.in-Some-Drill.calls of_words.1 of_words.0 (runs_load c.drill.ensures.ends)

@@ -44,6 +44,12 @@ returns-in-Ok-Some-clause-core_reads_nothing g c =
     let same = texts ∙ c.in-Ok.ensures.words in
     λ number steps words. c.run-ended.ensures.core_reads_nothing number steps (same ∙ words)
 
+pub returns-in-Ok-Some-clause-drill_reads_nothing : goal.returns-in-Ok-Some-clause-drill_reads_nothing
+returns-in-Ok-Some-clause-drill_reads_nothing g c =
+    let texts = rw (c.in-Ok-Some.field-0-is, c.as_slice.ensures.value, ← c.as_slice-in-Ok-Some.ensures.value) at c.in-Ok-Some.ensures in
+    let same = texts ∙ c.in-Ok.ensures.words in
+    λ number workers calls words. c.run-ended.ensures.drill_reads_nothing number workers calls (same ∙ words)
+
 pub returns-in-Ok-Some-clause-serve : goal.returns-in-Ok-Some-clause-serve
 returns-in-Ok-Some-clause-serve g c =
     let texts = rw (c.in-Ok-Some.field-0-is, c.as_slice.ensures.value, ← c.as_slice-in-Ok-Some.ensures.value) at c.in-Ok-Some.ensures in

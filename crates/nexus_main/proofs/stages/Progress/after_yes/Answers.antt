@@ -1,14 +1,13 @@
 use Rattle.std.proofs.Common.{◌<◌, length, arith}
 use Rattle.std.proofs.lemmas.List.{length-map}
-use Rattle.nal_term.specs.Trees.{formula_tree}
 use Rattle.nexus_main.specs.CheckForm.{goal_after_yes}
-use Rattle.nexus_main.specs.Inner.Forms.{formula_trees}
+use Rattle.nexus_main.specs.Inner.Forms.{formula_trees, tree_of}
 use Rattle.nexus_main.proofs.Following.{goal_after_yes_only, next_yes_only, next_yes_follows, yes_wrong, same_after_yes, same_after_goal, yes_not_goal}
 use Rattle.nexus_main.proofs.stages.Progress.after_yes.Goals as goal
 
 pub returns-in-Ok-clause-ok : goal.returns-in-Ok-clause-ok
 returns-in-Ok-clause-ok c =
-    let room : length (formula_trees c.args.yes.items) < 4096 = omega (arith, length-map c.args.yes.items formula_tree, c.args.yes.ok.0) in
+    let room : length (formula_trees c.args.yes.items) < 4096 = omega (arith, length-map c.args.yes.items tree_of, c.args.yes.ok.0) in
     next_yes_follows _ c.in-Some.ensures room c.in-Ok.ensures.ok
 
 pub returns-in-Err-clause-wrong : goal.returns-in-Err-clause-wrong
