@@ -104,6 +104,23 @@ expect 'a step too many' 2 ''
 : >"$work/output"
 "$program" core 0 1 >/dev/full
 expect 'a load whose line cannot be written' 5 ''
+# So does a load on threads. The lines were worked out by examples/drill/line.py, which knows nothing of the program.
+"$program" drill 0 1 1 </ >"$work/output"
+expect 'a load on threads of one call' 0 'workers 1 requests 8 allowed 1 denied 0 length 6'
+for run in first second; do
+    "$program" drill 7 8 4000 >"$work/output"
+    expect "a load on eight threads, the $run time" 0 'workers 8 requests 32056 allowed 17936 denied 6082 length 8030'
+done
+"$program" drill 1 64 4000 >"$work/output"
+expect 'a largest load on threads' 0 'workers 64 requests 256448 allowed 144222 denied 47902 length 64260'
+for words in '7 8' '7 0 1' '7 65 1' '7 1 0' '7 1 4001' '7 1 01' '7 01 1' '07 1 1' '18446744073709551616 1 1' '-7 1 1' '7 1 1 1'; do
+    # shellcheck disable=SC2086
+    "$program" drill $words >"$work/output"
+    expect "a load on threads of the words $words" 2 ''
+done
+: >"$work/output"
+"$program" drill 0 1 1 >/dev/full
+expect 'a load on threads whose line cannot be written' 5 ''
 head -c 67108865 /dev/zero | tr '\0' a >"$work/large"
 "$program" check <"$work/large" >"$work/output"
 expect 'an input of one byte too many' 3 'refused size'
