@@ -1,7 +1,8 @@
 #!/usr/bin/env bash
 # Runs each example of `nexus check`, `script`, `trust`, `prove` and `recover` and compares what it prints, byte for byte, and its exit
 # status; has `nexus check` check each proof that was found; then the other ways in which the program ends; then plays `nexus serve`,
-# where there is a Python of 3.9 or later; then the recipes of docs/OPERATING.md, the client for programs, and the manual page.
+# where there is a Python of 3.9 or later; then the commands of README and TOUR, the recipes of docs/OPERATING.md, the client for
+# programs, and the manual page.
 #
 #   examples/run.sh [PROGRAM]     PROGRAM is ./nexus at the top of the repository where none is given
 #
@@ -161,6 +162,13 @@ done
 if ! python3 -c 'import sys; sys.exit(sys.version_info < (3, 9))' 2>/dev/null; then
     echo "serve: skipped, since there is no python3 of 3.9 or later"
 elif ! python3 -B "$examples/serve/run.py" "$built"; then
+    failed=$((failed + 1))
+fi
+
+# The commands of README and TOUR as they stand there, which run ./nexus.
+if ! python3 -c 'import sys; sys.exit(sys.version_info < (3, 9))' 2>/dev/null; then
+    echo "documents: skipped, since there is no python3 of 3.9 or later"
+elif ! python3 -B "$examples/documents.py" "$examples/../README.md" "$examples/../docs/TOUR.md"; then
     failed=$((failed + 1))
 fi
 

@@ -1,11 +1,12 @@
 #!/usr/bin/env python3
 """What the gate costs: runs `.ci/run`, or the command that is given, and prints the processor seconds that each crate's proof, tests
-and must-fail edits took, with the greatest memory of one check.
+and must-fail edits took, with the greatest memory of one check, and the chain of crates, each standing on the one before, whose
+proofs take longest together.
 
     bench/gate/costs.py [COMMAND ..]
 
-The seconds are those of the checks that `rt ci` starts, as the system counts them; where more checks run than there are cores, each
-takes longer. The first edit of a crate pays for a check of the whole crate.
+The seconds are those of the checks that `rt ci` starts, as the system counts them; where more checks run than there are cores, or
+where several processes share one check, each takes longer. The first edit of a crate pays for a check of the whole crate.
 """
 
 import os
@@ -55,6 +56,29 @@ def read(log):
     return costs, memory
 
 
+def read_crates(root):
+    """Returns which crates of the repository each one names."""
+    below = {}
+    for line in (root / "crates.txt").read_text().splitlines():
+        head, colon, names = line.partition("#")[0].partition(":")
+        if colon:
+            below[head.split()[0]] = names.split()
+    return {name: [it for it in names if it in below] for name, names in below.items()}
+
+
+def longest_chain(below, seconds):
+    """Returns the crates of the chain that takes longest, lowest first, and its seconds."""
+    found = {}
+
+    def chain(name):
+        if name not in found:
+            longest = max((chain(it) for it in below[name]), key=lambda it: it[1], default=([], 0))
+            found[name] = [*longest[0], name], longest[1] + seconds.get(name, 0)
+        return found[name]
+
+    return max((chain(name) for name in below), key=lambda it: it[1], default=([], 0))
+
+
 def main():
     root = Path(__file__).resolve().parents[2]
     with tempfile.TemporaryDirectory() as room:
@@ -73,6 +97,8 @@ def main():
         total += sum(parts)
         print(f"{name:16}{parts[0]:8.0f}{parts[1]:8.0f}{parts[2]:8.0f}{number:8}{sum(parts):8.0f}{memory[name]:8}")
     print(f"processor minutes: {total / 60:.0f}")
+    names, seconds = longest_chain(read_crates(root), {name: sum(kinds.get("proof", [])) for name, kinds in costs.items()})
+    print(f"longest chain: {seconds:.0f} seconds: {' '.join(names)}")
     return status
 
 
