@@ -25,7 +25,7 @@ PROGRAM = "nexus_main"
 EXAMPLE = ROOT / "examples/check/first/input"
 PARTS = ("src", "specs", "proofs")
 # What a check takes at most, as bytes and as bytes a line of the crate: measured on the crates of this repository.
-LEAST, A_LINE = 1_300_000_000, 450_000
+LEAST, A_LINE = 2_200_000_000, 150_000
 
 
 def say(text):

@@ -39,15 +39,17 @@ digest_of_sources() {
     digest=$(cd "$top" && find "${sources[@]}" -type f -print0 | LC_ALL=C sort -z | xargs -0 sha256sum | sha256sum) && echo "${digest%% *}"
 }
 
-# What the release's manifest states under a key.
-stated() {
+# Sets `stated` to what the release's manifest states, by its keys; to nothing where there is no manifest.
+read_manifest() {
     local key value
+    declare -gA stated=([sha256]='' [sources]='' [kit]='' [logic]='')
+    [ -f "$top/release/MANIFEST" ] || return 0
     while read -r key value; do
-        [ "$key" != "$1" ] || printf '%s\n' "$value"
+        stated[$key]=$value
     done <"$top/release/MANIFEST"
 }
 
-# Unpacks the released program into a new file, and makes sure that it is the one that the manifest states.
+# Unpacks the released program into a new file, and makes sure that it is the one that the manifest states. It wants `stated`.
 unpack_release() {
-    xz -dc "$top/release/nexus-x86_64-linux-gnu.xz" >"$1" && echo "$(stated sha256)  $1" | sha256sum --check --status && chmod 755 "$1"
+    xz -dc "$top/release/nexus-x86_64-linux-gnu.xz" >"$1" && echo "${stated[sha256]}  $1" | sha256sum --check --status && chmod 755 "$1"
 }
