@@ -48,7 +48,10 @@ impl Machine {
         ensures idle { IfOk result (λ machine. machine.idle ≡ 0) }
     {
         match Beginning::of(alloc, &journal, actors) {
-            Err(AllocError) => Err(AllocError),
+            Err(AllocError) => {
+                drop(journal);
+                Err(AllocError)
+            }
             Ok(
                 Beginning {
                     slots,

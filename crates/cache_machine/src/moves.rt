@@ -71,7 +71,10 @@ impl World {
             Move::Idle => *idle = idle.saturating_add(1),
             Move::Goes(stage) => self.go_on(number, stage),
             Move::Tells(verdict, stage) => {
-                push(told, verdict)?;
+                let Ok(()) = push(told, verdict) else {
+                    drop(stage);
+                    return Err(AllocError);
+                };
                 self.go_on(number, stage);
             }
             Move::Fills(kept, stage) => self.put(number, kept, stage),
@@ -118,7 +121,10 @@ impl World {
         ensures ok { OnOk result (state_of self.new ≡ after_move (state_of self.old) number (writes (event_tree event))) }
         ensures err { OnErr result (state_of self.new ≡ state_of self.old) }
     {
-        let spare = self.journal.reserve(&event)?;
+        let Ok(spare) = self.journal.reserve(&event) else {
+            drop(event);
+            return Err(AllocError);
+        };
         let actor = self.actor(number);
         let (session, principal) = (actor.session, actor.principal);
         let _due = self.journal.append(session, principal, event, spare);

@@ -60,6 +60,7 @@ fn read_kept(alloc: Global, kept: &[u8]) -> Result<Journal, PolicyError>
             if rest.is_empty() {
                 Ok(journal)
             } else {
+                drop(journal);
                 Err(PolicyError::Bad { line: lines + 1 })
             }
         }

@@ -61,9 +61,13 @@ fn append_entry(journal: &mut Journal, entry: Entry) -> Result<Option<Refusal>, 
         event,
     } = entry;
     if let Err(refusal) = journal.decide(session, principal, &event) {
+        drop(event);
         return Ok(Some(refusal));
     }
-    let spare = journal.reserve(&event)?;
+    let Ok(spare) = journal.reserve(&event) else {
+        drop(event);
+        return Err(AllocError);
+    };
     journal.append(session, principal, event, spare);
     Ok(None)
 }
@@ -141,7 +145,9 @@ fn read_event(alloc: Global, text: &[u8]) -> Result<Event, LineError>
         Ok(request) => request,
         Err(error) => return Err(error),
     };
-    match event_of(alloc, &request) {
+    let event = event_of(alloc, &request);
+    drop(request);
+    match event {
         Ok(Some(event)) => Ok(event),
         Ok(None) => Err(LineError::Bad),
         Err(AllocError) => Err(LineError::Memory),

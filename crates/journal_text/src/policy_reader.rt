@@ -89,6 +89,7 @@ fn read_lines(alloc: Global, text: &[u8]) -> Result<Journal, PolicyError>
             if rest.is_empty() {
                 Ok(journal)
             } else {
+                drop(journal);
                 Err(PolicyError::Bad { line: lines + 1 })
             }
         }
@@ -134,6 +135,7 @@ fn read_to_end(alloc: Global, text: &[u8], most_session: u64) -> Result<PolicyFr
                     lines,
                 })
             } else {
+                drop(journal);
                 Err(PolicyError::Bad { line: lines + 1 })
             }
         }
@@ -184,7 +186,10 @@ fn read_journal(
             lines,
             ended,
         }),
-        Err(error) => Err(error),
+        Err(error) => {
+            drop(journal);
+            Err(error)
+        }
     }
 }
 

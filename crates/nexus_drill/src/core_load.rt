@@ -21,7 +21,7 @@ pub fn core_text(alloc: Global, number: u64, steps: u64) -> Result<Bytes, AllocE
     ensures { IfOk result (IsCoreLine number steps) }
 {
     let outcome = load(alloc, number, steps)?;
-    let text = load_line(alloc, steps, &outcome)?;
+    let text = load_line(alloc, steps, outcome)?;
     Ok(Bytes::from_vec(text.into_bytes()))
 }
 
@@ -33,7 +33,10 @@ fn load(alloc: Global, number: u64, steps: u64) -> Result<Outcome, AllocError>
     let _legal = machine.journal().count();
     match take_all(alloc, &mut machine, number, steps) {
         Ok(()) => Ok(machine.finish()),
-        Err(AllocError) => Err(AllocError),
+        Err(AllocError) => {
+            drop(machine);
+            Err(AllocError)
+        }
     }
 }
 
@@ -103,16 +106,17 @@ fn held_after(held: Option<u64>, before: u64, after: u64) -> Option<u64>
 }
 
 // The line of what the steps leave.
-fn load_line(alloc: Global, steps: u64, outcome: &Outcome) -> Result<String, AllocError>
-    requires { 4 ≤ length outcome.now.journal.entries }
+fn load_line(alloc: Global, steps: u64, outcome: Outcome) -> Result<String, AllocError>
+    requires { 4 ≤ length outcome.journal.entries }
     ensures { IfOk result (λ text. string_bytes text ≡
-        line_of steps outcome.now.idle (length outcome.now.journal.entries - 4) (count_by is_allowed outcome.now.told) (count_by is_denied outcome.now.told) (length outcome.now.journal.entries)) }
+        line_of steps outcome.idle (length outcome.journal.entries - 4) (count_by is_allowed outcome.told) (count_by is_denied outcome.told) (length outcome.journal.entries)) }
 {
     let idle = outcome.idle;
     let length = outcome.journal.count();
     let writes = length - 4;
     let allowed = allowed(outcome.told.as_slice());
     let denied = denied(outcome.told.as_slice());
+    drop(outcome);
     format!(in alloc;
         "steps {steps} idle {idle} writes {writes} allowed {allowed} denied {denied} length {length}\n"
     )

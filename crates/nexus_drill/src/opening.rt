@@ -19,7 +19,10 @@ pub fn opening(alloc: Global) -> Result<Journal, AllocError>
     let mut journal = Journal::new(alloc, head(alloc)?)?;
     match begin(alloc, &mut journal) {
         Ok(()) => Ok(journal),
-        Err(AllocError) => Err(AllocError),
+        Err(AllocError) => {
+            drop(journal);
+            Err(AllocError)
+        }
     }
 }
 
@@ -75,9 +78,13 @@ fn add(journal: &mut Journal, event: Event) -> Result<(), AllocError>
     ensures entries { OnOk result (entry_trees journal.new.entries ≡ entry_trees journal.old.entries ++ (record { session = 1; principal = 0; event = event_tree event }) ∷ []) }
 {
     if journal.decide(1, 0, &event).is_err() {
+        drop(event);
         return Err(AllocError);
     }
-    let spare = journal.reserve(&event)?;
+    let Ok(spare) = journal.reserve(&event) else {
+        drop(event);
+        return Err(AllocError);
+    };
     let _due = journal.append(1, 0, event, spare);
     Ok(())
 }

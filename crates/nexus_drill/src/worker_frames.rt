@@ -29,7 +29,7 @@ pub fn drill_frames(
         x = next(x);
         let draw = draw_of(x);
         let request = request_of(alloc, worker, draw, is_set)?;
-        append(alloc, &mut frames, &request)?;
+        append(alloc, &mut frames, request)?;
         is_set = set_after(draw, is_set);
     }
     Ok(frames)
@@ -43,16 +43,17 @@ fn first_frames(alloc: Global, worker: u64) -> Result<Bytes, AllocError>
     let mut frames = Bytes::new(alloc);
     for place in 0..7 {
         let request = first_request(alloc, worker, place)?;
-        append(alloc, &mut frames, &request)?;
+        append(alloc, &mut frames, request)?;
     }
     Ok(frames)
 }
 
 // One frame more.
-fn append(alloc: Global, frames: &mut Bytes, request: &Request) -> Result<(), AllocError>
-    requires { length (request_payload request.now) ≤ most_payload }
-    ensures { OnOk result (frames.new ≡ frames.old ++ request_frame request.now) }
+fn append(alloc: Global, frames: &mut Bytes, request: Request) -> Result<(), AllocError>
+    requires { length (request_payload request) ≤ most_payload }
+    ensures { OnOk result (frames.new ≡ frames.old ++ request_frame request) }
 {
-    let frame = write_request(alloc, request)?;
-    frames.extend(frame.as_slice())
+    let frame = write_request(alloc, &request);
+    drop(request);
+    frames.extend(frame?.as_slice())
 }

@@ -104,12 +104,15 @@ where
                 served,
             }
         }
-        Err(unready) => Hosted {
-            status: unready_status(unready),
-            door,
-            panel,
-            served: idle(alloc, sink, doors, panels),
-        },
+        Err(unready) => {
+            drop(journal);
+            Hosted {
+                status: unready_status(unready),
+                door,
+                panel,
+                served: idle(alloc, sink, doors, panels),
+            }
+        }
     }
 }
 

@@ -203,15 +203,21 @@ where
         panels,
         rests,
         passes,
+        unused,
         reports,
         has_failed,
-        ..
     } = gathered;
+    drop(unused);
     let mut book = book;
     let passes = book.settle(board, passes);
     match with_passes(rests, passes, reports) {
         Ok(reports) => close(book, doors, panels, reports, has_failed),
-        Err(AllocError) => lost(alloc),
+        Err(AllocError) => {
+            drop(book);
+            drop(doors);
+            drop(panels);
+            lost(alloc)
+        }
     }
 }
 
@@ -236,7 +242,10 @@ where
     what_was_told_stays_told();
     match room.gather(workers) {
         Ok(gathered) => report(alloc, board, book, gathered),
-        Err(AllocError) => lost(alloc),
+        Err(AllocError) => {
+            drop(book);
+            lost(alloc)
+        }
     }
 }
 
@@ -267,7 +276,10 @@ where
 {
     match let_work::<D, P, K, G, Brand, R>(rt, alloc, board, book, workers, gate) {
         Ok((book, workers)) => finish(alloc, board, book, workers, room),
-        Err(AllocError) => lost(alloc),
+        Err(AllocError) => {
+            drop(room);
+            lost(alloc)
+        }
     }
 }
 
@@ -305,7 +317,11 @@ where
     let mut book = book;
     match hire(alloc, board, &mut book, doors, panels, first, sessions) {
         Ok(workers) => serve_hired(rt, alloc, board, book, workers, gate, room),
-        Err(AllocError) => lost(alloc),
+        Err(AllocError) => {
+            drop(book);
+            drop(room);
+            lost(alloc)
+        }
     }
 }
 
@@ -404,7 +420,10 @@ where
         Reach::Ready => serve_open(
             rt, alloc, board, book, doors, panels, gate, first, sessions, room,
         ),
-        Reach::Failed => unopened(alloc, book, doors, panels),
+        Reach::Failed => {
+            drop(room);
+            unopened(alloc, book, doors, panels)
+        }
     }
 }
 
@@ -450,7 +469,10 @@ where
                 rt, alloc, &board, book, text, doors, panels, gate, first, sessions, room,
             )
         }
-        Err((journal, sink, AllocError)) => unserved(alloc, journal, sink, doors, panels),
+        Err((journal, sink, AllocError)) => {
+            drop(room);
+            unserved(alloc, journal, sink, doors, panels)
+        }
     }
 }
 

@@ -53,9 +53,13 @@ impl<K: Sink> Book<K> {
     {
         let decided = self.journal.decide(pass.session(), principal, &event);
         match decided {
-            Err(refusal) => self.refuse(board, pass, refusal),
+            Err(refusal) => {
+                drop(event);
+                self.refuse(board, pass, refusal)
+            }
             Ok(due) => {
                 if self.is_broken {
+                    drop(event);
                     self.refuse(board, pass, Refusal::NotRecorded)
                 } else {
                     self.accept(board, pass, principal, event, line, due.number)
@@ -104,6 +108,7 @@ impl<K: Sink> Book<K> {
         ensures { IsAnsweredBy K.sent K.faults self.old self.new pass result.0 principal event line.now result.1 }
     {
         let Ok(spare) = self.journal.reserve(&event) else {
+            drop(event);
             return (pass, Written::NoMemory);
         };
         match send_all(&mut self.sink, line) {
@@ -121,6 +126,8 @@ impl<K: Sink> Book<K> {
                 (pass, Written::Done { at, number })
             }
             Reach::Failed => {
+                drop(event);
+                drop(spare);
                 self.is_broken = true;
                 self.refuse(board, pass, Refusal::NotRecorded)
             }

@@ -21,15 +21,18 @@ impl Policy {
     pub fn new(alloc: Global, head: &Head) -> Result<Policy, AllocError>
         ensures { IfOk result (λ policy. state_of policy ≡ empty_state head.now) }
     {
+        // What can fail comes first, so that no store is let go on the way.
+        let tallies = no_tallies(alloc, &head.principals)?;
+        let subject = subject_variable(alloc)?;
         let key = hash_key(&head.principals);
         Ok(Policy {
             labels: LabelStore::new(alloc, key),
             goals: GoalStore::new(alloc, key),
             cases: ProofStore::new(alloc, key),
             objects: ObjectTable::new(alloc, key),
-            tallies: no_tallies(alloc, &head.principals)?,
+            tallies,
             entries: 0,
-            subject: subject_variable(alloc)?,
+            subject,
         })
     }
 

@@ -58,7 +58,10 @@ pub fn read_script(alloc: Global, text: &[u8]) -> Result<Script, ScriptError>
     };
     match read_askings(alloc, rest, lines) {
         Ok(askings) => Ok(Script { journal, askings }),
-        Err(error) => Err(error),
+        Err(error) => {
+            drop(journal);
+            Err(error)
+        }
     }
 }
 

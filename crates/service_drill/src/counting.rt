@@ -20,7 +20,9 @@ pub fn count(
 ) -> Result<DrillTotals, AllocError>
     ensures { IfOk result (Counts served) }
 {
-    count_in(alloc, &served)
+    let counted = count_in(alloc, &served);
+    drop(served);
+    counted
 }
 
 // As `count`, of what is lent.

@@ -76,9 +76,10 @@ where
     requires calls { calls ≤ 4000 }
     ensures { IfOk result (ServesLoad number workers calls) }
 {
-    let journal = journal(alloc, workers)?;
-    let doors = doors(alloc, number, workers, calls)?;
+    // The journal is made last, so that it is not let go on the way.
     let panels = panels(alloc, workers)?;
+    let doors = doors(alloc, number, workers, calls)?;
+    let journal = journal(alloc, workers)?;
     let gate = OpenGate;
     let served = serve(rt, alloc, journal, Discard::new(), doors, panels, &gate, 1);
     Ok(served)

@@ -80,7 +80,9 @@ fn door_by(alloc: Global, plan: DoorPlan) -> Result<MemDoor, AllocError>
     let mut plans = Vec::new(alloc);
     plans.push(plan)?;
     let mut door = MemDoor::new(alloc, plans, None, &[])?;
-    match door.share() {
+    let shared = door.share();
+    drop(door);
+    match shared {
         Shared::Made(share) => Ok(share),
         Shared::Failed => Err(AllocError),
         Shared::NoMemory => Err(AllocError),

@@ -169,12 +169,16 @@ fn decide(journal: &mut Journal, session: u64, principal: u32, event: Event) -> 
 {
     let at = journal.count();
     match journal.decide(session, principal, &event) {
-        Err(refusal) => Reply::Refused {
-            at,
-            number: refusal_number(refusal),
-        },
+        Err(refusal) => {
+            drop(event);
+            Reply::Refused {
+                at,
+                number: refusal_number(refusal),
+            }
+        }
         Ok(_) => {
             let Ok(spare) = journal.reserve(&event) else {
+                drop(event);
                 return Reply::NoMemory;
             };
             let due = journal.append(session, principal, event, spare);

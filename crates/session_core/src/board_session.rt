@@ -158,6 +158,7 @@ impl BoardSession {
         };
         let session = self.pass.session();
         let Ok(line) = policy_line(alloc, session, &who.name, &event) else {
+            drop(event);
             return (self, Reply::NoMemory);
         };
         let BoardSession {

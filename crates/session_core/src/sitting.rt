@@ -77,6 +77,7 @@ pub fn serve_sitting<R, B, P, S: Sitting<R, B, P> + Drop, L: Link>(
     for _ in 0..MOST_REQUESTS {
         let framed = reader.next(link);
         let (next, end) = serve_framed(rt, alloc, sitting, &framed, link, book, panel);
+        drop(framed);
         sitting = next;
         match end {
             None => {}
