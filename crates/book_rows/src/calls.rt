@@ -24,7 +24,7 @@ pub fn name_of(alloc: Global, text: &str) -> Option<Name> {
     Name::of(alloc, text.as_bytes()).ok()
 }
 
-/// Tells a kept verdict of a case, or else judges it, and keeps the verdict where it rests on no answer.
+/// Tells a kept verdict of the case of an operation on an object, which are given by their names, or else judges it, and keeps the verdict where it rests on no answer.
 pub fn call<R: Net<Listener = TcpListener, Stream = TcpStream> + Clock>(
     rt: &R,
     alloc: Global,
@@ -32,8 +32,7 @@ pub fn call<R: Net<Listener = TcpListener, Stream = TcpStream> + Clock>(
     board: &Board<NalMatter>,
     pass: Pass<NalMatter>,
     principal: u32,
-    op: &str,
-    object: &str,
+    names: &str,
 ) -> (Pass<NalMatter>, Told)
     requires opened { book.old.is_open ≡ true }
     requires board { book.old.board ≡ board.now }
@@ -42,6 +41,7 @@ pub fn call<R: Net<Listener = TcpListener, Stream = TcpStream> + Clock>(
     ensures pass { result.0.board ≡ board.now }
     ensures book { book.new ≡ book.old }
 {
+    let (op, object) = names.split_once(" ").unwrap_or(("", ""));
     match (name_of(alloc, op), name_of(alloc, object)) {
         (Some(op), Some(object)) => {
             call_named(rt, alloc, book, board, pass, principal, &op, &object)

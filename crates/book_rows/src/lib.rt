@@ -6,6 +6,8 @@ mod calls;
 #[cfg(test)]
 mod changes;
 #[cfg(test)]
+mod held;
+#[cfg(test)]
 mod plays;
 #[cfg(test)]
 mod recordings;

@@ -11,38 +11,20 @@ use journal_text::{print_policy, read_policy};
 use nx_io::{MemSink, Reach};
 use policy_book::{Book, NalMatter};
 use policy_history::{Head, Journal};
-use std::alloc::Global;
+use std::alloc::{AllocError, Global};
 use std::net::{Net, TcpListener, TcpStream};
 use std::rt::Clock;
 use verdict_words::{Board, Pass};
 
-/// Two sessions, whose principals are the first and the second of the policy.
-#[derive(Clone, Copy)]
-pub enum Session {
-    First,
-    Second,
-}
-
-/// What a session does.
-#[derive(Clone, Copy)]
-pub enum Act<'a> {
-    /// It asks for a change, as a request line.
-    Change(&'a str),
-    /// It asks for an operation on an object.
-    Call(&'a str, &'a str),
-}
-
-/// A step of a session, and what it must be told.
-pub type Step<'a> = (Session, Act<'a>, Told);
-
-/// Steps over a book of this policy, whose sink takes a byte a call, holds so many, and fails at these calls; and what it must
-/// have been sent at the end.
+/// Steps over a book of this policy, whose sink takes a byte a call, holds so many, and fails at this call, from 1; and what it
+/// must have been sent at the end. Each step stands on a line: the name of the first principal or another, a request's line, an
+/// arrow, and what the session is told.
 #[derive(Clone, Copy)]
 pub struct Play<'a> {
     pub policy: &'a [u8],
     pub room: usize,
-    pub fails: &'a [u64],
-    pub steps: &'a [Step<'a>],
+    pub fails: u64,
+    pub steps: &'a str,
     pub sent: &'a [u8],
 }
 
@@ -86,7 +68,7 @@ pub fn outcome_of<R: Net<Listener = TcpListener, Stream = TcpStream> + Clock>(
     alloc: Global,
     play: &Play,
 ) -> Option<Outcome> {
-    let sink = MemSink::new(alloc, play.room, 1, play.fails).ok()?;
+    let sink = MemSink::new(alloc, play.room, 1, &[play.fails]).ok()?;
     match read_policy(alloc, play.policy) {
         Ok(journal) => outcome_over(rt, alloc, journal, sink, play),
         Err(_) => None,
@@ -100,11 +82,30 @@ fn outcome_over<R: Net<Listener = TcpListener, Stream = TcpStream> + Clock>(
     sink: MemSink,
     play: &Play,
 ) -> Option<Outcome> {
-    match (front_of(alloc, &journal), journal.head().copy(alloc)) {
-        (Some(text), Ok(head)) => {
-            outcome_in(rt, alloc, journal, sink, &head, text.as_slice(), play)
+    match front_of(alloc, &journal) {
+        Some(text) => outcome_with(rt, alloc, journal, sink, text.as_slice(), play),
+        None => None,
+    }
+}
+
+fn outcome_with<R: Net<Listener = TcpListener, Stream = TcpStream> + Clock>(
+    rt: &R,
+    alloc: Global,
+    journal: Journal,
+    sink: MemSink,
+    text: &[u8],
+    play: &Play,
+) -> Option<Outcome>
+    requires sessions { greatest_of (entry_trees journal.entries) ≤ 1000 }
+    requires principals { 2 ≤ length journal.head.principals }
+    requires text { text.now ≡ front journal.head (entry_trees journal.entries) }
+{
+    match journal.head().copy(alloc) {
+        Ok(head) => outcome_in(rt, alloc, journal, sink, &head, text, play),
+        Err(AllocError) => {
+            drop(journal);
+            None
         }
-        _ => None,
     }
 }
 
@@ -146,8 +147,11 @@ fn outcome_in<R: Net<Listener = TcpListener, Stream = TcpStream> + Clock>(
     requires text { text.now ≡ front journal.head (entry_trees journal.entries) }
 {
     match Book::make(alloc, journal, sink) {
-        Ok((board, book)) => Some(opened(rt, alloc, &board, book, head, text, play)),
-        Err(_) => None,
+        Ok(made) => Some(opened(rt, alloc, made, head, text, play)),
+        Err((journal, _, AllocError)) => {
+            drop(journal);
+            None
+        }
     }
 }
 
@@ -161,23 +165,22 @@ const NOTHING: Taken = Taken {
 fn opened<R: Net<Listener = TcpListener, Stream = TcpStream> + Clock>(
     rt: &R,
     alloc: Global,
-    board: &Board<NalMatter>,
-    book: Book<MemSink>,
+    made: (Board<NalMatter>, Book<MemSink>),
     head: &Head,
     text: &[u8],
     play: &Play,
 ) -> Outcome
-    requires closed { book.is_open ≡ false }
-    requires unbroken { book.is_broken ≡ false }
-    requires board { book.board ≡ board.now }
-    requires principals { 2 ≤ length (head_of book).principals }
-    requires head { head.now ≡ head_of book }
-    requires text { text.now ≡ front (head_of book) (trees_of book) }
-    requires room { book.next ≤ 1001 }
+    requires closed { made.1.is_open ≡ false }
+    requires unbroken { made.1.is_broken ≡ false }
+    requires board { made.1.board ≡ made.0 }
+    requires principals { 2 ≤ length (head_of made.1).principals }
+    requires head { head.now ≡ head_of made.1 }
+    requires text { text.now ≡ front (head_of made.1) (trees_of made.1) }
+    requires room { made.1.next ≤ 1001 }
 {
-    let mut book = book;
+    let (board, mut book) = made;
     match book.open(text) {
-        Reach::Ready => served(rt, alloc, board, book, head, play),
+        Reach::Ready => served(rt, alloc, &board, book, head, play),
         Reach::Failed => ended(book, NOTHING, play),
     }
 }
@@ -226,7 +229,7 @@ fn step_all<R: Net<Listener = TcpListener, Stream = TcpStream> + Clock>(
     head: &Head,
     first: Pass<NalMatter>,
     second: Pass<NalMatter>,
-    steps: &[Step],
+    steps: &str,
 ) -> Taken
     requires opened { book.old.is_open ≡ true }
     requires board { book.old.board ≡ board.now }
@@ -235,17 +238,16 @@ fn step_all<R: Net<Listener = TcpListener, Stream = TcpStream> + Clock>(
     requires passes { (first.board ≡ board.now) × (second.board ≡ board.now) }
 {
     let (mut first, mut second, mut wrong) = (first, second, None);
-    for (place, (session, act, wanted)) in steps.iter().enumerate() {
+    for (place, line) in steps.lines().enumerate() {
+        let (asked, wanted) = line.split_once(" -> ").unwrap_or(("", ""));
+        let (who, request) = asked.split_once(" ").unwrap_or(("", ""));
         let told;
-        match session {
-            Session::First => {
-                (first, told) = step(rt, alloc, book, board, head, first, 0, act);
-            }
-            Session::Second => {
-                (second, told) = step(rt, alloc, book, board, head, second, 1, act);
-            }
+        if who == "alice" {
+            (first, told) = step(rt, alloc, book, board, head, first, 0, request);
+        } else {
+            (second, told) = step(rt, alloc, book, board, head, second, 1, request);
         }
-        if told != *wanted {
+        if !is_told(alloc, &told, wanted) {
             wrong = wrong.or(Some((place, told)));
         }
     }
@@ -256,7 +258,15 @@ fn step_all<R: Net<Listener = TcpListener, Stream = TcpStream> + Clock>(
     }
 }
 
-// Takes one step.
+// Whether this is the text of what is told.
+fn is_told(alloc: Global, told: &Told, wanted: &str) -> bool {
+    match format!(in alloc; "{told:?}") {
+        Ok(text) => text.as_str() == wanted,
+        Err(AllocError) => false,
+    }
+}
+
+// Takes one step: a request's line asks for a change, or for a call.
 fn step<R: Net<Listener = TcpListener, Stream = TcpStream> + Clock>(
     rt: &R,
     alloc: Global,
@@ -265,7 +275,7 @@ fn step<R: Net<Listener = TcpListener, Stream = TcpStream> + Clock>(
     head: &Head,
     pass: Pass<NalMatter>,
     principal: u32,
-    act: &Act,
+    line: &str,
 ) -> (Pass<NalMatter>, Told)
     requires opened { book.old.is_open ≡ true }
     requires board { book.old.board ≡ board.now }
@@ -275,8 +285,8 @@ fn step<R: Net<Listener = TcpListener, Stream = TcpStream> + Clock>(
     ensures pass { result.0.board ≡ board.now }
     ensures book { (book.new.board ≡ book.old.board) × (book.new.is_open ≡ true) }
 {
-    match act {
-        Act::Change(line) => change(alloc, book, board, head, pass, principal, line),
-        Act::Call(op, object) => call(rt, alloc, book, board, pass, principal, op, object),
+    match line.strip_prefix("call ") {
+        Some(names) => call(rt, alloc, book, board, pass, principal, names),
+        None => change(alloc, book, board, head, pass, principal, line),
     }
 }

@@ -1,7 +1,5 @@
 //! Sinks that fail.
-use crate::plays::{Act, Play, Session, Step, as_told, outcome_of};
-use crate::told::{done, refused};
-use policy_history::Refusal;
+use crate::plays::{Play, as_told, outcome_of};
 use std::test::Fail;
 
 const POLICY: &[u8] = b"nexus 2\nprincipal alice pa\nprincipal bob pb\nend\n";
@@ -26,40 +24,51 @@ fn lines_within(room: usize) -> u64 {
 }
 
 // The changes, of which so many can be recorded, and one that is refused as ever.
-fn steps_of(lines: u64) -> [Step<'static>; 4] {
-    let missing = Refusal::NoSuchLabel;
-    let failed = Refusal::NotRecorded;
-    let (object, label, other) = match lines {
-        0 => (refused(0, failed), refused(0, failed), refused(0, failed)),
-        1 => (done(1, 0), refused(1, failed), refused(1, failed)),
-        2 => (done(1, 0), done(2, 2), refused(2, failed)),
-        _ => (done(1, 0), done(2, 2), done(3, 1)),
-    };
-    [
-        (Session::First, Act::Change("object f"), object),
-        (
-            Session::First,
-            Act::Change("delete 9"),
-            refused(lines.min(1), missing),
-        ),
-        (Session::First, Act::Change("say alice : ok"), label),
-        (Session::Second, Act::Change("object g"), other),
-    ]
+fn steps_of(lines: u64) -> &'static str {
+    match lines {
+        0 => {
+            "alice object f -> Written(Refused { at: 0, refusal: NotRecorded })
+alice delete 9 -> Written(Refused { at: 0, refusal: NoSuchLabel })
+alice say alice : ok -> Written(Refused { at: 0, refusal: NotRecorded })
+bob object g -> Written(Refused { at: 0, refusal: NotRecorded })"
+        }
+        1 => {
+            "alice object f -> Written(Done { at: 1, number: 0 })
+alice delete 9 -> Written(Refused { at: 1, refusal: NoSuchLabel })
+alice say alice : ok -> Written(Refused { at: 1, refusal: NotRecorded })
+bob object g -> Written(Refused { at: 1, refusal: NotRecorded })"
+        }
+        2 => {
+            "alice object f -> Written(Done { at: 1, number: 0 })
+alice delete 9 -> Written(Refused { at: 1, refusal: NoSuchLabel })
+alice say alice : ok -> Written(Done { at: 2, number: 2 })
+bob object g -> Written(Refused { at: 2, refusal: NotRecorded })"
+        }
+        _ => {
+            "alice object f -> Written(Done { at: 1, number: 0 })
+alice delete 9 -> Written(Refused { at: 1, refusal: NoSuchLabel })
+alice say alice : ok -> Written(Done { at: 2, number: 2 })
+bob object g -> Written(Done { at: 3, number: 1 })"
+        }
+    }
+}
+
+// The changes over a sink with such room that fails at this call, of which so many bytes go out.
+fn play_of(room: usize, fails: u64, out: usize) -> Play<'static> {
+    Play {
+        policy: POLICY,
+        room,
+        fails,
+        steps: steps_of(lines_within(out)),
+        sent: WHOLE.get(..out).unwrap_or(WHOLE),
+    }
 }
 
 #[test]
 fn a_sink_may_be_full_after_each_byte(rt: HostRuntime) -> Result<(), Fail> {
     for room in 0..100usize {
-        let lines = lines_within(room);
-        let play = Play {
-            policy: POLICY,
-            room,
-            fails: &[],
-            steps: &steps_of(lines),
-            sent: WHOLE.get(..room).unwrap_or(WHOLE),
-        };
-        let outcome = outcome_of(&rt, rt.alloc(), &play);
-        assert_eq!(rt; outcome, as_told(lines, room < 99), "{room}");
+        let outcome = outcome_of(&rt, rt.alloc(), &play_of(room, 0, room));
+        assert_eq!(rt; outcome, as_told(lines_within(room), room < 99), "{room}");
     }
     Ok(())
 }
@@ -68,17 +77,8 @@ fn a_sink_may_be_full_after_each_byte(rt: HostRuntime) -> Result<(), Fail> {
 #[test]
 fn a_sink_may_fail_at_each_byte(rt: HostRuntime) -> Result<(), Fail> {
     for room in 0..99usize {
-        let lines = lines_within(room);
-        let fails = [room as u64 + 1];
-        let play = Play {
-            policy: POLICY,
-            room: 1000,
-            fails: &fails,
-            steps: &steps_of(lines),
-            sent: WHOLE.get(..room).unwrap_or(WHOLE),
-        };
-        let outcome = outcome_of(&rt, rt.alloc(), &play);
-        assert_eq!(rt; outcome, as_told(lines, true), "{room}");
+        let outcome = outcome_of(&rt, rt.alloc(), &play_of(1000, room as u64 + 1, room));
+        assert_eq!(rt; outcome, as_told(lines_within(room), true), "{room}");
     }
     Ok(())
 }

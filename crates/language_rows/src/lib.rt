@@ -15,6 +15,8 @@ mod proof_shapes;
 #[cfg(test)]
 mod proof_texts;
 #[cfg(test)]
+mod rows;
+#[cfg(test)]
 mod substitutions;
 #[cfg(test)]
 mod terms;

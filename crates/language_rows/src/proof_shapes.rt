@@ -1,97 +1,147 @@
 // Each public function once, at values worked out by hand.
 use nal_term::{Formula, Term};
 use proof_lines::{Line, Proof, PushError, Refs, Rule};
-use std::test::Fail;
+use std::alloc::{AllocError, Global};
 
-#[test]
-fn rules_and_lines_of_their_form(rt: HostRuntime) -> Result<(), Fail> {
-    let mut proof = Proof::new(rt.alloc());
-    for (rule, refs, term, answer) in [
-        (Rule::Label, [].as_slice(), None, Ok(())),
-        (Rule::Label, [1].as_slice(), None, Err(PushError::Shape)),
-        (Rule::AndL, [1].as_slice(), None, Ok(())),
-        (Rule::AndI, [1].as_slice(), None, Err(PushError::Shape)),
-        (Rule::ForallE, [1].as_slice(), None, Err(PushError::Shape)),
-        (Rule::ForallE, [1].as_slice(), Some(7), Ok(())),
-        (
-            Rule::AndI,
-            [1, 2].as_slice(),
-            Some(7),
-            Err(PushError::Shape),
-        ),
-        (Rule::ExistsE, [1, 2, 3].as_slice(), None, Ok(())),
-        (Rule::OrE, [1, 2, 3, 4, 5].as_slice(), None, Ok(())),
-    ] {
-        let line = line_of(rule, refs, term)?;
-        let fits = refs.len() as u64 == rule.reference_count()
-            && term.is_some() == rule.takes_term();
-        assert_eq!(rt; line.has_rule_form(), fits, "{rule:?}");
-        assert_eq!(rt; answer.is_ok(), fits, "{rule:?}");
-        assert_eq!(rt; proof.push(line), answer, "{rule:?}");
+const REFERENCES: [u64; 5] = [1, 2, 3, 4, 5];
+
+// The line of the rule with the first so many references, and with a number as its term, that concludes `true`.
+fn line(rule: Rule, count: usize, number: Option<u64>) -> Option<Line> {
+    let refs = Refs::of(REFERENCES.get(..count)?)?;
+    let term = match number {
+        Some(number) => Some(Term::Number(number)),
+        None => None,
+    };
+    Some(Line {
+        rule,
+        refs,
+        term,
+        formula: Formula::True,
+    })
+}
+
+// Whether the line is of its rule's form, and only then, as is due.
+fn is_pushed(proof: &mut Proof, line: Option<Line>, due: bool) -> bool {
+    let Some(line) = line else {
+        return false;
+    };
+    is_of_its_form(&line) == due && has_form(&line) == due && is_answered(proof, line, due)
+}
+
+fn has_form(line: &Line) -> bool {
+    line.has_rule_form()
+}
+
+fn is_of_its_form(line: &Line) -> bool {
+    line.refs.count() == line.rule.reference_count()
+        && line.term.is_some() == line.rule.takes_term()
+}
+
+fn is_answered(proof: &mut Proof, line: Line, due: bool) -> bool {
+    match proof.push(line) {
+        Ok(()) => due,
+        Err(PushError::Shape) => !due,
+        Err(_) => false,
     }
-    assert_eq!(rt; proof.count(), 5);
-    let proof = proof.copy(rt.alloc())?;
-    assert_eq!(rt; proof.as_slice().len(), 5);
-    assert!(rt; proof.line(0).is_none() && proof.line(6).is_none());
-    assert!(rt;
-        matches!(
+}
+
+fn rows(proof: &mut Proof) -> bool {
+    is_pushed(proof, line(Rule::Label, 0, None), true)
+        && is_pushed(proof, line(Rule::Label, 1, None), false)
+        && is_pushed(proof, line(Rule::AndL, 1, None), true)
+        && is_pushed(proof, line(Rule::AndI, 1, None), false)
+        && is_pushed(proof, line(Rule::ForallE, 1, None), false)
+        && is_pushed(proof, line(Rule::ForallE, 1, Some(7)), true)
+        && is_pushed(proof, line(Rule::AndI, 2, Some(7)), false)
+        && is_pushed(proof, line(Rule::ExistsE, 3, None), true)
+        && is_pushed(proof, line(Rule::OrE, 5, None), true)
+}
+
+// The lines that were added, from the first to the last.
+fn stand(proof: &Proof) -> bool {
+    proof.as_slice().len() == 5
+        && proof.line(0).is_none()
+        && matches!(
             proof.line(1),
             Some(Line {
                 rule: Rule::Label,
                 ..
             })
         )
-    );
-    assert!(rt;
-        matches!(
+        && matches!(
             proof.line(5),
             Some(Line {
                 rule: Rule::OrE,
                 ..
             })
         )
-    );
-    Ok(())
+        && proof.line(6).is_none()
 }
 
-#[test]
-fn a_proof_has_at_most_256_lines(rt: HostRuntime) -> Result<(), Fail> {
-    let mut proof = Proof::new(rt.alloc());
-    for _ in 0..256 {
-        proof.push(line_of(Rule::TrueI, &[], None)?)?;
+fn copy_stands(alloc: Global, proof: &Proof) -> bool {
+    match proof.copy(alloc) {
+        Ok(copy) => stand(&copy),
+        Err(AllocError) => false,
     }
-    assert_eq!(rt;
-        proof.push(line_of(Rule::TrueI, &[], None)?),
-        Err(PushError::Full)
-    );
-    assert_eq!(rt;
-        proof.push(line_of(Rule::AndL, &[], None)?),
-        Err(PushError::Shape)
-    );
-    assert_eq!(rt; proof.count(), 256);
-    Ok(())
 }
 
 #[test]
-fn references_in_their_order(rt: HostRuntime) -> Result<(), Fail> {
-    assert!(rt; Refs::of(&[1, 2, 3, 4, 5, 6]).is_none());
-    let refs = Refs::of(&[9, 8, 7, 7, 7]).ok_or("five references fit")?;
-    assert_eq!(rt; refs.count(), 5);
-    assert_eq!(rt; refs.as_slice(), [9, 8, 7, 7, 7].as_slice());
-    assert_eq!(rt; refs.copy()?.as_slice(), [9, 8, 7, 7, 7].as_slice());
-    assert_eq!(rt; (refs.get(1), refs.get(5)), (Some(&8), None));
-    Ok(())
+fn rules_and_lines_of_their_form(rt: HostRuntime) {
+    let mut proof = Proof::new(rt.alloc());
+    assert!(rt; rows(&mut proof));
+    assert!(rt; proof.count() == 5);
+    assert!(rt; copy_stands(rt.alloc(), &proof));
 }
 
-// A line of the rule that concludes `true`, with a number as its term.
-fn line_of(rule: Rule, refs: &[u64], term: Option<u64>) -> Result<Line, Fail> {
-    Ok(Line {
-        rule,
-        refs: Refs::of(refs).ok_or("at most five references")?,
-        term: match term {
-            Some(number) => Some(Term::Number(number)),
-            None => None,
-        },
-        formula: Formula::True,
-    })
+// Whether a 257th line is refused, and first for its form.
+fn is_filled(proof: &mut Proof) -> bool {
+    for _ in 0..256 {
+        if !is_pushed(proof, line(Rule::TrueI, 0, None), true) {
+            return false;
+        }
+    }
+    is_full(proof, line(Rule::TrueI, 0, None))
+        && is_pushed(proof, line(Rule::AndL, 0, None), false)
+        && proof.count() == 256
+}
+
+fn is_full(proof: &mut Proof, line: Option<Line>) -> bool {
+    match line {
+        Some(line) => matches!(proof.push(line), Err(PushError::Full)),
+        None => false,
+    }
+}
+
+#[test]
+fn a_proof_has_at_most_256_lines(rt: HostRuntime) {
+    let mut proof = Proof::new(rt.alloc());
+    assert!(rt; is_filled(&mut proof));
+}
+
+// What is asked of the references 9, 8, 7, 7 and 7.
+fn are_in_order(refs: &Refs) -> bool {
+    refs.count() == 5
+        && refs.as_slice() == [9, 8, 7, 7, 7].as_slice()
+        && refs.get(1) == Some(&8)
+        && refs.get(5).is_none()
+}
+
+fn copy_is_in_order(refs: &Refs) -> bool {
+    match refs.copy() {
+        Ok(copy) => are_in_order(&copy),
+        Err(AllocError) => false,
+    }
+}
+
+fn both_are_in_order(refs: Option<Refs>) -> bool {
+    match refs {
+        Some(refs) => are_in_order(&refs) && copy_is_in_order(&refs),
+        None => false,
+    }
+}
+
+#[test]
+fn references_in_their_order(rt: HostRuntime) {
+    assert!(rt; Refs::of(&[1, 2, 3, 4, 5, 6]).is_none());
+    assert!(rt; both_are_in_order(Refs::of(&[9, 8, 7, 7, 7])));
 }

@@ -1,66 +1,68 @@
 // Substitutions that were worked out by hand.
+use crate::rows::{Call, play, refused};
+use nal_parse::parse_formula;
 use nal_subst::{Match, SubstError, instance, substitute};
-use nal_term::{Args, Formula, Name, Term, equal};
-use std::alloc::Global;
-use std::test::Fail;
+use nal_term::{Formula, Name, Term, equal};
+use std::alloc::{AllocError, Global};
 
-#[test]
-fn substitutions(rt: HostRuntime) -> Result<(), Fail> {
-    let alloc = rt.alloc();
-    let (x, y) = (Name::of(alloc, b"x")?, Name::of(alloc, b"y")?);
-    let alice = Term::Name(Name::of(alloc, b"alice")?);
-    let (x_term, y_term) = (variable(alloc, b"x")?, variable(alloc, b"y")?);
-    let below = forall_x(alloc, variable(alloc, b"y")?)?;
-    let named = forall_x(alloc, alice.copy(alloc)?)?;
-    let own = forall_x(alloc, variable(alloc, b"x")?)?;
-    for (place, f, name, term, result, g, answer) in [
-        (0, &below, &y, &alice, None, &named, Match::Yes),
-        (1, &below, &y, &alice, None, &below, Match::No),
-        (2, &below, &y, &y_term, None, &below, Match::Yes),
-        (
-            3,
-            &below,
-            &y,
-            &x_term,
-            Some(SubstError::Capture),
-            &own,
-            Match::Capture,
-        ),
-        (
-            4,
-            &below,
-            &y,
-            &x_term,
-            Some(SubstError::Capture),
-            &Formula::True,
-            Match::Capture,
-        ),
-        (5, &below, &x, &alice, None, &below, Match::Yes),
-        (6, &own, &x, &alice, None, &own, Match::Yes),
-        (7, &named, &y, &x_term, None, &named, Match::Yes),
-        (8, &named, &y, &x_term, None, &below, Match::No),
-    ] {
-        assert_eq!(rt; instance(f, name, term, g), answer, "at {place}");
-        match substitute(alloc, f, name, term) {
-            Ok(made) => {
-                assert!(rt; result.is_none(), "at {place}");
-                assert_eq!(rt; equal(&made, g), answer == Match::Yes, "at {place}");
-            }
-            Err(error) => assert_eq!(rt; Some(error), result, "at {place}"),
+// `(f) and ?x = t and (g)`: whether g is the instance of f with t for x, and whether the substitution makes g, or why it makes none.
+const ROWS: &str =
+    "(forall ?x : p(?x, ?y)) and ?y = alice and (forall ?x : p(?x, alice)) -> Yes true
+(forall ?x : p(?x, ?y)) and ?y = alice and (forall ?x : p(?x, ?y)) -> No false
+(forall ?x : p(?x, ?y)) and ?y = ?y and (forall ?x : p(?x, ?y)) -> Yes true
+(forall ?x : p(?x, ?y)) and ?y = ?x and (forall ?x : p(?x, ?x)) -> Capture Capture
+(forall ?x : p(?x, ?y)) and ?y = ?x and true -> Capture Capture
+(forall ?x : p(?x, ?y)) and ?x = alice and (forall ?x : p(?x, ?y)) -> Yes true
+(forall ?x : p(?x, ?x)) and ?x = alice and (forall ?x : p(?x, ?x)) -> Yes true
+(forall ?x : p(?x, alice)) and ?y = ?x and (forall ?x : p(?x, alice)) -> Yes true
+(forall ?x : p(?x, alice)) and ?y = ?x and (forall ?x : p(?x, ?y)) -> No false";
+
+struct Substituted;
+
+impl Call for Substituted {
+    fn told(alloc: Global, input: &[u8]) -> Result<String, AllocError> {
+        match parse_formula(alloc, input) {
+            Ok(row) => told_of(alloc, &row),
+            Err(error) => refused(alloc, error),
         }
     }
-    Ok(())
 }
 
-fn variable(alloc: Global, name: &[u8]) -> Result<Term, Fail> {
-    Ok(Term::Var(Name::of(alloc, name)?))
+fn told_of(alloc: Global, row: &Formula) -> Result<String, AllocError> {
+    if let Formula::And(left, g) = row
+        && let Formula::And(f, test) = &**left
+        && let Formula::Test(_, Term::Var(x), t) = &**test
+    {
+        return both_answers(alloc, f, x, t, g);
+    }
+    String::from_str(alloc, "no such row")
 }
 
-// The formula `forall ?x : p(?x, t)`.
-fn forall_x(alloc: Global, t: Term) -> Result<Formula, Fail> {
-    let mut args = Args::new(alloc);
-    args.push(variable(alloc, b"x")?)?;
-    args.push(t)?;
-    let atom = Formula::Atom(Name::of(alloc, b"p")?, args);
-    Ok(Formula::Forall(Name::of(alloc, b"x")?, Box::new(alloc, atom)?))
+fn both_answers(
+    alloc: Global,
+    f: &Formula,
+    x: &Name,
+    t: &Term,
+    g: &Formula,
+) -> Result<String, AllocError> {
+    let found = match instance(f, x, t, g) {
+        Match::Yes => "Yes",
+        Match::No => "No",
+        Match::Capture => "Capture",
+    };
+    let made = match substitute(alloc, f, x, t) {
+        Ok(made) => told_of_made(&made, g),
+        Err(SubstError::Capture) => "Capture",
+        Err(SubstError::Memory) => "Memory",
+    };
+    format!(in alloc; "{found} {made}")
+}
+
+fn told_of_made(made: &Formula, g: &Formula) -> &'static str {
+    if equal(made, g) { "true" } else { "false" }
+}
+
+#[test]
+fn substitutions(rt: HostRuntime) {
+    play::<Substituted>(&rt, rt.alloc(), ROWS);
 }

@@ -2,12 +2,12 @@
 // hand, after docs/FORMATS.md, "Frames".
 ghost use Rattle.std.specs.Prelude.{◌≤◌};
 
-use nx_io::MemLink;
+use crate::texts::is_told;
+use nx_io::{Bytes, MemLink};
 use session_wire::{
-    FrameFault, FrameReader, Framed, ReplyRead, Request, read_reply, write_reply, write_request,
+    FrameReader, Framed, ReplyRead, Request, read_reply, write_reply, write_request,
 };
 use std::alloc::{AllocError, Global};
-use std::test::Fail;
 
 const PIECES: [usize; 4] = [1, 2, 3, 40_000];
 
@@ -37,17 +37,6 @@ fn bytes_of(alloc: Global, text: &str) -> Result<Vec<u8>, AllocError> {
     Ok(bytes)
 }
 
-// What is told where no request was read.
-#[derive(Clone, Copy, Debug, PartialEq, Eq)]
-enum Last {
-    More,
-    End,
-    Torn,
-    Bad(FrameFault, u64),
-    ReadFault,
-    Memory,
-}
-
 // How many requests are read of these bytes, the first three at most, what is told then, and how many bytes the link has left.
 fn read_all(
     alloc: Global,
@@ -55,26 +44,43 @@ fn read_all(
     piece: usize,
     fails: &[u64],
 ) -> Result<String, AllocError> {
-    let mut link = MemLink::new(alloc, bytes, 0, piece.max(1), fails, &[])?;
+    match MemLink::new(alloc, bytes, 0, piece.max(1), fails, &[]) {
+        Ok(mut link) => read_link(alloc, &mut link),
+        Err(AllocError) => Err(AllocError),
+    }
+}
+
+fn read_link(alloc: Global, link: &mut MemLink) -> Result<String, AllocError> {
     let mut reader = FrameReader::new(alloc)?;
     let mut count = 0u64;
-    let mut last = Last::More;
     for _ in 0..3u64 {
-        last = match reader.next(&mut link) {
-            Framed::Request(_) => {
-                count += 1;
-                continue;
-            }
-            Framed::End => Last::End,
-            Framed::Torn => Last::Torn,
-            Framed::Bad { fault, place } => Last::Bad(fault, place),
-            Framed::ReadFault => Last::ReadFault,
-            Framed::Memory => Last::Memory,
-        };
-        break;
+        let framed = reader.next(link);
+        if !matches!(&framed, Framed::Request(_)) {
+            return told_last(alloc, count, &framed, link.left().len());
+        }
+        count = count.saturating_add(1);
     }
-    let left = link.left().len();
-    format!(in alloc; "{count} {last:?} {left}")
+    format!(in alloc; "3 More {}", link.left().len())
+}
+
+// What is told where no request was read.
+fn told_last(
+    alloc: Global,
+    count: u64,
+    framed: &Framed,
+    left: usize,
+) -> Result<String, AllocError> {
+    let last = match framed {
+        Framed::Bad { fault, place } => {
+            return format!(in alloc; "{count} Bad({fault:?}, {place}) {left}");
+        }
+        Framed::Request(_) => "More",
+        Framed::End => "End",
+        Framed::Torn => "Torn",
+        Framed::ReadFault => "ReadFault",
+        Framed::Memory => "Memory",
+    };
+    format!(in alloc; "{count} {last} {left}")
 }
 
 // Bytes, and how many requests are read of them, what is told then, and how many bytes are left. Some requests; lengths and
@@ -107,25 +113,34 @@ ff0000000505 -> 0 Bad(TooLong, 0) 2
 0000000a010003626f620002707700008401 -> 1 Bad(TooLong, 14) 0
 0000000a010003626f620002707700000000 -> 1 Bad(BadKind, 18) 0";
 
-#[test]
-fn each_fault_is_told_at_its_place(rt: HostRuntime) -> Result<(), Fail> {
-    let alloc = rt.alloc();
-    for case in STREAMS.lines() {
-        let (text, wanted) = case.split_once(" -> ").unwrap_or(("", ""));
-        let bytes = bytes_of(alloc, text)?;
-        for piece in PIECES {
-            let told = read_all(alloc, bytes.as_slice(), piece, &[])?;
-            assert_eq!(rt; told.as_str(), wanted, "{text} {piece}");
+// Whether the link tells so in pieces of each length.
+fn is_told_in_pieces(alloc: Global, bytes: &[u8], wanted: &str) -> bool {
+    for piece in PIECES {
+        if !is_told(read_all(alloc, bytes, piece, &[]), wanted) {
+            return false;
         }
     }
-    Ok(())
+    true
+}
+
+fn row_holds(alloc: Global, row: &str) -> bool {
+    let (text, wanted) = row.split_once(" -> ").unwrap_or(("", ""));
+    match bytes_of(alloc, text) {
+        Ok(bytes) => is_told_in_pieces(alloc, bytes.as_slice(), wanted),
+        Err(AllocError) => false,
+    }
 }
 
 #[test]
-fn a_cut_stream_ends_at_an_edge_or_within_a_frame(rt: HostRuntime) -> Result<(), Fail> {
-    let alloc = rt.alloc();
-    let text = "0000000a010003626f6200027077000000120c0004726561640001660000000000000007";
-    let bytes = bytes_of(alloc, text)?;
+fn each_fault_is_told_at_its_place(rt: HostRuntime) {
+    for row in STREAMS.lines() {
+        assert!(rt; row_holds(rt.alloc(), row), "{row}");
+    }
+}
+
+const TWO_FRAMES: &str = "0000000a010003626f6200027077000000120c0004726561640001660000000000000007";
+
+fn cuts_hold(alloc: Global, bytes: &[u8]) -> bool {
     for cut in 0..=bytes.len() {
         let wanted = match cut {
             0 => "0 End 0",
@@ -134,17 +149,19 @@ fn a_cut_stream_ends_at_an_edge_or_within_a_frame(rt: HostRuntime) -> Result<(),
             15..36 => "1 Torn 0",
             _ => "2 End 0",
         };
-        for piece in PIECES {
-            let told = read_all(alloc, &bytes[..cut], piece, &[])?;
-            assert_eq!(rt; told.as_str(), wanted, "{cut} {piece}");
+        if !is_told_in_pieces(alloc, &bytes[..cut], wanted) {
+            return false;
         }
     }
     // The second take fails, after three bytes; the third does, behind the first frame.
-    let told = read_all(alloc, bytes.as_slice(), 3, &[2])?;
-    assert_eq!(rt; told.as_str(), "0 ReadFault 33");
-    let told = read_all(alloc, bytes.as_slice(), 40_000, &[3])?;
-    assert_eq!(rt; told.as_str(), "1 ReadFault 22");
-    Ok(())
+    is_told(read_all(alloc, bytes, 3, &[2]), "0 ReadFault 33")
+        && is_told(read_all(alloc, bytes, 40_000, &[3]), "1 ReadFault 22")
+}
+
+#[test]
+fn a_cut_stream_ends_at_an_edge_or_within_a_frame(rt: HostRuntime) {
+    let bytes = bytes_of(rt.alloc(), TWO_FRAMES);
+    assert!(rt; matches!(&bytes, Ok(bytes) if cuts_hold(rt.alloc(), bytes.as_slice())));
 }
 
 // The frame of a request of each kind, in the order of the kinds.
@@ -179,17 +196,25 @@ fn kind_of(request: &Request) -> u64 {
 }
 
 // The kind of the request that is read of a frame, if its frame is this one again.
-fn read_and_write(alloc: Global, frame: &[u8]) -> Result<Option<u64>, AllocError> {
-    let mut link = MemLink::new(alloc, frame, 0, 40_000, &[], &[])?;
-    let mut reader = FrameReader::new(alloc)?;
-    let Framed::Request(request) = reader.next(&mut link) else {
-        return Ok(None);
-    };
-    let written = write_request(alloc, &request)?;
-    if written.as_slice() == frame {
-        Ok(Some(kind_of(&request)))
-    } else {
-        Ok(None)
+fn read_and_write(alloc: Global, frame: &[u8]) -> Option<u64> {
+    match MemLink::new(alloc, frame, 0, 40_000, &[], &[]) {
+        Ok(mut link) => kind_on(alloc, frame, &mut link),
+        Err(AllocError) => None,
+    }
+}
+
+fn kind_on(alloc: Global, frame: &[u8], link: &mut MemLink) -> Option<u64> {
+    let mut reader = FrameReader::new(alloc).ok()?;
+    match reader.next(link) {
+        Framed::Request(request) => kind_if(&request, write_request(alloc, &request), frame),
+        _ => None,
+    }
+}
+
+fn kind_if(request: &Request, written: Result<Bytes, AllocError>, frame: &[u8]) -> Option<u64> {
+    match written {
+        Ok(written) if written.as_slice() == frame => Some(kind_of(request)),
+        _ => None,
     }
 }
 
@@ -205,25 +230,33 @@ fn unbind_frame(alloc: Global, letters: u16) -> Result<Vec<u8>, AllocError> {
     Ok(frame)
 }
 
+fn is_kind(alloc: Global, frame: Result<Vec<u8>, AllocError>, kind: u64) -> bool {
+    match frame {
+        Ok(frame) => read_and_write(alloc, frame.as_slice()) == Some(kind),
+        Err(AllocError) => false,
+    }
+}
+
+fn is_too_long(alloc: Global, frame: Result<Vec<u8>, AllocError>) -> bool {
+    match frame {
+        Ok(frame) => {
+            let told = read_all(alloc, frame.as_slice(), 40_000, &[]);
+            is_told(told, "0 Bad(TooLong, 0) 33793")
+        }
+        Err(AllocError) => false,
+    }
+}
+
 #[test]
-fn requests_are_read_and_written(rt: HostRuntime) -> Result<(), Fail> {
+fn requests_are_read_and_written(rt: HostRuntime) {
     let alloc = rt.alloc();
     let mut kind = 0u64;
     for text in REQUESTS.lines() {
         kind = kind.wrapping_add(1);
-        let frame = bytes_of(alloc, text)?;
-        assert_eq!(rt;
-            read_and_write(alloc, frame.as_slice())?,
-            Some(kind),
-            "{text}"
-        );
+        assert!(rt; is_kind(alloc, bytes_of(alloc, text), kind), "{text}");
     }
-    let longest = unbind_frame(alloc, 33_789)?;
-    assert_eq!(rt; read_and_write(alloc, longest.as_slice())?, Some(11));
-    let longer = unbind_frame(alloc, 33_790)?;
-    let told = read_all(alloc, longer.as_slice(), 40_000, &[])?;
-    assert_eq!(rt; told.as_str(), "0 Bad(TooLong, 0) 33793");
-    Ok(())
+    assert!(rt; is_kind(alloc, unbind_frame(alloc, 33_789), 11));
+    assert!(rt; is_too_long(alloc, unbind_frame(alloc, 33_790)));
 }
 
 // Bytes, what is read of them, and how many bytes are left: each reply; then lengths that no reply has, of which four bytes
@@ -255,41 +288,67 @@ fn read_one(
     piece: usize,
     fails: &[u64],
 ) -> Result<String, AllocError> {
-    let mut link = MemLink::new(alloc, bytes, 0, piece.max(1), fails, &[])?;
-    let read = read_reply(&mut link);
-    let left = link.left().len();
-    format!(in alloc; "{read:?} {left}")
+    match MemLink::new(alloc, bytes, 0, piece.max(1), fails, &[]) {
+        Ok(mut link) => told_of_reply(alloc, &mut link),
+        Err(AllocError) => Err(AllocError),
+    }
+}
+
+fn told_of_reply(alloc: Global, link: &mut MemLink) -> Result<String, AllocError> {
+    let read = read_reply(link);
+    format!(in alloc; "{read:?} {}", link.left().len())
 }
 
 // Whether the bytes begin with the frame of the reply that is read of them.
-fn is_written_back(alloc: Global, bytes: &[u8]) -> Result<bool, AllocError> {
-    let mut link = MemLink::new(alloc, bytes, 0, 40_000, &[], &[])?;
-    let ReplyRead::Reply(reply) = read_reply(&mut link) else {
-        return Ok(true);
-    };
-    let mut frame = [0; 64];
-    let count = write_reply(&reply, &mut frame);
-    Ok(bytes.starts_with(&frame[..count]))
+fn is_written_back(alloc: Global, bytes: &[u8]) -> bool {
+    match MemLink::new(alloc, bytes, 0, 40_000, &[], &[]) {
+        Ok(mut link) => begins_with(bytes, &read_reply(&mut link)),
+        Err(AllocError) => false,
+    }
 }
 
-#[test]
-fn replies_are_read_and_written(rt: HostRuntime) -> Result<(), Fail> {
-    let alloc = rt.alloc();
-    for case in REPLIES.lines() {
-        let (text, wanted) = case.split_once(" -> ").unwrap_or(("", ""));
-        let bytes = bytes_of(alloc, text)?;
-        for piece in PIECES {
-            let told = read_one(alloc, bytes.as_slice(), piece, &[])?;
-            assert_eq!(rt; told.as_str(), wanted, "{text} {piece}");
+fn begins_with(bytes: &[u8], read: &ReplyRead) -> bool {
+    let ReplyRead::Reply(reply) = read else {
+        return true;
+    };
+    let mut frame = [0; 64];
+    let count = write_reply(reply, &mut frame);
+    bytes.starts_with(&frame[..count])
+}
+
+fn is_reply(alloc: Global, bytes: &[u8], wanted: &str) -> bool {
+    for piece in PIECES {
+        if !is_told(read_one(alloc, bytes, piece, &[]), wanted) {
+            return false;
         }
-        assert!(rt; is_written_back(alloc, bytes.as_slice())?, "{text}");
     }
-    let bytes = bytes_of(alloc, "000000114100000000000000010000000000000000")?;
+    is_written_back(alloc, bytes)
+}
+
+fn reply_row_holds(alloc: Global, row: &str) -> bool {
+    let (text, wanted) = row.split_once(" -> ").unwrap_or(("", ""));
+    match bytes_of(alloc, text) {
+        Ok(bytes) => is_reply(alloc, bytes.as_slice(), wanted),
+        Err(AllocError) => false,
+    }
+}
+
+fn cut_replies_hold(alloc: Global, bytes: &[u8]) -> bool {
     for cut in 1..bytes.len() {
-        let told = read_one(alloc, &bytes[..cut], 3, &[])?;
-        assert_eq!(rt; told.as_str(), "Torn 0", "{cut}");
+        if !is_told(read_one(alloc, &bytes[..cut], 3, &[]), "Torn 0") {
+            return false;
+        }
     }
-    let told = read_one(alloc, bytes.as_slice(), 3, &[2])?;
-    assert_eq!(rt; told.as_str(), "ReadFault 18");
-    Ok(())
+    is_told(read_one(alloc, bytes, 3, &[2]), "ReadFault 18")
+}
+
+const WELCOME: &str = "000000114100000000000000010000000000000000";
+
+#[test]
+fn replies_are_read_and_written(rt: HostRuntime) {
+    for row in REPLIES.lines() {
+        assert!(rt; reply_row_holds(rt.alloc(), row), "{row}");
+    }
+    let bytes = bytes_of(rt.alloc(), WELCOME);
+    assert!(rt; matches!(&bytes, Ok(bytes) if cut_replies_hold(rt.alloc(), bytes.as_slice())));
 }

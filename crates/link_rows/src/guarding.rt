@@ -1,200 +1,192 @@
 // What the guard finds of a case, call by call, over a panel whose answers are given beforehand.
+use crate::texts::is_told;
 use authority_ask::{Ask, MemPanel};
-use guard_core::{Finding, GuardError, judge};
+use guard_core::judge;
 use nal_parse::{parse_formula, parse_term};
-use nal_rules::{Binding, Bindings, Case, Cause, Fault, Labels};
-use nal_term::Formula;
+use nal_rules::{Binding, Bindings, Case, Labels};
 use proof_lines::Proof;
 use proof_text::read_proof;
-use std::alloc::Global;
+use std::alloc::{AllocError, Global};
 use std::net::{Net, TcpListener, TcpStream};
 use std::process::Abort;
 use std::rt::Clock;
-use std::test::Fail;
-
-// A case by its texts, and what the guard finds of it, call by call, with how often was asked in all.
-#[derive(Clone, Copy)]
-struct Trial {
-    goal: Option<&'static [u8]>,
-    proof: Option<&'static [u8]>,
-    labels: &'static [&'static [u8]],
-    bound: &'static [(&'static [u8], u64)],
-    answers: &'static [Ask],
-    calls: &'static [(Result<Finding, GuardError>, u64)],
-}
 
 // A delegation on a predicate, and an authority that is asked for it.
-const DELEGATED: Trial = Trial {
-    goal: Some(b"fs says TimeNow < 20110319"),
-    proof: Some(
-        b"proof 1 ; 1 label : fs says ntp speaksfor fs on TimeNow ; 2 handoff_on 1 : ntp speaksfor fs on TimeNow ; 3 ask : ntp says TimeNow < 20110319 ; 4 sf_on_e 2 3 : fs says TimeNow < 20110319 ; end",
-    ),
-    labels: &[b"fs says ntp speaksfor fs on TimeNow"],
-    bound: &[(b"ntp", 1)],
-    answers: &[Ask::Yes, Ask::No],
-    calls: &[
-        (Ok(Finding::Allowed { asks: 1 }), 1),
-        (Ok(Finding::Denied(Cause::AuthorityNo { line: 3 })), 2),
-        // After the last answer that was given comes No.
-        (Ok(Finding::Denied(Cause::AuthorityNo { line: 3 })), 3),
-    ],
-};
+const DELEGATED: &str =
+    "proof 1 ; 1 label : fs says ntp speaksfor fs on TimeNow ; 2 handoff_on 1 : ntp speaksfor fs on TimeNow ; 3 ask : ntp says TimeNow < 20110319 ; 4 sf_on_e 2 3 : fs says TimeNow < 20110319 ; end";
+
+// The same for what the delegation does not cover.
+const OUT_OF_SCOPE: &str =
+    "proof 1 ; 1 label : fs says ntp speaksfor fs on TimeNow ; 2 handoff_on 1 : ntp speaksfor fs on TimeNow ; 3 ask : ntp says Load < 5 ; 4 sf_on_e 2 3 : fs says Load < 5 ; end";
 
 // Two asks of one principal.
-const TWICE: Trial = Trial {
-    goal: Some(b"ntp says a and ntp says b"),
-    proof: Some(
-        b"proof 1 ; 1 ask : ntp says a ; 2 ask : ntp says b ; 3 and_i 1 2 : ntp says a and ntp says b ; end",
-    ),
-    labels: &[],
-    bound: &[(b"ntp", 1), (b"ntp", 1)],
-    answers: &[Ask::Yes, Ask::Down, Ask::Yes, Ask::Yes],
-    calls: &[
-        (Err(GuardError::Down { line: 2 }), 2),
-        (Ok(Finding::Allowed { asks: 2 }), 4),
-    ],
-};
+const TWICE: &str =
+    "proof 1 ; 1 ask : ntp says a ; 2 ask : ntp says b ; 3 and_i 1 2 : ntp says a and ntp says b ; end";
 
-fn trials() -> [Trial; 11] {
-    [
-        DELEGATED,
-        TWICE,
-        // The first No ends the asks, and so does want of memory for one.
-        Trial {
-            answers: &[Ask::No, Ask::Yes, Ask::NoMemory],
-            calls: &[
-                (Ok(Finding::Denied(Cause::AuthorityNo { line: 1 })), 1),
-                (Err(GuardError::Memory), 3),
-            ],
-            ..TWICE
-        },
-        Trial {
-            bound: &[],
-            calls: &[(Ok(Finding::Denied(Cause::NotBound { line: 1 })), 0)],
-            ..TWICE
-        },
-        Trial {
-            bound: &[(b"fs", 1)],
-            calls: &[(Ok(Finding::Denied(Cause::NotBound { line: 3 })), 0)],
-            ..DELEGATED
-        },
-        // An earlier cause is told, whatever else applies, and nobody is asked.
-        Trial {
-            labels: &[],
-            bound: &[],
-            calls: &[(Ok(Finding::Denied(Cause::LabelMissing { line: 1 })), 0)],
-            ..DELEGATED
-        },
-        Trial {
-            goal: Some(b"fs says Load < 5"),
-            labels: &[],
-            calls: &[(
-                Ok(Finding::Denied(Cause::Line {
-                    line: 4,
-                    fault: Fault::NotGoal,
-                })),
-                0,
-            )],
-            ..DELEGATED
-        },
-        Trial {
-            goal: Some(b"fs says Load < 5"),
-            proof: Some(
-                b"proof 1 ; 1 label : fs says ntp speaksfor fs on TimeNow ; 2 handoff_on 1 : ntp speaksfor fs on TimeNow ; 3 ask : ntp says Load < 5 ; 4 sf_on_e 2 3 : fs says Load < 5 ; end",
-            ),
-            calls: &[(
-                Ok(Finding::Denied(Cause::Line {
-                    line: 4,
-                    fault: Fault::OutOfScope,
-                })),
-                0,
-            )],
-            ..DELEGATED
-        },
-        Trial {
-            proof: None,
-            calls: &[(Ok(Finding::Denied(Cause::NoProof)), 0)],
-            ..DELEGATED
-        },
-        Trial {
-            goal: None,
-            proof: None,
-            calls: &[(Ok(Finding::Denied(Cause::GoalUnset)), 0)],
-            ..DELEGATED
-        },
-        // Nothing to ask.
-        Trial {
-            goal: Some(b"fs says ntp speaksfor fs on TimeNow"),
-            proof: Some(b"proof 1 ; 1 label : fs says ntp speaksfor fs on TimeNow ; end"),
-            calls: &[(Ok(Finding::Allowed { asks: 0 }), 0)],
-            ..DELEGATED
-        },
-    ]
+// Nothing to ask.
+const LABEL: &str = "proof 1 ; 1 label : fs says ntp speaksfor fs on TimeNow ; end";
+
+// Cases by their parts, with the answers of the panel, and what so many calls find, each with how often was asked in all. After the
+// last answer that is given comes No. The first No ends the asks, and so does want of memory for one. An earlier cause is told,
+// whatever else applies, and nobody is asked.
+const TRIALS: &str =
+    "calls 3|goal fs says TimeNow < 20110319|proof DELEGATED|label fs says ntp speaksfor fs on TimeNow|bound ntp|answer Yes|answer No -> Ok(Allowed { asks: 1 }) 1,Ok(Denied(AuthorityNo { line: 3 })) 2,Ok(Denied(AuthorityNo { line: 3 })) 3,
+calls 2|goal ntp says a and ntp says b|proof TWICE|bound ntp|bound ntp|answer Yes|answer Down|answer Yes|answer Yes -> Err(Down { line: 2 }) 2,Ok(Allowed { asks: 2 }) 4,
+calls 2|goal ntp says a and ntp says b|proof TWICE|bound ntp|bound ntp|answer No|answer Yes|answer NoMemory -> Ok(Denied(AuthorityNo { line: 1 })) 1,Err(Memory) 3,
+calls 1|goal ntp says a and ntp says b|proof TWICE|answer Yes|answer Down|answer Yes|answer Yes -> Ok(Denied(NotBound { line: 1 })) 0,
+calls 1|goal fs says TimeNow < 20110319|proof DELEGATED|label fs says ntp speaksfor fs on TimeNow|bound fs|answer Yes|answer No -> Ok(Denied(NotBound { line: 3 })) 0,
+calls 1|goal fs says TimeNow < 20110319|proof DELEGATED|answer Yes|answer No -> Ok(Denied(LabelMissing { line: 1 })) 0,
+calls 1|goal fs says Load < 5|proof DELEGATED|bound ntp|answer Yes|answer No -> Ok(Denied(Line { line: 4, fault: NotGoal })) 0,
+calls 1|goal fs says Load < 5|proof OUT_OF_SCOPE|label fs says ntp speaksfor fs on TimeNow|bound ntp|answer Yes|answer No -> Ok(Denied(Line { line: 4, fault: OutOfScope })) 0,
+calls 1|goal fs says TimeNow < 20110319|label fs says ntp speaksfor fs on TimeNow|bound ntp|answer Yes|answer No -> Ok(Denied(NoProof)) 0,
+calls 1|label fs says ntp speaksfor fs on TimeNow|bound ntp|answer Yes|answer No -> Ok(Denied(GoalUnset)) 0,
+calls 1|goal fs says ntp speaksfor fs on TimeNow|proof LABEL|label fs says ntp speaksfor fs on TimeNow|bound ntp|answer Yes|answer No -> Ok(Allowed { asks: 0 }) 0,";
+
+#[derive(Drop)]
+struct Trial {
+    calls: u64,
+    case: Case,
+    answers: Vec<Ask>,
 }
 
-fn case_of(alloc: Global, trial: &Trial) -> Option<Case> {
-    let goal = match trial.goal {
-        Some(text) => Some(parse_formula(alloc, text).ok()?),
-        None => None,
+fn answer(trial: &mut Trial, word: &str) -> bool {
+    let answer = match word {
+        "Yes" => Ask::Yes,
+        "No" => Ask::No,
+        "Down" => Ask::Down,
+        _ => Ask::NoMemory,
     };
-    let proof = match trial.proof {
-        Some(text) => Some(read_proof(alloc, text).ok()?),
-        None => None,
-    };
-    let mut labels = Labels::new(alloc);
-    for text in trial.labels {
-        labels.push(parse_formula(alloc, text).ok()?).ok()?;
-    }
-    let mut bound = Bindings::new(alloc);
-    for (text, port) in trial.bound {
-        let principal = parse_term(alloc, text).ok()?;
-        let port = *port;
-        bound.push(Binding { principal, port }).ok()?;
-    }
-    Some(Case {
-        goal,
-        proof,
-        labels,
-        bound,
-    })
+    trial.answers.push(answer).is_ok()
 }
 
-fn try_out<R>(rt: &R, alloc: Global, trial: &Trial) -> Result<(), Fail>
+fn set_goal(alloc: Global, case: &mut Case, text: &str) -> bool {
+    case.goal = parse_formula(alloc, text.as_bytes()).ok();
+    case.goal.is_some()
+}
+
+fn set_proof(alloc: Global, case: &mut Case, name: &str) -> bool {
+    case.proof = match name {
+        "DELEGATED" => proof_of(alloc, DELEGATED),
+        "OUT_OF_SCOPE" => proof_of(alloc, OUT_OF_SCOPE),
+        "TWICE" => proof_of(alloc, TWICE),
+        "LABEL" => proof_of(alloc, LABEL),
+        _ => Some(Proof::new(alloc)),
+    };
+    case.proof.is_some()
+}
+
+fn proof_of(alloc: Global, text: &str) -> Option<Proof> {
+    read_proof(alloc, text.as_bytes()).ok()
+}
+
+fn add_label(alloc: Global, labels: &mut Labels, text: &str) -> bool {
+    match parse_formula(alloc, text.as_bytes()) {
+        Ok(label) => labels.push(label).is_ok(),
+        Err(_) => false,
+    }
+}
+
+fn add_bound(alloc: Global, bound: &mut Bindings, text: &str) -> bool {
+    match parse_term(alloc, text.as_bytes()) {
+        Ok(principal) => bound.push(Binding { principal, port: 1 }).is_ok(),
+        Err(_) => false,
+    }
+}
+
+fn add(alloc: Global, trial: &mut Trial, part: &str) -> bool {
+    let (word, text) = part.split_once(" ").unwrap_or((part, ""));
+    match word {
+        "goal" => set_goal(alloc, &mut trial.case, text),
+        "proof" => set_proof(alloc, &mut trial.case, text),
+        "label" => add_label(alloc, &mut trial.case.labels, text),
+        "bound" => add_bound(alloc, &mut trial.case.bound, text),
+        "answer" => answer(trial, text),
+        _ => {
+            trial.calls = text.parse::<u64>().unwrap_or(0);
+            true
+        }
+    }
+}
+
+fn add_all(alloc: Global, trial: &mut Trial, row: &str) -> bool {
+    for part in row.split("|") {
+        if !add(alloc, trial, part) {
+            return false;
+        }
+    }
+    true
+}
+
+fn told<R>(rt: &R, alloc: Global, row: &str) -> Result<String, AllocError>
 where
     R: Net<Listener = TcpListener, Stream = TcpStream> + Clock + Abort,
 {
-    let mut panel = MemPanel::new(alloc, trial.answers, &[], &[])?;
-    let case = case_of(alloc, trial);
-    assert!(rt; case.is_some());
-    let Some(case) = case else { return Ok(()) };
-    for (outcome, asks) in trial.calls {
-        assert_eq!(rt; judge(rt, alloc, &case, &mut panel), *outcome);
-        assert_eq!(rt; panel.asks(), *asks);
+    let mut trial = Trial {
+        calls: 0,
+        case: Case {
+            goal: None,
+            proof: None,
+            labels: Labels::new(alloc),
+            bound: Bindings::new(alloc),
+        },
+        answers: Vec::new(alloc),
+    };
+    if add_all(alloc, &mut trial, row) {
+        found(rt, alloc, &trial)
+    } else {
+        String::from_str(alloc, "no case")
     }
-    Ok(())
+}
+
+fn found<R>(rt: &R, alloc: Global, trial: &Trial) -> Result<String, AllocError>
+where
+    R: Net<Listener = TcpListener, Stream = TcpStream> + Clock + Abort,
+{
+    match MemPanel::new(alloc, trial.answers.as_slice(), &[], &[]) {
+        Ok(mut panel) => found_by(rt, alloc, trial, &mut panel),
+        Err(AllocError) => Err(AllocError),
+    }
+}
+
+fn found_by<R>(
+    rt: &R,
+    alloc: Global,
+    trial: &Trial,
+    panel: &mut MemPanel,
+) -> Result<String, AllocError>
+where
+    R: Net<Listener = TcpListener, Stream = TcpStream> + Clock + Abort,
+{
+    let mut told = String::new(alloc);
+    for _ in 0..trial.calls {
+        let found = judge(rt, alloc, &trial.case, panel);
+        let call = format!(in alloc; "{found:?} {},", panel.asks())?;
+        told.push_str(call.as_str())?;
+    }
+    Ok(told)
+}
+
+fn try_out<R>(rt: &R, alloc: Global, trials: &str)
+where
+    R: Net<Listener = TcpListener, Stream = TcpStream> + Clock + Abort,
+{
+    for row in trials.lines() {
+        let (input, wanted) = row.split_once(" -> ").unwrap_or(("", "two columns"));
+        assert!(rt; is_told(told(rt, alloc, input), wanted), "{row}");
+    }
 }
 
 #[test]
-fn the_guard_asks_no_more_than_it_needs(rt: HostRuntime) -> Result<(), Fail> {
-    for trial in trials() {
-        try_out(&rt, rt.alloc(), &trial)?;
-    }
-    Ok(())
+fn the_guard_asks_no_more_than_it_needs(rt: HostRuntime) {
+    try_out(&rt, rt.alloc(), TRIALS);
 }
 
 // No text spells a proof without lines.
 #[test]
-fn a_proof_without_lines_is_none(rt: HostRuntime) -> Result<(), Fail> {
-    let alloc = rt.alloc();
-    let mut panel = MemPanel::new(alloc, &[], &[], &[])?;
-    let case = Case {
-        goal: Some(Formula::True),
-        proof: Some(Proof::new(alloc)),
-        labels: Labels::new(alloc),
-        bound: Bindings::new(alloc),
-    };
-    let none = Ok(Finding::Denied(Cause::NoProof));
-    assert_eq!(&rt; judge(&rt, alloc, &case, &mut panel), none);
-    assert_eq!(&rt; panel.asks(), 0);
-    Ok(())
+fn a_proof_without_lines_is_none(rt: HostRuntime) {
+    try_out(
+        &rt,
+        rt.alloc(),
+        "calls 1|goal true|proof EMPTY -> Ok(Denied(NoProof)) 0,",
+    );
 }

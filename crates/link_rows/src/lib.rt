@@ -10,3 +10,5 @@ mod frames;
 mod guarding;
 #[cfg(test)]
 mod panels;
+#[cfg(test)]
+mod texts;

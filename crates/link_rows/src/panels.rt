@@ -10,7 +10,7 @@ use std::net::{Net, TcpListener, TcpStream};
 use std::process::Abort;
 use std::rt::Clock as SystemClock;
 
-// Asks a panel whether the statement of a text holds.
+// Asks a panel whether the statement of a text holds. A text of no statement is told as want of memory.
 fn ask<P: Panel, R: Net<Listener = TcpListener, Stream = TcpStream> + SystemClock + Abort>(
     rt: &R,
     alloc: Global,
@@ -18,10 +18,33 @@ fn ask<P: Panel, R: Net<Listener = TcpListener, Stream = TcpStream> + SystemCloc
     port: u64,
     text: &[u8],
 ) -> Ask {
-    let statement = parse_formula(alloc, text);
-    assert!(rt; statement.is_ok());
-    match statement {
+    match parse_formula(alloc, text) {
         Ok(statement) => panel.ask(rt, port, &statement),
         Err(_) => Ask::NoMemory,
+    }
+}
+
+// Asks the same in turn, as often as there are answers due, each the first letter of one.
+fn answers<P: Panel, R: Net<Listener = TcpListener, Stream = TcpStream> + SystemClock + Abort>(
+    rt: &R,
+    alloc: Global,
+    panel: &mut P,
+    (port, text): (u64, &[u8]),
+    due: &str,
+) -> bool {
+    for letter in due.as_bytes() {
+        if letter_of(ask(rt, alloc, panel, port, text)) != *letter {
+            return false;
+        }
+    }
+    true
+}
+
+const fn letter_of(answer: Ask) -> u8 {
+    match answer {
+        Ask::Yes => b'Y',
+        Ask::No => b'N',
+        Ask::Down => b'D',
+        Ask::NoMemory => b'M',
     }
 }

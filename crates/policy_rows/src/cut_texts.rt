@@ -1,207 +1,132 @@
 //! The text of a policy that was cut: what is recovered, and what is told of a text of which nothing is.
-use crate::policy_texts::{Read, is_due, written};
-use journal_text::{PolicyError, read_cut};
-use nx_io::Bytes;
+use crate::policies::{error_told, written};
+use crate::tables::{first_other, text_of};
+use journal_text::read_cut;
 use std::alloc::{AllocError, Global};
 
-// The text as it is written after it was recovered.
-fn recovered(alloc: Global, text: &[u8]) -> Result<Bytes, PolicyError> {
-    let journal = read_cut(alloc, text)?;
-    written(alloc, &journal)
-}
-
-// Whether the text comes to what is due, and what is recovered is recovered again as the same.
-fn comes_to(alloc: Global, text: &[u8], due: Read) -> Result<bool, AllocError> {
-    if !is_due(recovered(alloc, text), due)? {
-        return Ok(false);
-    }
-    match due {
-        Read::As(whole) => is_due(recovered(alloc, whole.as_bytes()), due),
-        _ => Ok(true),
-    }
-}
-
-// The number of the first text that does not come to what stands beside it.
-fn first_wrong(alloc: Global, cases: &[(&str, Read)]) -> Result<Option<usize>, AllocError> {
-    let mut number = 0usize;
-    for (text, due) in cases {
-        if !comes_to(alloc, text.as_bytes(), *due)? {
-            return Ok(Some(number));
+/// The text as it is written after it was recovered.
+pub fn recovered(alloc: Global, text: &[u8]) -> Result<String, AllocError> {
+    match read_cut(alloc, text) {
+        Ok(journal) => {
+            let text = written(alloc, &journal);
+            drop(journal);
+            text
         }
-        number = number.saturating_add(1);
+        Err(error) => error_told(alloc, error),
     }
-    Ok(None)
 }
 
-const NO_LINES: &str = "nexus 2\nend\n";
-
-const ALICE: &str = "nexus 2\nprincipal alice pa\nend\n";
-
-const ONE_OBJECT: &str = "nexus 2\nprincipal alice pa\n1 alice object f\nend\n";
-
-#[test]
-fn a_last_line_without_its_line_feed_is_left_out(rt: HostRuntime) -> Result<(), AllocError> {
-    let cases = [
-        (
-            "nexus 2\nprincipal alice pa\n1 alice object f\n1 ali",
-            Read::As(ONE_OBJECT),
-        ),
-        (ONE_OBJECT, Read::As(ONE_OBJECT)),
-        (
-            "nexus 1\nprincipal alice pa\n1 alice object f\n",
-            Read::As(ONE_OBJECT),
-        ),
-        (
-            "nexus 2\nprincipal alice pa\n1 alice object f",
-            Read::As(ALICE),
-        ),
-        (
-            "nexus 2\nprincipal alice pa\n1 alice object f\nend",
-            Read::As(ONE_OBJECT),
-        ),
-        (
-            "nexus 2\nprincipal alice pa\n1 alice object f\nen",
-            Read::As(ONE_OBJECT),
-        ),
-        (
-            "nexus 2\nprincipal alice pa\n1 alice object f\nend ",
-            Read::As(ONE_OBJECT),
-        ),
-        (
-            "nexus 2\nprincipal alice pa\n1 alice object f\nend\n1 alice object g",
-            Read::As(ONE_OBJECT),
-        ),
-        (
-            "nexus 2\nprincipal alice pa\nprincipal alice p",
-            Read::As(ALICE),
-        ),
-        ("nexus 2\nprincipal alice pa", Read::As(NO_LINES)),
-        ("nexus 2\n", Read::As(NO_LINES)),
-        ("nexus 2\nend", Read::As(NO_LINES)),
-        ("nexus 2\nend\n", Read::As(NO_LINES)),
-        ("nexus 2\nend\nx", Read::As(NO_LINES)),
-        ("nexus 2\nend\r", Read::As(NO_LINES)),
-    ];
-    assert_eq!(rt; first_wrong(rt.alloc(), &cases)?, None);
-    Ok(())
-}
-
-#[test]
-fn the_lowest_wrong_line_is_told(rt: HostRuntime) -> Result<(), AllocError> {
-    let cases = [
-        ("", Read::Bad(1)),
-        ("nexus 2", Read::Bad(1)),
-        ("nex", Read::Bad(1)),
-        ("end", Read::Bad(1)),
-        ("end\n", Read::Bad(1)),
-        ("\n", Read::Bad(1)),
-        ("nexus 3\n", Read::Bad(1)),
-        ("nexus 2\r\nprincipal alice pa\r\nend\r\n", Read::Bad(1)),
-        ("nexus 2\nprincipal alice pa\r\n", Read::Bad(2)),
-        ("nexus 2\nend\r\n", Read::Bad(2)),
-        ("nexus 2\n\nend\n", Read::Bad(2)),
-        ("nexus 2\n\n", Read::Bad(2)),
-        ("nexus 2\nend \n", Read::Bad(2)),
-        ("nexus 2\nen\n", Read::Bad(2)),
-        ("nexus 2\nend\n\n", Read::Bad(3)),
-        ("nexus 2\nend\n\nx", Read::Bad(3)),
-        ("nexus 2\nend\nend", Read::Bad(3)),
-        ("nexus 2\nend\nend\n", Read::Bad(3)),
-        ("nexus 2\nend\nprincipal alice pa\n", Read::Bad(3)),
-        ("nexus 2\nx\nprincipal alice pa\nend", Read::Bad(2)),
-        (
-            "nexus 2\nprincipal alice pa\nprincipal alice pb\n",
-            Read::Bad(3),
-        ),
-        (
-            "nexus 2\nprincipal alice pa\n1 alice object f\n1 ali\n1 alice object g\n",
-            Read::Bad(4),
-        ),
-        (
-            "nexus 2\nprincipal alice pa\n1 alice object f\n1 alice object f\n1 alice obj",
-            Read::Refused(4, 9),
-        ),
-        (
-            "nexus 2\nprincipal alice pa\n1 alice nogoal read f\nx\n",
-            Read::Refused(3, 8),
-        ),
-    ];
-    assert_eq!(rt; first_wrong(rt.alloc(), &cases)?, None);
-    Ok(())
-}
-
-// Whether, wherever the line is cut before its line feed, the whole lines before it are recovered, or line 1 is wrong where
-// there is none.
-fn is_left_out(alloc: Global, whole: &str, line: &str) -> Result<bool, AllocError> {
-    let due = format!(in alloc; "{whole}end\n")?;
-    for cut in 0..line.len() {
-        let mut text = Bytes::of(alloc, whole.as_bytes())?;
-        text.extend(&line.as_bytes()[..cut])?;
-        let due = if whole.is_empty() {
-            Read::Bad(1)
-        } else {
-            Read::As(due.as_str())
-        };
-        if !comes_to(alloc, text.as_slice(), due)? {
-            return Ok(false);
-        }
+/// As `recovered`; what is recovered of that, where it is another text, stands behind it.
+pub fn recovered_twice(alloc: Global, text: &[u8]) -> Result<String, AllocError> {
+    let told = recovered(alloc, text)?;
+    if !told.as_str().starts_with("nexus") {
+        return Ok(told);
     }
-    Ok(true)
+    let again = recovered(alloc, told.as_bytes())?;
+    if again == told {
+        Ok(told)
+    } else {
+        format!(in alloc; "{told} {again}")
+    }
 }
 
-// The number of the first line before which a cut loses something.
-fn first_lost(alloc: Global, lines: &[&str]) -> Result<Option<usize>, AllocError> {
-    let mut whole = String::new(alloc);
-    let mut number = 0usize;
-    for line in lines {
-        if !is_left_out(alloc, whole.as_str(), line)? {
-            return Ok(Some(number));
+const WHOLE: &str = "nexus 2
+principal alice pa
+principal bob pb
+authority 3 clock
+7 alice object f
+7 alice goal read f : alice says ok
+7 alice say alice : ok
+18446744073709551615 alice proof read f : proof 2 ; 1 label : alice says ok ; end
+7 alice bind alice.clock 3
+7 alice transfer 3 bob
+8 bob delete 3
+7 alice noproof read f
+7 alice nogoal read f
+7 alice unbind alice.clock
+end";
+
+// What is to be recovered of a text whose whole lines are these.
+fn due(alloc: Global, lines: &[u8]) -> Result<String, AllocError> {
+    if lines.is_empty() {
+        String::from_str(alloc, "Bad { line: 1 }")
+    } else {
+        let text = text_of(alloc, lines)?;
+        format!(in alloc; "{text}end\n")
+    }
+}
+
+// The number of the first byte before which a cut loses something.
+fn first_lost(alloc: Global) -> Result<Option<usize>, AllocError> {
+    let text = WHOLE.as_bytes();
+    let mut whole: &[u8] = &[];
+    for cut in 0..text.len() {
+        let kept = &text[..cut];
+        if kept.ends_with(b"\n") {
+            whole = kept;
         }
-        whole.push_str(line)?;
-        whole.push('\n')?;
-        number = number.saturating_add(1);
+        if recovered_twice(alloc, kept)? != due(alloc, whole)? {
+            return Ok(Some(cut));
+        }
     }
     Ok(None)
 }
 
 #[test]
 fn what_was_written_is_recovered_wherever_it_is_cut(rt: HostRuntime) -> Result<(), AllocError> {
-    let lines = [
-        "nexus 2",
-        "principal alice pa",
-        "principal bob pb",
-        "authority 3 clock",
-        "7 alice object f",
-        "7 alice goal read f : alice says ok",
-        "7 alice say alice : ok",
-        "18446744073709551615 alice proof read f : proof 2 ; 1 label : alice says ok ; end",
-        "7 alice bind alice.clock 3",
-        "7 alice transfer 3 bob",
-        "8 bob delete 3",
-        "7 alice noproof read f",
-        "7 alice nogoal read f",
-        "7 alice unbind alice.clock",
-        "end",
-    ];
-    assert_eq!(rt; first_lost(rt.alloc(), &lines)?, None);
+    assert_eq!(rt; first_lost(rt.alloc())?, None);
     Ok(())
 }
 
-// What is told of a text of so many bytes, none of which is a line feed.
-fn told_of_length(alloc: Global, length: usize) -> Result<Option<PolicyError>, AllocError> {
-    let text = vec![in alloc; b'x'; length]?;
-    Ok(recovered(alloc, &text).err())
-}
+const TABLE: &str = "recover: a last line without its line feed is left out
+nexus 2|principal alice pa|1 alice object f|1 ali -> nexus 2|principal alice pa|1 alice object f|end|
+nexus 2|principal alice pa|1 alice object f|end| -> nexus 2|principal alice pa|1 alice object f|end|
+nexus 1|principal alice pa|1 alice object f| -> nexus 2|principal alice pa|1 alice object f|end|
+nexus 2|principal alice pa|1 alice object f -> nexus 2|principal alice pa|end|
+nexus 2|principal alice pa|1 alice object f|end -> nexus 2|principal alice pa|1 alice object f|end|
+nexus 2|principal alice pa|1 alice object f|en -> nexus 2|principal alice pa|1 alice object f|end|
+nexus 2|principal alice pa|1 alice object f|end  -> nexus 2|principal alice pa|1 alice object f|end|
+nexus 2|principal alice pa|1 alice object f|end|1 alice object g -> nexus 2|principal alice pa|1 alice object f|end|
+nexus 2|principal alice pa|principal alice p -> nexus 2|principal alice pa|end|
+nexus 2|principal alice pa -> nexus 2|end|
+nexus 2| -> nexus 2|end|
+nexus 2|end -> nexus 2|end|
+nexus 2|end| -> nexus 2|end|
+nexus 2|end|x -> nexus 2|end|
+nexus 2|end\r -> nexus 2|end|
+
+recover: the lowest wrong line is told
+ -> Bad { line: 1 }
+nexus 2 -> Bad { line: 1 }
+nex -> Bad { line: 1 }
+end -> Bad { line: 1 }
+end| -> Bad { line: 1 }
+| -> Bad { line: 1 }
+nexus 3| -> Bad { line: 1 }
+nexus 2\r|principal alice pa\r|end\r| -> Bad { line: 1 }
+nexus 2|principal alice pa\r| -> Bad { line: 2 }
+nexus 2|end\r| -> Bad { line: 2 }
+nexus 2||end| -> Bad { line: 2 }
+nexus 2|| -> Bad { line: 2 }
+nexus 2|end | -> Bad { line: 2 }
+nexus 2|en| -> Bad { line: 2 }
+nexus 2|end|| -> Bad { line: 3 }
+nexus 2|end||x -> Bad { line: 3 }
+nexus 2|end|end -> Bad { line: 3 }
+nexus 2|end|end| -> Bad { line: 3 }
+nexus 2|end|principal alice pa| -> Bad { line: 3 }
+nexus 2|x|principal alice pa|end -> Bad { line: 2 }
+nexus 2|principal alice pa|principal alice pb| -> Bad { line: 3 }
+nexus 2|principal alice pa|1 alice object f|1 ali|1 alice object g| -> Bad { line: 4 }
+nexus 2|principal alice pa|1 alice object f|1 alice object f|1 alice obj -> Refused { line: 4, number: 9 }
+nexus 2|principal alice pa|1 alice nogoal read f|x| -> Refused { line: 3, number: 8 }
+
+recover letters: texts have a limit
+67108865 -> TooLong
+67108864 -> Bad { line: 1 }";
 
 #[test]
-fn texts_have_a_limit(rt: HostRuntime) -> Result<(), AllocError> {
-    assert_eq!(rt;
-        told_of_length(rt.alloc(), 67_108_865)?,
-        Some(PolicyError::TooLong)
-    );
-    assert_eq!(rt;
-        told_of_length(rt.alloc(), 67_108_864)?,
-        Some(PolicyError::Bad { line: 1 })
-    );
+fn cut_texts_are_recovered_or_told_by_their_wrong_line(rt: HostRuntime) -> Result<(), AllocError> {
+    assert_eq!(rt; first_other(rt.alloc(), TABLE)?.as_str(), "");
     Ok(())
 }

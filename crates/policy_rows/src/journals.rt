@@ -1,281 +1,193 @@
-//! Lists of steps on a journal, with what each comes to, worked out by hand. The journal is owned by one function alone,
-//! since each way out of a function that owns one is proved.
-mod cases;
-mod limits;
-mod refusals;
-mod texts;
+//! Steps on a journal. Below the title of a part stands the text of the policy whose head the journal has, and each other line is
+//! a row. A row is a request of a principal in a session: it comes to what a hello finds, to what a call is judged by, or to the
+//! number or the refusal of a change, which is added where it is accepted. The journal is owned by one function alone, since
+//! each way out of a function that owns one is proved.
+ghost use Rattle.std.specs.Prelude.{◌<◌, length, IfOk};
 
-use crate::journals::texts::{found, label};
-use crate::makers::name;
-use nal_parse::{parse_formula, parse_term};
-use nal_term::Secret;
-use nx_io::Bytes;
-use policy_history::{
-    Authorities, Authority, Due, Event, Head, Journal, Principal, Principals, Refusal,
-};
-use proof_text::read_proof;
+mod cases;
+mod found;
+mod limits;
+mod printing;
+mod refusals;
+
+use crate::policies::{event, name as name_of, written};
+use crate::tables::number;
+use found::{found, label};
+use journal_text::{event_of, read_policy, read_request};
+use policy_history::{Event, Journal};
+use session_wire::Request;
 use std::alloc::{AllocError, Global};
 
-const TRIVIAL: &str = "proof 1 ; 1 true_i : true ; end";
-
-/// A change, by its texts.
-#[derive(Clone, Copy)]
-enum Change<'a> {
-    Say(&'a str, &'a str),
-    Transfer(u64, &'a str),
-    Delete(u64),
-    Object(&'a str),
-    Goal(&'a str, &'a str, &'a str),
-    NoGoal(&'a str, &'a str),
-    Proof(&'a str, &'a str, &'a str),
-    NoProof(&'a str, &'a str),
-    Bind(&'a str, u64),
-    Unbind(&'a str),
-}
-
-/// Changes of one kind by one principal, each with a number.
-#[derive(Clone, Copy)]
-enum Series<'a> {
-    /// The same statement, again and again.
-    Says(&'a str, &'a str),
-    /// Objects, named by their numbers.
-    Objects(&'a str),
-    /// Proofs for the object `x`, each for an operation that is named by its number.
-    Proofs(&'a str),
-}
-
-/// A step, and what it comes to.
-#[derive(Clone, Copy)]
-enum Step<'a> {
-    /// A change that a principal asks for, with its number or its refusal.
-    Offer(&'a str, Change<'a>, Result<u64, Refusal>),
-    /// Changes of a kind, with the first number and the one behind the last.
-    All(Series<'a>, u64, u64),
-    /// What is judged for a principal, an operation and an object, as one line.
-    Find(&'a str, &'a str, &'a str, &'a str),
-    /// The region that a change of a principal touches.
-    Touch(&'a str, Change<'a>, Option<u64>),
-    /// The k-th label of the principal with this number, or an empty text.
-    Label(u32, u64, &'a str),
-    /// The principal with this name and this secret.
-    Known(&'a str, &'a str, Option<u32>),
-    /// The bytes of the line of a change.
-    Bytes(&'a str, Change<'a>, u64),
-    /// How many entries there are.
-    Count(u64),
-}
-
-fn secret(alloc: Global, text: &str) -> Result<Secret, AllocError> {
-    match Secret::of(alloc, text.as_bytes()) {
-        Ok(secret) => Ok(secret),
+// A journal without entries, with the head of this policy.
+fn journal(alloc: Global, policy: &str) -> Result<Journal, AllocError> {
+    match read_policy(alloc, policy.as_bytes()) {
+        Ok(read) => {
+            let head = read.head().copy(alloc);
+            drop(read);
+            Journal::new(alloc, head?)
+        }
         Err(_) => Err(AllocError),
     }
 }
 
-// The change as an event; what a text does not spell is left out.
-fn event(alloc: Global, change: Change) -> Result<Event, AllocError> {
-    match change {
-        Change::Say(principal, formula) => Ok(Event::Say {
-            principal: parse_term(alloc, principal.as_bytes()).ok(),
-            formula: parse_formula(alloc, formula.as_bytes()).ok(),
-        }),
-        Change::Transfer(number, to) => Ok(Event::Transfer {
-            number,
-            to: name(alloc, to)?,
-        }),
-        Change::Delete(number) => Ok(Event::Delete { number }),
-        Change::Object(object) => Ok(Event::NewObject {
-            name: name(alloc, object)?,
-        }),
-        Change::Goal(op, object, goal) => Ok(Event::SetGoal {
-            op: name(alloc, op)?,
-            object: name(alloc, object)?,
-            goal: parse_formula(alloc, goal.as_bytes()).ok(),
-        }),
-        Change::NoGoal(op, object) => Ok(Event::ClearGoal {
-            op: name(alloc, op)?,
-            object: name(alloc, object)?,
-        }),
-        Change::Proof(op, object, proof) => Ok(Event::SetProof {
-            op: name(alloc, op)?,
-            object: name(alloc, object)?,
-            proof: read_proof(alloc, proof.as_bytes()).ok(),
-        }),
-        Change::NoProof(op, object) => Ok(Event::ClearProof {
-            op: name(alloc, op)?,
-            object: name(alloc, object)?,
-        }),
-        Change::Bind(principal, port) => Ok(Event::Bind {
-            principal: parse_term(alloc, principal.as_bytes()).ok(),
-            port,
-        }),
-        Change::Unbind(principal) => Ok(Event::Unbind {
-            principal: parse_term(alloc, principal.as_bytes()).ok(),
-        }),
+// The number of the principal with this name.
+fn principal(alloc: Global, journal: &Journal, name: &str) -> Result<u32, AllocError>
+    ensures { IfOk result (λ p. p < length journal.now.head.principals) }
+{
+    let name = name_of(alloc, name)?;
+    match journal.head().principals.number_of(&name) {
+        Some(number) => Ok(number),
+        None => Err(AllocError),
     }
 }
 
-// A journal of these principals, each with the secret `pw`, and of authorities at these ports.
-fn journal(alloc: Global, names: &[&str], ports: &[u64]) -> Result<Journal, AllocError> {
-    let mut principals = Principals::new(alloc);
-    for text in names {
-        let principal = Principal {
-            name: name(alloc, text)?,
-            secret: secret(alloc, "pw")?,
-        };
-        if principals.push(principal).is_err() {
-            return Err(AllocError);
-        }
-    }
-    let mut authorities = Authorities::new(alloc);
-    for port in ports {
-        let authority = Authority {
-            port: *port,
-            address: Bytes::of(alloc, b"mem")?,
-        };
-        if authorities.push(authority).is_err() {
-            return Err(AllocError);
-        }
-    }
-    Journal::new(
-        alloc,
-        Head {
-            principals,
-            authorities,
-        },
-    )
-}
-
-// What the change of this principal comes to; one that is accepted is added.
-fn offer(
+// What a change comes to; one that is accepted is added.
+fn offered(
     alloc: Global,
     journal: &mut Journal,
-    who: &str,
-    change: Change,
-) -> Result<Result<u64, Refusal>, AllocError> {
-    let Some(principal) = journal.principal_of(&name(alloc, who)?, &secret(alloc, "pw")?) else {
-        return Err(AllocError);
-    };
-    let event = event(alloc, change)?;
-    match journal.decide(1, principal, &event) {
-        Err(refusal) => Ok(Err(refusal)),
+    session: u64,
+    principal: u32,
+    event: Event,
+) -> Result<String, AllocError>
+    requires { principal < length journal.old.head.principals }
+{
+    match journal.decide(session, principal, &event) {
+        Err(refusal) => format!(in alloc; "{refusal:?}"),
         Ok(due) => {
             let spare = journal.reserve(&event)?;
-            let told = journal.append(1, principal, event, spare);
+            let told = journal.append(session, principal, event, spare);
             if told == due {
-                Ok(Ok(due.number))
+                format!(in alloc; "{}", due.number)
             } else {
-                Err(AllocError)
+                format!(in alloc; "{due:?} {told:?}")
             }
         }
     }
 }
 
-// What the change with this number comes to.
-fn offer_of(
+fn answered(
     alloc: Global,
     journal: &mut Journal,
-    series: Series,
-    number: u64,
-) -> Result<Result<u64, Refusal>, AllocError> {
-    let text = format!(in alloc; "o{number}")?;
-    match series {
-        Series::Says(who, formula) => offer(alloc, journal, who, Change::Say(who, formula)),
-        Series::Objects(who) => offer(alloc, journal, who, Change::Object(text.as_str())),
-        Series::Proofs(who) => offer(
+    session: u64,
+    principal: u32,
+    request: &Request,
+) -> Result<String, AllocError>
+    requires { principal < length journal.old.head.principals }
+{
+    match request {
+        Request::Hello { name, secret } => {
+            format!(in alloc; "{:?}", journal.principal_of(name, secret))
+        }
+        Request::Call { op, object, .. } => found(alloc, journal, principal, op, object),
+        _ => match event_of(alloc, request) {
+            Ok(Some(event)) => offered(alloc, journal, session, principal, event),
+            _ => Err(AllocError),
+        },
+    }
+}
+
+// A session, a principal's name and a request's line.
+fn words(line: &str) -> (u64, &str, &str) {
+    let (session, rest) = line.split_once(" ").unwrap_or(("", ""));
+    let (who, request) = rest.split_once(" ").unwrap_or(("", ""));
+    (number(session), who, request)
+}
+
+fn tried(alloc: Global, journal: &mut Journal, line: &str) -> Result<String, AllocError> {
+    let (session, who, request) = words(line);
+    let principal = principal(alloc, journal, who)?;
+    match read_request(alloc, request.as_bytes()) {
+        Ok(request) => answered(alloc, journal, session, principal, &request),
+        Err(_) => Err(AllocError),
+    }
+}
+
+// The bytes of the line of a change, or the region that it touches.
+fn measured(
+    alloc: Global,
+    journal: &Journal,
+    what: &str,
+    line: &str,
+) -> Result<String, AllocError> {
+    let (session, who, request) = words(line);
+    let principal = principal(alloc, journal, who)?;
+    let event = event(alloc, request)?;
+    if what == "touch" {
+        return format!(in alloc; "{:?}", journal.region_of(principal, &event));
+    }
+    match journal.decide(session, principal, &event) {
+        Ok(due) => format!(in alloc; "{}", due.bytes),
+        Err(refusal) => format!(in alloc; "{refusal:?}"),
+    }
+}
+
+// Two numbers, and the change of which each number from the first up to the second is tried in place of `#`: `each` where each
+// comes to its number, or else what the first other one comes to.
+fn series(alloc: Global, journal: &mut Journal, text: &str) -> Result<String, AllocError> {
+    let (first, rest) = text.split_once(" ").unwrap_or(("", ""));
+    let (end, line) = rest.split_once(" ").unwrap_or(("", ""));
+    for place in number(first)..number(end) {
+        let place = format!(in alloc; "{place}")?;
+        let told = tried(
             alloc,
             journal,
-            who,
-            Change::Proof(text.as_str(), "x", TRIVIAL),
-        ),
-    }
-}
-
-// Whether each of the changes comes to its number.
-fn all_come_to(
-    alloc: Global,
-    journal: &mut Journal,
-    series: Series,
-    first: u64,
-    end: u64,
-) -> Result<bool, AllocError> {
-    for number in first..end {
-        if offer_of(alloc, journal, series, number)? != Ok(number) {
-            return Ok(false);
+            line.replace(alloc, '#', place.as_str())?.as_str(),
+        )?;
+        if told != place {
+            return format!(in alloc; "{place} {told}");
         }
     }
-    Ok(true)
+    String::from_str(alloc, "each")
 }
 
-// The length of the line of a change of this principal, where it is accepted.
-fn bytes_of(
-    alloc: Global,
-    journal: &Journal,
-    who: &str,
-    change: Change,
-) -> Result<Option<u64>, AllocError> {
-    let Some(principal) = journal.principal_of(&name(alloc, who)?, &secret(alloc, "pw")?) else {
-        return Ok(None);
-    };
-    match journal.decide(1, principal, &event(alloc, change)?) {
-        Ok(Due { bytes, .. }) => Ok(Some(bytes)),
-        Err(_) => Ok(None),
+fn step(alloc: Global, journal: &mut Journal, line: &str) -> Result<String, AllocError> {
+    let (word, rest) = line.split_once(" ").unwrap_or((line, ""));
+    match word {
+        "all" => series(alloc, journal, rest),
+        "bytes" | "touch" => measured(alloc, journal, word, rest),
+        "label" => label(alloc, journal, rest),
+        "count" => format!(in alloc; "{}", journal.count()),
+        "text" => written(alloc, journal),
+        _ => tried(alloc, journal, line),
     }
 }
 
-fn region_of(
-    alloc: Global,
-    journal: &Journal,
-    who: &str,
-    change: Change,
-) -> Result<Option<u64>, AllocError> {
-    match journal.principal_of(&name(alloc, who)?, &secret(alloc, "pw")?) {
-        Some(principal) => Ok(journal.region_of(principal, &event(alloc, change)?)),
-        None => Err(AllocError),
+// The first row that comes to something else, with what it comes to. Nothing where there is none.
+fn first_other_on(alloc: Global, journal: &mut Journal, rows: &str) -> Result<String, AllocError> {
+    for row in rows.lines() {
+        let (line, wanted) = row.split_once(" -> ").unwrap_or((row, ""));
+        let told = step(alloc, journal, line)?
+            .as_str()
+            .replace(alloc, '\n', "|")?;
+        if told.as_str() != wanted {
+            return format!(in alloc; "{line} -> {told}");
+        }
+    }
+    Ok(String::new(alloc))
+}
+
+// As `first_other_on`, on a new journal; its head stands above the rows.
+fn first_other_in(alloc: Global, part: &str) -> Result<String, AllocError> {
+    let (head, rows) = part.split_once("\n").unwrap_or((part, ""));
+    let policy = head.replace(alloc, '|', "\n")?;
+    match journal(alloc, policy.as_str()) {
+        Ok(mut journal) => {
+            let other = first_other_on(alloc, &mut journal, rows);
+            drop(journal);
+            other
+        }
+        Err(AllocError) => Err(AllocError),
     }
 }
 
-// Whether a step comes to what stands in it.
-fn holds(alloc: Global, journal: &mut Journal, step: Step) -> Result<bool, AllocError> {
-    match step {
-        Step::Offer(who, change, due) => Ok(offer(alloc, journal, who, change)? == due),
-        Step::All(series, first, end) => all_come_to(alloc, journal, series, first, end),
-        Step::Find(who, op, object, line) => {
-            Ok(found(alloc, journal, who, op, object)?.as_str() == line)
-        }
-        Step::Touch(who, change, region) => Ok(region_of(alloc, journal, who, change)? == region),
-        Step::Label(holder, k, line) => Ok(label(alloc, journal, holder, k)?.as_str() == line),
-        Step::Known(who, text, number) => {
-            Ok(journal.principal_of(&name(alloc, who)?, &secret(alloc, text)?) == number)
-        }
-        Step::Bytes(who, change, bytes) => {
-            Ok(bytes_of(alloc, journal, who, change)? == Some(bytes))
-        }
-        Step::Count(count) => Ok(journal.count() == count),
-    }
-}
-
-// The place of the first step that comes to something else.
-fn first_other(
-    alloc: Global,
-    journal: &mut Journal,
-    steps: &[Step],
-) -> Result<Option<usize>, AllocError> {
-    for (place, step) in steps.iter().enumerate() {
-        if !holds(alloc, journal, *step)? {
-            return Ok(Some(place));
+// As `first_other_in`, of a table, with the title above the row.
+fn first_other(alloc: Global, table: &str) -> Result<String, AllocError> {
+    for part in table.split("\n\n") {
+        let (title, rest) = part.split_once("\n").unwrap_or((part, ""));
+        let other = first_other_in(alloc, rest)?;
+        if !other.is_empty() {
+            return format!(in alloc; "{title}: {other}");
         }
     }
-    Ok(None)
-}
-
-// The place of the first step on a new journal that comes to something else.
-fn first_wrong(
-    alloc: Global,
-    names: &[&str],
-    ports: &[u64],
-    steps: &[Step],
-) -> Result<Option<usize>, AllocError> {
-    let mut journal = journal(alloc, names, ports)?;
-    first_other(alloc, &mut journal, steps)
+    Ok(String::new(alloc))
 }

@@ -8,7 +8,7 @@ mod prove_inputs;
 #[cfg(test)]
 mod proving;
 #[cfg(test)]
-mod texts;
+mod rows;
 #[cfg(test)]
 mod trust_inputs;
 #[cfg(test)]

@@ -78,26 +78,25 @@ fn board_of_front(
     ensures next { IfSome result (λ made. made.1.next < 2000) }
 {
     match Book::make(alloc, journal, sink) {
-        Ok((board, book)) => opened(board, book, text),
+        Ok(made) => opened(made, text),
         Err(_) => None,
     }
 }
 
 fn opened(
-    board: Board<NalMatter>,
-    book: Book<MemSink>,
+    made: (Board<NalMatter>, Book<MemSink>),
     text: &[u8],
 ) -> Option<(Board<NalMatter>, Book<MemSink>)>
-    requires closed { book.is_open ≡ false }
-    requires unbroken { book.is_broken ≡ false }
-    requires text { text.now ≡ front (head_of book) (trees_of book) }
-    requires board { book.board ≡ board }
-    requires next { book.next < 2000 }
+    requires closed { made.1.is_open ≡ false }
+    requires unbroken { made.1.is_broken ≡ false }
+    requires text { text.now ≡ front (head_of made.1) (trees_of made.1) }
+    requires board { made.1.board ≡ made.0 }
+    requires next { made.1.next < 2000 }
     ensures opened { IfSome result (λ made. made.1.is_open ≡ true) }
     ensures board { IfSome result (λ made. made.1.board ≡ made.0) }
     ensures next { IfSome result (λ made. made.1.next < 2000) }
 {
-    let mut book = book;
+    let (board, mut book) = made;
     match book.open(text) {
         Reach::Ready => Some((board, book)),
         Reach::Failed => None,

@@ -17,3 +17,7 @@ mod plays;
 mod refusals;
 #[cfg(test)]
 mod sessions;
+#[cfg(test)]
+mod tables;
+#[cfg(test)]
+mod talks;

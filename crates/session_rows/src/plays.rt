@@ -1,16 +1,17 @@
 //! Sessions over one board, one after another, and what comes of them.
-ghost use Rattle.std.specs.Prelude.{◌≡◌, ◌<◌, IfOk, Some, true};
+ghost use Rattle.std.specs.Prelude.{◌≡◌, ◌<◌, Some, true};
 ghost use Rattle.nx_io.specs.MemoryDoors.{IsFreshWire};
 ghost use Rattle.policy_book.specs.Books.{IsNamed};
 ghost use Rattle.session_rows.specs.Fresh.{IsNew};
 
 use crate::boards::board_of;
-use crate::frames::{are_frames_of, joined};
+use crate::frames::bytes_of;
+use crate::tables::number;
+use crate::talks::{Talk, link_of, talk_of};
 use authority_ask::{Ask, MemPanel};
 use nx_io::{Gate, MemLink, MemSink, Place};
 use policy_book::{Book, BookNaming, NalMatter, Shelf};
 use session_core::{SessionEnd, serve_link};
-use session_wire::Reply;
 use std::alloc::{AllocError, Global};
 use std::cell::Cell;
 use std::marker::Brand;
@@ -19,89 +20,17 @@ use std::rt::Clock;
 use std::sync::{Mutex, Wait};
 use verdict_words::{Board, Pass};
 
-/// What a session is asked, frame by frame, over a link in such pieces that fails at these takes and sends; what it is told,
-/// and how it ends.
+/// What comes of a play: whether each session is told what it should be and closes its link, how each ends, how often the gate is
+/// told each of its places, how often an authority is asked, and how many entries the journal has.
 #[derive(Clone, Copy)]
-pub struct Talk<'a> {
-    pub asked: &'a [&'a [u8]],
-    pub piece: usize,
-    pub take_fails: &'a [u64],
-    pub send_fails: &'a [u64],
-    pub told: &'a [Reply],
-    pub end: SessionEnd,
-}
-
-/// A session over a link that does not fail.
-pub fn talk_of<'a>(asked: &'a [&'a [u8]], told: &'a [Reply]) -> Talk<'a> {
-    Talk {
-        asked,
-        piece: 1000,
-        take_fails: &[],
-        send_fails: &[],
-        told,
-        end: SessionEnd::Closed,
-    }
-}
-
-/// Three sessions, one after another, over a board of this policy, whose sink holds so much, and authorities that answer so.
-#[derive(Clone, Copy)]
-pub struct Play<'a> {
-    pub policy: &'static [u8],
-    pub room: usize,
-    pub answers: &'a [Ask],
-    pub talks: [Talk<'a>; 3],
-}
-
-/// One principal.
-pub const ALICE: &[u8] = b"nexus 1\nprincipal alice pa\nend\n";
-
-// A session that is asked nothing.
-fn silence() -> Talk<'static> {
-    talk_of(&[], &[])
-}
-
-/// A play of one session of this principal, with room for all, and nobody to answer.
-pub fn play_of<'a>(talk: Talk<'a>) -> Play<'a> {
-    play_of_three(talk, silence(), silence())
-}
-
-/// The same of two sessions.
-pub fn play_of_two<'a>(first: Talk<'a>, second: Talk<'a>) -> Play<'a> {
-    play_of_three(first, second, silence())
-}
-
-/// The same of three.
-pub fn play_of_three<'a>(first: Talk<'a>, second: Talk<'a>, third: Talk<'a>) -> Play<'a> {
-    Play {
-        policy: ALICE,
-        room: 40_000,
-        answers: &[],
-        talks: [first, second, third],
-    }
-}
-
-/// What comes of a play: which of the sessions are told what they should be, how often the gate is told each of its places, how
-/// often an authority is asked, and how many entries the journal has.
-#[derive(Clone, Copy, Debug, PartialEq, Eq)]
-pub struct Outcome {
-    pub told: [bool; 3],
-    pub missed: u64,
-    pub asking: u64,
-    pub answered: u64,
-    pub asks: u64,
-    pub entries: u64,
-}
-
-/// Every session is told what it should be, so many requests are answered, the gate is told Missed so often, and nobody is asked.
-pub fn told_so(missed: u64, answered: u64, entries: u64) -> Outcome {
-    Outcome {
-        told: [true; 3],
-        missed,
-        asking: 0,
-        answered,
-        asks: 0,
-        entries,
-    }
+struct Outcome {
+    told: bool,
+    ends: [SessionEnd; 3],
+    missed: u64,
+    asking: u64,
+    answered: u64,
+    asks: u64,
+    entries: u64,
 }
 
 /// How often a gate is told each of its places.
@@ -137,63 +66,84 @@ impl Gate for Counter {
     }
 }
 
-/// Plays the sessions. An `Err` is want of memory, or a policy that is none.
-pub fn outcome_of<R: Net<Listener = TcpListener, Stream = TcpStream> + Clock + Wait>(
-    rt: &R,
-    alloc: Global,
-    play: &Play,
-) -> Result<Outcome, AllocError> {
-    let [first, second, third] = &play.talks;
-    let links = (
-        link_of(alloc, first)?,
-        link_of(alloc, second)?,
-        link_of(alloc, third)?,
-    );
-    let panel = MemPanel::new(alloc, play.answers, &[], &[])?;
-    let sink = MemSink::new(alloc, play.room, 1000, &[])?;
-    match board_of(alloc, play.policy, sink) {
-        Some((board, book)) => Ok(serve_all(rt, alloc, board, book, links, panel, &play.talks)),
-        None => Err(AllocError),
+// The answers that the words name.
+fn answers_of(alloc: Global, words: &str) -> Result<Vec<Ask>, AllocError> {
+    let mut answers = Vec::new(alloc);
+    for word in words.split_whitespace() {
+        answers.push(match word {
+            "yes" => Ask::Yes,
+            "no" => Ask::No,
+            "down" => Ask::Down,
+            _ => return Err(AllocError),
+        })?;
     }
+    Ok(answers)
 }
 
-// The link of a session, of which nothing was asked yet.
-fn link_of(alloc: Global, talk: &Talk) -> Result<MemLink, AllocError>
-    ensures { IfOk result IsFreshWire }
-{
-    let asked = joined(alloc, talk.asked)?;
-    let piece = talk.piece.max(1);
-    MemLink::new(
-        alloc,
-        asked.as_slice(),
-        40_000_000,
-        piece,
-        talk.take_fails,
-        talk.send_fails,
+/// Plays three sessions, one after another. The first line names a policy, tells how much the sink of its book holds, and what
+/// the authorities answer; each of the next three is a talk, or no line for a session that is asked nothing.
+pub fn told<R: Net<Listener = TcpListener, Stream = TcpStream> + Clock + Wait>(
+    rt: &R,
+    alloc: Global,
+    text: &str,
+) -> Result<String, AllocError> {
+    let mut lines = text.lines();
+    let head = lines.next().unwrap_or("");
+    let first = talk_of(alloc, lines.next().unwrap_or(""))?;
+    let second = talk_of(alloc, lines.next().unwrap_or(""))?;
+    let third = talk_of(alloc, lines.next().unwrap_or(""))?;
+    let outcome = outcome_of(rt, alloc, head, [&first, &second, &third])?;
+    let Outcome {
+        told,
+        ends: [first, second, third],
+        missed,
+        asking,
+        answered,
+        asks,
+        entries,
+    } = outcome;
+    format!(in alloc;
+        "{told} {first:?} {second:?} {third:?}, asks {asks}, asking {asking} missed {missed} answered {answered} entries {entries}."
     )
+}
+
+// Plays the sessions. An `Err` is want of memory, or a policy that is none.
+fn outcome_of<R: Net<Listener = TcpListener, Stream = TcpStream> + Clock + Wait>(
+    rt: &R,
+    alloc: Global,
+    head: &str,
+    talks: [&Talk; 3],
+) -> Result<Outcome, AllocError> {
+    let (policy, rest) = head.split_once(" ").unwrap_or(("", ""));
+    let (room, answers) = rest.split_once(" ").unwrap_or((rest, ""));
+    let policy = bytes_of(alloc, policy)?;
+    let answers = answers_of(alloc, answers)?;
+    let panel = MemPanel::new(alloc, answers.as_slice(), &[], &[])?;
+    let sink = MemSink::new(alloc, number(room) as usize, 1000, &[])?;
+    match board_of(alloc, policy.as_slice(), sink) {
+        Some(made) => Ok(serve_all(rt, alloc, made, panel, talks)),
+        None => Err(AllocError),
+    }
 }
 
 // Serves the three sessions over a new board.
 fn serve_all<R: Net<Listener = TcpListener, Stream = TcpStream> + Clock + Wait>(
     rt: &R,
     alloc: Global,
-    board: Board<NalMatter>,
-    book: Book<MemSink>,
-    links: (MemLink, MemLink, MemLink),
+    made: (Board<NalMatter>, Book<MemSink>),
     panel: MemPanel,
-    talks: &[Talk; 3],
+    talks: [&Talk; 3],
 ) -> Outcome
-    requires opened { book.is_open ≡ true }
-    requires board { book.board ≡ board }
-    requires next { book.next < 2000 }
-    requires links { IsFreshWire links.0 × IsFreshWire links.1 × IsFreshWire links.2 }
+    requires opened { made.1.is_open ≡ true }
+    requires board { made.1.board ≡ made.0 }
+    requires next { made.1.next < 2000 }
 {
-    let mut book = book;
+    let (board, mut book) = made;
     let first = book.enter(&board);
     let second = book.enter(&board);
     let third = book.enter(&board);
     let passes = (first, second, third);
-    serve_passes::<Brand, R>(rt, alloc, &board, book, passes, links, panel, talks)
+    serve_passes::<Brand, R>(rt, alloc, &board, book, passes, panel, talks)
 }
 
 fn serve_passes<N: BookNaming, R: Net<Listener = TcpListener, Stream = TcpStream> + Clock + Wait>(
@@ -202,9 +152,8 @@ fn serve_passes<N: BookNaming, R: Net<Listener = TcpListener, Stream = TcpStream
     board: &Board<NalMatter>,
     book: Book<MemSink>,
     passes: (Pass<NalMatter>, Pass<NalMatter>, Pass<NalMatter>),
-    links: (MemLink, MemLink, MemLink),
     panel: MemPanel,
-    talks: &[Talk; 3],
+    talks: [&Talk; 3],
 ) -> Outcome
     requires opened { book.is_open ≡ true }
     requires named { IsNamed N.board N.next N.start N.start_faults book }
@@ -212,25 +161,19 @@ fn serve_passes<N: BookNaming, R: Net<Listener = TcpListener, Stream = TcpStream
     requires first { IsNew board.now passes.0 }
     requires second { IsNew board.now passes.1 }
     requires third { IsNew board.now passes.2 }
-    requires links { IsFreshWire links.0 × IsFreshWire links.1 × IsFreshWire links.2 }
 {
     let (mut panel, gate) = (panel, Counter::new());
     let shelf: Mutex<Shelf<MemSink, N>> = Mutex::new(Shelf::new(book));
     let [first, second, third] = talks;
-    let told = [
-        is_told(
-            rt, alloc, board, &shelf, passes.0, links.0, &gate, &mut panel, first,
-        ),
-        is_told(
-            rt, alloc, board, &shelf, passes.1, links.1, &gate, &mut panel, second,
-        ),
-        is_told(
-            rt, alloc, board, &shelf, passes.2, links.2, &gate, &mut panel, third,
-        ),
-    ];
+    let first = served(rt, alloc, board, &shelf, passes.0, &gate, &mut panel, first);
+    let second = served(
+        rt, alloc, board, &shelf, passes.1, &gate, &mut panel, second,
+    );
+    let third = served(rt, alloc, board, &shelf, passes.2, &gate, &mut panel, third);
     let (journal, _sink) = shelf.into_inner().into_book().into_parts();
     Outcome {
-        told,
+        told: first.0 & second.0 & third.0,
+        ends: [first.1, second.1, third.1],
         missed: gate.missed.get(),
         asking: gate.asking.get(),
         answered: gate.answered.get(),
@@ -239,8 +182,27 @@ fn serve_passes<N: BookNaming, R: Net<Listener = TcpListener, Stream = TcpStream
     }
 }
 
-// Whether a session is told what it should be, ends so, and closes its link.
-fn is_told<N: BookNaming, R: Net<Listener = TcpListener, Stream = TcpStream> + Clock + Wait>(
+// Serves a session over the link of its talk: whether it is told what it should be and closes its link, and how it ends.
+fn served<N: BookNaming, R: Net<Listener = TcpListener, Stream = TcpStream> + Clock + Wait>(
+    rt: &R,
+    alloc: Global,
+    board: &Board<NalMatter>,
+    shelf: &Mutex<Shelf<MemSink, N>>,
+    pass: Pass<NalMatter>,
+    gate: &Counter,
+    panel: &mut MemPanel,
+    talk: &Talk,
+) -> (bool, SessionEnd)
+    requires named { N.board ≡ Some board.now }
+    requires pass { IsNew board.now pass }
+{
+    match link_of(alloc, talk, talk.asked.as_slice()) {
+        Ok(link) => served_over(rt, alloc, board, shelf, pass, link, gate, panel, talk),
+        Err(AllocError) => (false, SessionEnd::Memory),
+    }
+}
+
+fn served_over<N: BookNaming, R: Net<Listener = TcpListener, Stream = TcpStream> + Clock + Wait>(
     rt: &R,
     alloc: Global,
     board: &Board<NalMatter>,
@@ -250,14 +212,13 @@ fn is_told<N: BookNaming, R: Net<Listener = TcpListener, Stream = TcpStream> + C
     gate: &Counter,
     panel: &mut MemPanel,
     talk: &Talk,
-) -> bool
+) -> (bool, SessionEnd)
     requires named { N.board ≡ Some board.now }
     requires pass { IsNew board.now pass }
     requires link { IsFreshWire link }
 {
     let report = serve_link(rt, alloc, board, shelf, pass, link, panel, gate);
     let closed = report.link.is_closed();
-    let ended = report.end == talk.end;
-    let told = are_frames_of(report.link.sent(), talk.told);
-    closed & ended & told
+    let told = report.link.sent() == talk.told.as_slice();
+    (closed & told, report.end)
 }

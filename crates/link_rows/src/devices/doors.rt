@@ -3,36 +3,29 @@ ghost use Rattle.std.specs.Prelude.{IfOk};
 ghost use Rattle.nx_io.specs.MemoryDoors.{IsFreshPlan, IsFreshWire};
 
 use super::crosses;
+use crate::texts::{is_told, text_of};
 use nx_io::{Dial, Door, DoorPlan, Gate, MemDoor, MemLink, Next, OpenGate, Place, Reach, Shared};
 use std::alloc::{AllocError, Global};
 use std::net::{Net, TcpListener, TcpStream};
+use std::process::Abort;
 use std::rt::Clock;
-use std::test::Fail;
 
-// What a door answers to `next`: the first byte of a link, its place; no more; a failure.
-#[derive(Clone, Copy, Debug, PartialEq, Eq)]
-enum Came {
-    Link { first: u8, place: u64 },
-    NoMore,
-    Failed,
-}
-
-fn given(first: u8, place: u64) -> Came {
-    Came::Link { first, place }
-}
-
+// What a door answers to `next`: the first byte of a link and its place; no more; a failure.
 fn answer<R: Net<Listener = TcpListener, Stream = TcpStream> + Clock>(
     rt: &R,
+    alloc: Global,
     door: &mut MemDoor,
-) -> Came {
+) -> Result<String, AllocError> {
     match door.next(rt) {
-        Next::Link(link) => match link.left() {
-            [first, ..] => given(*first, link.place()),
-            [] => Came::Failed,
-        },
-        Next::NoMore => Came::NoMore,
-        Next::Failed => Came::Failed,
+        Next::Link(link) => told_of_link(alloc, &link),
+        Next::NoMore => String::from_str(alloc, "NoMore"),
+        Next::Failed => String::from_str(alloc, "Failed"),
     }
+}
+
+fn told_of_link(alloc: Global, link: &MemLink) -> Result<String, AllocError> {
+    let first = text_of(link.left().get(..1).unwrap_or(b""));
+    format!(in alloc; "{first}{}", link.place())
 }
 
 fn link(alloc: Global, left: &[u8]) -> Result<MemLink, AllocError>
@@ -44,35 +37,45 @@ fn link(alloc: Global, left: &[u8]) -> Result<MemLink, AllocError>
 fn plan(alloc: Global, first: &[u8], second: &[u8], fails: &[u64]) -> Result<DoorPlan, AllocError>
     ensures { IfOk result IsFreshPlan }
 {
-    Ok(DoorPlan {
-        links: Vec::from_array(alloc, [link(alloc, first)?, link(alloc, second)?])?,
+    let mut plan = DoorPlan {
+        links: Vec::new(alloc),
         fails: Vec::from_slice(alloc, fails)?,
-    })
+    };
+    plan.links.push(link(alloc, first)?)?;
+    plan.links.push(link(alloc, second)?)?;
+    Ok(plan)
 }
 
 // The third call of the door fails, and the first one of its second share.
 fn door(alloc: Global) -> Result<MemDoor, AllocError> {
-    let plans = [
-        plan(alloc, b"a", b"b", &[])?,
-        plan(alloc, b"c", b"d", &[1])?,
-    ];
-    let plans = Vec::from_array(alloc, plans)?;
+    let first = plan(alloc, b"a", b"b", &[])?;
+    let second = plan(alloc, b"c", b"d", &[1])?;
+    let plans = Vec::from_array(alloc, [first, second])?;
     MemDoor::new(alloc, plans, Some(link(alloc, b"e")?), &[3])
 }
 
-// What a share of a door answers to three calls of `next`. None where the share fails.
-fn shared_answers<R: Net<Listener = TcpListener, Stream = TcpStream> + Clock>(
+// What a share of a door answers to three calls of `next`.
+fn share_answers<R: Net<Listener = TcpListener, Stream = TcpStream> + Clock>(
     rt: &R,
+    alloc: Global,
     door: &mut MemDoor,
-) -> Option<[Came; 3]> {
+) -> Result<String, AllocError> {
     match door.share() {
-        Shared::Made(mut share) => Some([
-            answer(rt, &mut share),
-            answer(rt, &mut share),
-            answer(rt, &mut share),
-        ]),
-        Shared::Failed | Shared::NoMemory => None,
+        Shared::Made(mut share) => three_answers(rt, alloc, &mut share),
+        Shared::Failed => String::from_str(alloc, "Failed"),
+        Shared::NoMemory => Err(AllocError),
     }
+}
+
+fn three_answers<R: Net<Listener = TcpListener, Stream = TcpStream> + Clock>(
+    rt: &R,
+    alloc: Global,
+    share: &mut MemDoor,
+) -> Result<String, AllocError> {
+    let first = answer(rt, alloc, share)?;
+    let second = answer(rt, alloc, share)?;
+    let third = answer(rt, alloc, share)?;
+    format!(in alloc; "{first} {second} {third}")
 }
 
 fn listens<R: Net<Listener = TcpListener, Stream = TcpStream> + Clock>(
@@ -89,30 +92,38 @@ fn dials<R: Net<Listener = TcpListener, Stream = TcpStream> + Clock>(
     matches!(door.dial(rt, b"peer"), Dial::Link(_))
 }
 
-#[test]
-fn shares_have_the_links_of_their_plans(rt: HostRuntime) -> Result<(), Fail> {
-    let mut door = door(rt.alloc())?;
-    crosses(&door);
-    assert!(rt; listens(&rt, &mut door));
-    for answers in [
-        Some([given(b'a', 1), given(b'b', 2), Came::NoMore]),
-        None,
-        Some([Came::Failed, given(b'c', 1), given(b'd', 2)]),
-        Some([Came::NoMore; 3]),
-    ] {
-        assert_eq!(rt; shared_answers(&rt, &mut door), answers);
+fn shares_in_turn<R>(rt: &R, alloc: Global, door: &mut MemDoor)
+where
+    R: Net<Listener = TcpListener, Stream = TcpStream> + Clock + Abort,
+{
+    crosses(door);
+    assert!(rt; listens(rt, door));
+    for wanted in SHARES.lines() {
+        assert!(rt; is_told(share_answers(rt, alloc, door), wanted), "{wanted}");
     }
-    assert_eq!(rt; answer(&rt, &mut door), Came::NoMore);
+    assert!(rt; is_told(answer(rt, alloc, door), "NoMore"));
 
     // One dial gives the link.
-    for dialed in [true, false] {
-        assert_eq!(rt; dials(&rt, &mut door), dialed);
+    assert!(rt; dials(rt, door) && !dials(rt, door));
+    assert!(rt; door.gave() == 0 && door.faults() == 2);
+}
+
+// What four shares answer, one after the other.
+const SHARES: &str = "a1 b2 NoMore
+Failed
+Failed c1 d2
+NoMore NoMore NoMore";
+
+#[test]
+fn shares_have_the_links_of_their_plans(rt: HostRuntime) {
+    let door = door(rt.alloc());
+    assert!(rt; door.is_ok());
+    if let Ok(mut door) = door {
+        shares_in_turn(&rt, rt.alloc(), &mut door);
     }
-    assert_eq!(rt; (door.gave(), door.faults()), (0, 2));
     let place = Place::Missed {
         session: 1,
         principal: 0,
     };
     OpenGate.at(&rt, place);
-    Ok(())
 }

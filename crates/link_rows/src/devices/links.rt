@@ -1,7 +1,8 @@
 // Links: generic code over one in memory.
 use super::crosses;
+use crate::texts::{is_told, letters, number, numbers, text_of};
 use nx_io::{Got, Link, MemLink, Reach, send_whole};
-use std::test::Fail;
+use std::alloc::{AllocError, Global};
 
 // Sends back what a link gives, in at most so many takes, takes again after a fault, and closes at the end.
 fn echo<L: Link>(link: &mut L, takes: u64) -> Reach {
@@ -22,86 +23,54 @@ fn echo<L: Link>(link: &mut L, takes: u64) -> Reach {
     Reach::Failed
 }
 
-// A link in memory, and what comes of sending back its bytes.
-#[derive(Clone, Copy)]
-struct Case {
-    left: &'static [u8],
-    room: usize,
-    piece: usize,
-    take_fails: &'static [u64],
-    send_fails: &'static [u64],
-    reach: Reach,
-    sent: &'static [u8],
-    still_left: usize,
-    faults: u64,
+// Links in memory by what they give, how much room they have, how many bytes go in a call, and the takes and sends that fail. How far
+// sending back comes, what is sent, how many bytes are left, how often the link fails, and whether it is closed.
+// Takes of three bytes, of which the second fails; one byte a call, and the fifth send fails after four bytes; no room for the last
+// three bytes; takes and sends that are counted apart.
+const LINKS: &str = "abcdefgh 8 8 - - -> Ready abcdefgh 0 0 true
+abcdefgh 8 3 2 - -> Ready abcdefgh 0 1 true
+abcdefgh 8 1 - 5 -> Failed abcd 3 1 false
+abcdefgh 5 8 - - -> Failed abcde 0 1 false
+abcdefgh 8 2 1,2 1 -> Failed  6 3 false";
+
+fn told(alloc: Global, row: &str) -> Result<String, AllocError> {
+    let words: Vec<&str> = row.split(' ').collect(alloc)?;
+    match words.as_slice() {
+        [left, room, piece, takes, sends] => {
+            told_of_link(alloc, left, (number(room), number(piece)), takes, sends)
+        }
+        _ => String::from_str(alloc, "no link"),
+    }
 }
 
-fn cases() -> [Case; 5] {
-    let plain = Case {
-        left: b"abcdefgh",
-        room: 8,
-        piece: 8,
-        take_fails: &[],
-        send_fails: &[],
-        reach: Reach::Ready,
-        sent: b"abcdefgh",
-        still_left: 0,
-        faults: 0,
-    };
-    [
-        Case { ..plain },
-        // Takes of three bytes, of which the second fails.
-        Case {
-            piece: 3,
-            take_fails: &[2],
-            faults: 1,
-            ..plain
-        },
-        // One byte a call, and the fifth send fails after four bytes.
-        Case {
-            piece: 1,
-            send_fails: &[5],
-            reach: Reach::Failed,
-            sent: b"abcd",
-            still_left: 3,
-            faults: 1,
-            ..plain
-        },
-        // No room for the last three bytes.
-        Case {
-            room: 5,
-            reach: Reach::Failed,
-            sent: b"abcde",
-            faults: 1,
-            ..plain
-        },
-        // Takes and sends are counted apart.
-        Case {
-            piece: 2,
-            take_fails: &[1, 2],
-            send_fails: &[1],
-            reach: Reach::Failed,
-            sent: b"",
-            still_left: 6,
-            faults: 3,
-            ..plain
-        },
-    ]
+fn told_of_link(
+    alloc: Global,
+    left: &str,
+    (room, piece): (usize, usize),
+    takes: &str,
+    sends: &str,
+) -> Result<String, AllocError> {
+    let takes = numbers(alloc, takes)?;
+    let sends = numbers(alloc, sends)?;
+    let (takes, sends) = (takes.as_slice(), sends.as_slice());
+    match MemLink::new(alloc, letters(left), room, piece.max(1), takes, sends) {
+        Ok(mut link) => sent_back(alloc, &mut link),
+        Err(AllocError) => Err(AllocError),
+    }
+}
+
+fn sent_back(alloc: Global, link: &mut MemLink) -> Result<String, AllocError> {
+    crosses(link);
+    let reach = echo(link, 16);
+    let (sent, left) = (text_of(link.sent()), link.left().len());
+    let (faults, closed) = (link.faults(), link.is_closed());
+    format!(in alloc; "{reach:?} {sent} {left} {faults} {closed}")
 }
 
 #[test]
-fn a_memory_link_sends_back_and_fails_where_it_is_told(rt: HostRuntime) -> Result<(), Fail> {
-    let alloc = rt.alloc();
-    for case in cases() {
-        assert!(rt; case.piece > 0);
-        let (takes, sends) = (case.take_fails, case.send_fails);
-        let mut link = MemLink::new(alloc, case.left, case.room, case.piece, takes, sends)?;
-        crosses(&link);
-        assert_eq!(rt; echo(&mut link, 16), case.reach);
-        assert_eq!(rt; link.sent(), case.sent);
-        assert_eq!(rt; link.left().len(), case.still_left);
-        assert_eq!(rt; link.faults(), case.faults);
-        assert_eq!(rt; link.is_closed(), case.reach == Reach::Ready);
+fn a_memory_link_sends_back_and_fails_where_it_is_told(rt: HostRuntime) {
+    for row in LINKS.lines() {
+        let (input, wanted) = row.split_once(" -> ").unwrap_or(("", "two columns"));
+        assert!(rt; is_told(told(rt.alloc(), input), wanted), "{row}");
     }
-    Ok(())
 }

@@ -1,24 +1,24 @@
 // Links and doors over TCP, on the loopback. One thread is enough: what is sent waits in the system until it is taken.
 use super::crosses;
 use nx_io::{Dial, Door, Got, Link, Next, Put, Reach, Shared, TcpDoor, TcpLink, send_whole};
-use std::alloc::Global;
+use std::alloc::{AllocError, Global};
 use std::net::{Net, TcpListener, TcpStream};
+use std::process::Abort;
 use std::rt::Clock;
-use std::test::Fail;
 
 // More than a link gathers.
 const LONG: usize = 5000;
 
-// A door that listens at the first of some ports that is free, and its address.
+// Lets the door listen at the first of some ports that is free, and gives its address.
 fn listening<R: Net<Listener = TcpListener, Stream = TcpStream> + Clock>(
     rt: &R,
     alloc: Global,
-) -> Result<Option<(TcpDoor, String)>, Fail> {
+    door: &mut TcpDoor,
+) -> Result<Option<String>, AllocError> {
     for port in 43_117..43_217u32 {
         let address = format!(in alloc; "127.0.0.1:{port}")?;
-        let mut door = TcpDoor::new();
         if door.listen(rt, address.as_bytes()) == Reach::Ready {
-            return Ok(Some((door, address)));
+            return Ok(Some(address));
         }
     }
     Ok(None)
@@ -30,16 +30,29 @@ fn ends<R: Net<Listener = TcpListener, Stream = TcpStream> + Clock>(
     door: &mut TcpDoor,
     address: &[u8],
 ) -> Option<(TcpLink, TcpLink)> {
-    let Shared::Made(mut share) = door.share() else {
-        return None;
-    };
-    let Dial::Link(dialed) = door.dial(rt, address) else {
-        return None;
-    };
-    let Next::Link(given) = share.next(rt) else {
-        return None;
-    };
-    Some((dialed, given))
+    match door.share() {
+        Shared::Made(mut share) => ends_by(rt, door, &mut share, address),
+        Shared::Failed | Shared::NoMemory => None,
+    }
+}
+
+fn ends_by<R: Net<Listener = TcpListener, Stream = TcpStream> + Clock>(
+    rt: &R,
+    door: &mut TcpDoor,
+    share: &mut TcpDoor,
+    address: &[u8],
+) -> Option<(TcpLink, TcpLink)> {
+    match door.dial(rt, address) {
+        Dial::Link(dialed) => with_given(dialed, share.next(rt)),
+        Dial::Failed => None,
+    }
+}
+
+fn with_given(dialed: TcpLink, given: Next<TcpLink>) -> Option<(TcpLink, TcpLink)> {
+    match given {
+        Next::Link(given) => Some((dialed, given)),
+        Next::NoMore | Next::Failed => None,
+    }
 }
 
 // Takes so many bytes, and says whether all were this one.
@@ -60,34 +73,33 @@ fn takes(link: &mut TcpLink, count: usize, byte: u8) -> bool {
     taken == count
 }
 
-// What one end of a connection does.
-#[derive(Clone, Copy)]
-enum Step {
-    // Sends this byte `LONG` times.
-    Sends(u8),
-    // Takes so many of this byte.
-    Takes(u8, usize),
-    // Comes to the end.
-    Ends,
-    // Sends until it fails, the other end being closed.
-    Loses,
-    Closes,
-    // Is closed: it neither takes nor sends.
-    IsClosed,
+// What an end of a connection does, by a letter and perhaps a byte.
+fn does(link: &mut TcpLink, step: &str) -> bool {
+    match step {
+        // Sends this byte `LONG` times.
+        "send a" => sends(link, b'a'),
+        "send b" => sends(link, b'b'),
+        // Takes so many of this byte.
+        "take a" => takes(link, 4096, b'a'),
+        "take b" => takes(link, 4096, b'b'),
+        "take the rest" => takes(link, LONG - 4096, b'a'),
+        "end" => link.take(&mut [0; 8]) == Got::End,
+        // Sends until it fails, the other end being closed.
+        "lose" => loses(link),
+        "close" => closes(link),
+        // It neither takes nor sends.
+        "is closed" => link.take(&mut [0; 8]) == Got::Failed && link.send(b"a") == Put::Failed,
+        _ => false,
+    }
 }
 
-fn does(link: &mut TcpLink, step: Step) -> bool {
-    match step {
-        Step::Sends(byte) => send_whole(link, &[byte; LONG]) == Reach::Ready,
-        Step::Takes(byte, count) => takes(link, count, byte),
-        Step::Ends => link.take(&mut [0; 8]) == Got::End,
-        Step::Loses => loses(link),
-        Step::Closes => {
-            link.close();
-            true
-        }
-        Step::IsClosed => link.take(&mut [0; 8]) == Got::Failed && link.send(b"a") == Put::Failed,
-    }
+fn sends(link: &mut TcpLink, byte: u8) -> bool {
+    send_whole(link, &[byte; LONG]) == Reach::Ready
+}
+
+fn closes(link: &mut TcpLink) -> bool {
+    link.close();
+    true
 }
 
 fn loses(link: &mut TcpLink) -> bool {
@@ -99,43 +111,52 @@ fn loses(link: &mut TcpLink) -> bool {
     false
 }
 
-#[test]
-fn bytes_go_both_ways_over_tcp(rt: HostRuntime) -> Result<(), Fail> {
-    let alloc = rt.alloc();
-    let found = listening(&rt, alloc)?;
-    assert!(rt; found.is_some());
-    let Some((mut door, address)) = found else {
-        return Ok(());
-    };
-    let connected = ends(&rt, &mut door, address.as_bytes());
-    assert!(rt; connected.is_some());
-    let Some((mut dialed, mut given)) = connected else {
-        return Ok(());
-    };
-    crosses(&door);
-    crosses(&dialed);
-    for (by_dialed, step) in [
-        (true, Step::Sends(b'a')),
-        (false, Step::Takes(b'a', 4096)),
-        (false, Step::Sends(b'b')),
-        (true, Step::Takes(b'b', 4096)),
-        // The last bytes have waited in the link, and go out when it is closed.
-        (true, Step::Closes),
-        (false, Step::Takes(b'a', LONG - 4096)),
-        (false, Step::Ends),
-        (true, Step::IsClosed),
-        (false, Step::Loses),
-        (false, Step::Closes),
-    ] {
-        let done = if by_dialed {
-            does(&mut dialed, step)
+// What the end that was dialed does, and the other one. The last bytes have waited in the link, and go out when it is closed.
+const STEPS: &str = "dialed send a
+given take a
+given send b
+dialed take b
+dialed close
+given take the rest
+given end
+dialed is closed
+given lose
+given close";
+
+fn all_done(rt: &impl Abort, dialed: &mut TcpLink, given: &mut TcpLink) {
+    crosses(dialed);
+    for line in STEPS.lines() {
+        let (end, step) = line.split_once(" ").unwrap_or(("", ""));
+        let done = if end == "dialed" {
+            does(dialed, step)
         } else {
-            does(&mut given, step)
+            does(given, step)
         };
-        assert!(rt; done);
+        assert!(rt; done, "{line}");
     }
-    assert_eq!(rt; (dialed.faults(), given.faults()), (2, 2));
-    Ok(())
+    assert!(rt; dialed.faults() == 2 && given.faults() == 2);
+}
+
+fn connected<R>(rt: &R, door: &mut TcpDoor, address: &[u8])
+where
+    R: Net<Listener = TcpListener, Stream = TcpStream> + Clock + Abort,
+{
+    crosses(door);
+    let both = ends(rt, door, address);
+    assert!(rt; both.is_some());
+    if let Some((mut dialed, mut given)) = both {
+        all_done(rt, &mut dialed, &mut given);
+    }
+}
+
+#[test]
+fn bytes_go_both_ways_over_tcp(rt: HostRuntime) {
+    let mut door = TcpDoor::new();
+    let address = listening(&rt, rt.alloc(), &mut door);
+    assert!(rt; matches!(&address, Ok(Some(_))));
+    if let Ok(Some(address)) = address {
+        connected(&rt, &mut door, address.as_bytes());
+    }
 }
 
 #[test]
@@ -143,6 +164,6 @@ fn a_door_fails_where_nobody_is(rt: HostRuntime) {
     let mut door = TcpDoor::new();
     assert!(rt; matches!(door.next(&rt), Next::Failed));
     assert!(rt; matches!(door.dial(&rt, b"127.0.0.1:1"), Dial::Failed));
-    assert_eq!(rt; door.listen(&rt, b"no address"), Reach::Failed);
-    assert_eq!(rt; door.faults(), 3);
+    assert!(rt; door.listen(&rt, b"no address") == Reach::Failed);
+    assert!(rt; door.faults() == 3);
 }

@@ -1,9 +1,10 @@
 // Sources and sinks: generic code over each, and the answers of single calls.
+use crate::texts::{is_told, letters, number, numbers, text_of};
 use nx_io::{
     Bytes, Discard, Got, MemSink, MemSource, Put, Reach, Sink, Source, StdSink, StdSource, send_all,
 };
+use std::alloc::{AllocError, Global};
 use std::io::{self, ErrorKind, Read, Write};
-use std::test::Fail;
 
 // Sends on what a source gives, in at most so many reads, and reads again after a fault.
 fn forward<S: Source, K: Sink>(source: &mut S, sink: &mut K, reads: u64) -> Reach {
@@ -21,88 +22,77 @@ fn forward<S: Source, K: Sink>(source: &mut S, sink: &mut K, reads: u64) -> Reac
     Reach::Failed
 }
 
-// A source and a sink in memory, and what comes of sending on the one's bytes to the other.
-#[derive(Clone, Copy)]
-struct Case {
-    left: &'static [u8],
-    source_piece: usize,
-    source_fails: &'static [u64],
-    room: usize,
-    sink_piece: usize,
-    sink_fails: &'static [u64],
-    reach: Reach,
-    sent: &'static [u8],
-    still_left: usize,
-    source_faults: u64,
-    sink_faults: u64,
+// Sources in memory by what they give, how many bytes go in a read and the reads that fail, and sinks by their room, how many bytes
+// go in a write and the writes that fail. How far sending on comes, what is sent, how many bytes are left, and how often the source
+// fails, and the sink.
+// Pieces of both, and the second read fails; one byte a call, and the fifth call fails after four bytes; no room for the last three
+// bytes; nothing to send, and the first read fails.
+const DEVICES: &str = "abcdefgh 8 - 8 8 - -> Ready abcdefgh 0 0 0
+abcdefgh 3 2 8 2 - -> Ready abcdefgh 0 1 0
+abcdefgh 8 - 8 1 5 -> Failed abcd 0 0 1
+abcdefgh 8 - 5 8 - -> Failed abcde 0 0 1
+- 8 1 8 8 - -> Ready  0 1 0";
+
+fn told(alloc: Global, row: &str) -> Result<String, AllocError> {
+    let words: Vec<&str> = row.split(' ').collect(alloc)?;
+    match words.as_slice() {
+        [left, read, reads, room, write, writes] => {
+            told_of_source(
+                alloc,
+                left,
+                (number(read), reads),
+                number(room),
+                (number(write), writes),
+            )
+        }
+        _ => String::from_str(alloc, "no devices"),
+    }
 }
 
-fn cases() -> [Case; 5] {
-    let plain = Case {
-        left: b"abcdefgh",
-        source_piece: 8,
-        source_fails: &[],
-        room: 8,
-        sink_piece: 8,
-        sink_fails: &[],
-        reach: Reach::Ready,
-        sent: b"abcdefgh",
-        still_left: 0,
-        source_faults: 0,
-        sink_faults: 0,
-    };
-    [
-        Case { ..plain },
-        // Pieces of both, and the second read fails.
-        Case {
-            source_piece: 3,
-            source_fails: &[2],
-            sink_piece: 2,
-            source_faults: 1,
-            ..plain
-        },
-        // One byte a call, and the fifth call fails after four bytes.
-        Case {
-            sink_piece: 1,
-            sink_fails: &[5],
-            reach: Reach::Failed,
-            sent: b"abcd",
-            sink_faults: 1,
-            ..plain
-        },
-        // No room for the last three bytes.
-        Case {
-            room: 5,
-            reach: Reach::Failed,
-            sent: b"abcde",
-            sink_faults: 1,
-            ..plain
-        },
-        // Nothing to send, and the first read fails.
-        Case {
-            left: b"",
-            source_fails: &[1],
-            sent: b"",
-            source_faults: 1,
-            ..plain
-        },
-    ]
+fn told_of_source(
+    alloc: Global,
+    left: &str,
+    (piece, fails): (usize, &str),
+    room: usize,
+    sink: (usize, &str),
+) -> Result<String, AllocError> {
+    let fails = numbers(alloc, fails)?;
+    match MemSource::new(alloc, letters(left), piece.max(1), fails.as_slice()) {
+        Ok(mut source) => told_of_sink(alloc, &mut source, room, sink),
+        Err(AllocError) => Err(AllocError),
+    }
+}
+
+fn told_of_sink(
+    alloc: Global,
+    source: &mut MemSource,
+    room: usize,
+    (piece, fails): (usize, &str),
+) -> Result<String, AllocError> {
+    let fails = numbers(alloc, fails)?;
+    match MemSink::new(alloc, room, piece.max(1), fails.as_slice()) {
+        Ok(mut sink) => sent_on(alloc, source, &mut sink),
+        Err(AllocError) => Err(AllocError),
+    }
+}
+
+fn sent_on(
+    alloc: Global,
+    source: &mut MemSource,
+    sink: &mut MemSink,
+) -> Result<String, AllocError> {
+    let reach = forward(source, sink, 16);
+    let (sent, left) = (text_of(sink.sent()), source.left().len());
+    let (reads, writes) = (source.faults(), sink.faults());
+    format!(in alloc; "{reach:?} {sent} {left} {reads} {writes}")
 }
 
 #[test]
-fn memory_devices_send_on_and_fail_where_they_are_told(rt: HostRuntime) -> Result<(), Fail> {
-    let alloc = rt.alloc();
-    for case in cases() {
-        assert!(rt; case.source_piece > 0 && case.sink_piece > 0);
-        let mut source = MemSource::new(alloc, case.left, case.source_piece, case.source_fails)?;
-        let mut sink = MemSink::new(alloc, case.room, case.sink_piece, case.sink_fails)?;
-        assert_eq!(rt; forward(&mut source, &mut sink, 16), case.reach);
-        assert_eq!(rt; sink.sent(), case.sent);
-        assert_eq!(rt; source.left().len(), case.still_left);
-        assert_eq!(rt; source.faults(), case.source_faults);
-        assert_eq!(rt; sink.faults(), case.sink_faults);
+fn memory_devices_send_on_and_fail_where_they_are_told(rt: HostRuntime) {
+    for row in DEVICES.lines() {
+        let (input, wanted) = row.split_once(" -> ").unwrap_or(("", "two columns"));
+        assert!(rt; is_told(told(rt.alloc(), input), wanted), "{row}");
     }
-    Ok(())
 }
 
 // A reader that answers by a script: first these errors, and then these parts, of which an empty one is an end. Then
@@ -163,35 +153,50 @@ impl Write for Reluctant {
 }
 
 #[test]
-fn readers_and_writers_of_std_serve(rt: HostRuntime) -> Result<(), Fail> {
-    let alloc = rt.alloc();
-    let mut written = Vec::new(alloc);
-    let mut buffer = [0; 3];
-    let mut source = StdSource::new(b"some bytes".as_slice());
-    let mut sink = StdSink::new(&mut written);
-    assert_eq!(rt; forward(&mut source, &mut sink, 4), Reach::Ready);
-    assert_eq!(rt; (source.faults(), sink.faults()), (0, 0));
-    drop(sink);
-    assert_eq!(rt; written.as_slice(), b"some bytes".as_slice());
+fn readers_and_writers_of_std_serve(rt: HostRuntime) {
+    let mut written = Vec::new(rt.alloc());
+    assert!(rt; is_sent_on(&mut written));
+    assert!(rt; written.as_slice() == b"some bytes".as_slice());
+}
 
-    // A slice takes what it has room for, and then nothing.
+fn is_sent_on(written: &mut Vec<u8>) -> bool {
+    let mut source = StdSource::new(b"some bytes".as_slice());
+    let mut sink = StdSink::new(written);
+    forward(&mut source, &mut sink, 4) == Reach::Ready && source.faults() == 0 && sink.faults() == 0
+}
+
+// A slice takes what it has room for, and then nothing.
+#[test]
+fn a_slice_takes_what_it_has_room_for(rt: HostRuntime) {
+    let mut buffer = [0; 3];
     let mut full = StdSink::new(buffer.as_mut_slice());
-    assert_eq!(rt; full.write(b"abcde"), Put::Bytes(3));
-    assert_eq!(rt; full.write(b"de"), Put::Failed);
-    assert_eq!(rt; full.faults(), 1);
-    Ok(())
+    assert!(rt; full.write(b"abcde") == Put::Bytes(3));
+    assert!(rt; full.write(b"de") == Put::Failed);
+    assert!(rt; full.faults() == 1);
 }
 
 // No clause can say that the reader of std has failed: only that a fault was counted.
 #[test]
 fn a_read_that_fails_once_is_told_and_counted_once(rt: HostRuntime) {
     let mut source = StdSource::new(Scripted::new(&[ErrorKind::Other], &[b"ab"]));
-    let mut buffer = [0; 4];
-    assert_eq!(rt; source.read(&mut buffer), Got::Failed);
-    assert_eq!(rt; source.faults(), 1);
-    assert_eq!(rt; source.read(&mut buffer), Got::Bytes(2));
-    assert_eq!(rt; source.read(&mut buffer), Got::End);
-    assert_eq!(rt; source.faults(), 1);
+    assert!(rt; reads(&mut source, Got::Failed));
+    assert!(rt; source.faults() == 1);
+    assert!(rt; reads(&mut source, Got::Bytes(2)));
+    assert!(rt; reads(&mut source, Got::End));
+    assert!(rt; source.faults() == 1);
+}
+
+// Whether this comes of a read of four bytes at most.
+fn reads(source: &mut StdSource<Scripted>, due: Got) -> bool {
+    source.read(&mut [0; 4]) == due
+}
+
+fn writes(sink: &mut StdSink<Reluctant>, due: Put) -> bool {
+    sink.write(b"abcd") == due
+}
+
+fn sends(sink: &mut StdSink<Reluctant>, piece: &[u8], due: Reach) -> bool {
+    send_all(sink, piece) == due
 }
 
 #[test]
@@ -200,61 +205,68 @@ fn a_write_that_fails_once_is_told_and_counted_once(rt: HostRuntime) {
         errors: &[ErrorKind::BrokenPipe],
         calls: 0,
     });
-    assert_eq!(rt; send_all(&mut sink, b"abcd"), Reach::Failed);
-    assert_eq!(rt; sink.faults(), 1);
-    assert_eq!(rt; sink.write(b"abcd"), Put::Bytes(2));
-    assert_eq!(rt; send_all(&mut sink, b"cd"), Reach::Ready);
-    assert_eq!(rt; sink.faults(), 1);
+    assert!(rt; sends(&mut sink, b"abcd", Reach::Failed));
+    assert!(rt; sink.faults() == 1);
+    assert!(rt; writes(&mut sink, Put::Bytes(2)));
+    assert!(rt; sends(&mut sink, b"cd", Reach::Ready));
+    assert!(rt; sink.faults() == 1);
 }
 
 #[test]
 fn a_call_that_a_signal_interrupts_is_no_fault(rt: HostRuntime) {
-    let mut source = StdSource::new(Scripted::new(
-        &[ErrorKind::Interrupted, ErrorKind::Interrupted],
-        &[b"ab"],
-    ));
-    let mut buffer = [0; 4];
-    assert_eq!(rt; source.read(&mut buffer), Got::Bytes(2));
-    assert_eq!(rt; source.faults(), 0);
+    let twice = &[ErrorKind::Interrupted, ErrorKind::Interrupted];
+    let mut source = StdSource::new(Scripted::new(twice, &[b"ab"]));
+    assert!(rt; reads(&mut source, Got::Bytes(2)) && source.faults() == 0);
     let mut sink = StdSink::new(Reluctant {
-        errors: &[ErrorKind::Interrupted, ErrorKind::Interrupted],
+        errors: twice,
         calls: 0,
     });
-    assert_eq!(rt; sink.write(b"abcd"), Put::Bytes(2));
-    assert_eq!(rt; sink.faults(), 0);
+    assert!(rt; writes(&mut sink, Put::Bytes(2)) && sink.faults() == 0);
 }
 
 // A terminal gives bytes again after its end was told.
 #[test]
 fn a_reader_may_have_more_after_its_end(rt: HostRuntime) {
     let mut source = StdSource::new(Scripted::new(&[], &[b"ab", b"", b"cd"]));
-    let mut buffer = [0; 4];
-    assert_eq!(rt; source.read(&mut buffer), Got::Bytes(2));
-    assert_eq!(rt; source.read(&mut buffer), Got::End);
-    assert_eq!(rt; source.read(&mut buffer), Got::Bytes(2));
-    assert_eq!(rt; source.faults(), 0);
+    assert!(rt; reads(&mut source, Got::Bytes(2)));
+    assert!(rt; reads(&mut source, Got::End));
+    assert!(rt; reads(&mut source, Got::Bytes(2)));
+    assert!(rt; source.faults() == 0);
 }
 
-#[test]
-fn what_is_discarded_is_taken_whole(rt: HostRuntime) -> Result<(), Fail> {
-    let alloc = rt.alloc();
-    let mut source = MemSource::new(alloc, b"abcdefgh", 3, &[2])?;
+fn is_discarded(source: &mut MemSource) -> bool {
     let mut sink = Discard::new();
-    assert_eq!(rt; forward(&mut source, &mut sink, 16), Reach::Ready);
-    assert!(rt; source.left().is_empty());
-    assert_eq!(rt; sink.write(b"abc"), Put::Bytes(3));
-    Ok(())
+    forward(source, &mut sink, 16) == Reach::Ready
+        && source.left().is_empty()
+        && sink.write(b"abc") == Put::Bytes(3)
 }
 
 #[test]
-fn bytes_are_copied_extended_and_given_back(rt: HostRuntime) -> Result<(), Fail> {
-    let alloc = rt.alloc();
-    assert!(rt; Bytes::new(alloc).is_empty());
-    let mut bytes = Bytes::of(alloc, b"ab")?;
-    bytes.extend(b"cd")?;
-    assert_eq!(rt; bytes.as_slice(), b"abcd".as_slice());
-    assert_eq!(rt; bytes.len(), 4);
-    let again = Bytes::from_vec(bytes.into_vec());
-    assert_eq!(rt; again.as_slice(), b"abcd".as_slice());
-    Ok(())
+fn what_is_discarded_is_taken_whole(rt: HostRuntime) {
+    let is_whole = match MemSource::new(rt.alloc(), b"abcdefgh", 3, &[2]) {
+        Ok(mut source) => is_discarded(&mut source),
+        Err(AllocError) => false,
+    };
+    assert!(rt; is_whole);
+}
+
+fn is_extended(mut bytes: Bytes) -> bool {
+    bytes.extend(b"cd").is_ok()
+        && bytes.as_slice() == b"abcd".as_slice()
+        && bytes.len() == 4
+        && is_given_back(bytes)
+}
+
+fn is_given_back(bytes: Bytes) -> bool {
+    Bytes::from_vec(bytes.into_vec()).as_slice() == b"abcd".as_slice()
+}
+
+#[test]
+fn bytes_are_copied_extended_and_given_back(rt: HostRuntime) {
+    assert!(rt; Bytes::new(rt.alloc()).is_empty());
+    let are_right = match Bytes::of(rt.alloc(), b"ab") {
+        Ok(bytes) => is_extended(bytes),
+        Err(AllocError) => false,
+    };
+    assert!(rt; are_right);
 }

@@ -1,111 +1,149 @@
-use super::ask;
+use super::{answers, ask, letter_of};
 use authority_ask::{Ask, Clock, HostClock, HostPanel, MemClock, Panel};
 use nx_io::{Reach, Shared};
-use std::alloc::Global;
+use std::alloc::{AllocError, Global};
 use std::net::{Net, TcpListener, TcpStream};
 use std::process::Abort;
 use std::rt::Clock as SystemClock;
-use std::test::Fail;
 
-// Each of the six forms, true and false when the time is 5, and statements of no such form.
-const STATEMENTS: [(&[u8], Ask, bool); 20] = [
-    (b"TimeNow = 5", Ask::Yes, true),
-    (b"TimeNow = 4", Ask::No, true),
-    (b"TimeNow < 6", Ask::Yes, true),
-    (b"TimeNow < 5", Ask::No, true),
-    (b"TimeNow <= 5", Ask::Yes, true),
-    (b"TimeNow <= 4", Ask::No, true),
-    (b"5 = TimeNow", Ask::Yes, true),
-    (b"6 = TimeNow", Ask::No, true),
-    (b"4 < TimeNow", Ask::Yes, true),
-    (b"5 < TimeNow", Ask::No, true),
-    (b"5 <= TimeNow", Ask::Yes, true),
-    (b"6 <= TimeNow", Ask::No, true),
-    (b"Load < 1", Ask::No, false),
-    (b"4 < 5", Ask::No, false),
-    (b"TimeNow = TimeNow", Ask::No, false),
-    (b"\"TimeNow\" = 5", Ask::No, false),
-    (b"TimeNow.x = 5", Ask::No, false),
-    (b"TimeNow", Ask::No, false),
-    (b"TimeNow = 5 and true", Ask::No, false),
-    (b"ntp says TimeNow = 5", Ask::No, false),
-];
+// Each of the six forms, true and false when the time is 5, and statements of no such form: the answer, and that of a clock that is
+// broken.
+const STATEMENTS: &str = "TimeNow = 5 -> YD
+TimeNow = 4 -> ND
+TimeNow < 6 -> YD
+TimeNow < 5 -> ND
+TimeNow <= 5 -> YD
+TimeNow <= 4 -> ND
+5 = TimeNow -> YD
+6 = TimeNow -> ND
+4 < TimeNow -> YD
+5 < TimeNow -> ND
+5 <= TimeNow -> YD
+6 <= TimeNow -> ND
+Load < 1 -> NN
+4 < 5 -> NN
+TimeNow = TimeNow -> NN
+\"TimeNow\" = 5 -> NN
+TimeNow.x = 5 -> NN
+TimeNow -> NN
+TimeNow = 5 and true -> NN
+ntp says TimeNow = 5 -> NN";
 
-#[test]
-fn a_clock_answers_the_six_forms(rt: HostRuntime) -> Result<(), Fail> {
-    let alloc = rt.alloc();
-    let mut panel = HostPanel::new(alloc, MemClock::new(Some(5)))?;
-    let mut broken = HostPanel::new(alloc, MemClock::new(None))?;
-    assert_eq!(rt; panel.reach(&rt, 15, b"clock"), Reach::Ready);
-    assert_eq!(rt; broken.reach(&rt, 15, b"clock"), Reach::Ready);
-    for (text, answer, is_of_the_time) in STATEMENTS {
-        assert_eq!(rt; ask(&rt, alloc, &mut panel, 15, text), answer);
-        let without = if is_of_the_time { Ask::Down } else { Ask::No };
-        assert_eq!(rt; ask(&rt, alloc, &mut broken, 15, text), without);
-    }
-    Ok(())
-}
-
-// Three asks at port 0, and the answers that are due.
-fn asks_three<P: Panel, R>(rt: &R, alloc: Global, panel: &mut P, answers: [Ask; 3])
+// Whether a panel whose clock stands at the time gives the answer of each statement that stands at the place.
+fn gives<R>(rt: &R, alloc: Global, panel: &mut HostPanel<MemClock>, place: usize)
 where
     R: Net<Listener = TcpListener, Stream = TcpStream> + SystemClock + Abort,
 {
-    let texts = [b"TimeNow < 9".as_slice(), b"TimeNow = 4", b"Load < 1"];
-    for (text, answer) in texts.into_iter().zip(answers) {
-        assert_eq!(rt; ask(rt, alloc, panel, 0, text), answer);
+    assert!(rt; panel.reach(rt, 15, b"clock") == Reach::Ready);
+    for row in STATEMENTS.lines() {
+        let (text, due) = row.split_once(" -> ").unwrap_or(("", ""));
+        let answer = letter_of(ask(rt, alloc, panel, 15, text.as_bytes()));
+        assert!(rt; due.as_bytes().get(place) == Some(&answer), "{row}");
     }
 }
 
-#[test]
-fn a_share_answers_by_the_same_addresses(rt: HostRuntime) -> Result<(), Fail> {
-    let alloc = rt.alloc();
-    for (time, answers) in [
-        (Some(5), [Ask::Yes, Ask::No, Ask::No]),
-        (None, [Ask::Down, Ask::Down, Ask::No]),
-    ] {
-        let mut panel = HostPanel::new(alloc, MemClock::new(time))?;
-        assert_eq!(rt; panel.reach(&rt, 0, b"clock"), Reach::Ready);
-        let share = panel.share();
-        asks_three(&rt, alloc, &mut panel, answers);
-        assert!(rt; matches!(&share, Shared::Made(_)));
-        if let Shared::Made(mut share) = share {
-            asks_three(&rt, alloc, &mut share, answers);
+fn with_clock<R>(rt: &R, alloc: Global, time: Option<u64>, place: usize) -> bool
+where
+    R: Net<Listener = TcpListener, Stream = TcpStream> + SystemClock + Abort,
+{
+    match HostPanel::new(alloc, MemClock::new(time)) {
+        Ok(mut panel) => {
+            gives(rt, alloc, &mut panel, place);
+            true
         }
+        Err(AllocError) => false,
     }
-    Ok(())
 }
 
 #[test]
-fn ports_and_addresses_have_bounds(rt: HostRuntime) -> Result<(), Fail> {
-    let alloc = rt.alloc();
-    let mut panel = HostPanel::new(alloc, MemClock::new(Some(5)))?;
-    assert_eq!(rt; panel.reach(&rt, 16, b"clock"), Reach::Failed);
-    assert_eq!(rt; panel.reach(&rt, 3, &[b'a'; 65]), Reach::Failed);
-    assert_eq!(rt; ask(&rt, alloc, &mut panel, 16, b"TimeNow = 5"), Ask::Down);
-    assert_eq!(rt; ask(&rt, alloc, &mut panel, 3, b"TimeNow = 5"), Ask::Down);
-    Ok(())
+fn a_clock_answers_the_six_forms(rt: HostRuntime) {
+    assert!(rt; with_clock(&rt, rt.alloc(), Some(5), 0));
+    assert!(rt; with_clock(&rt, rt.alloc(), None, 1));
+}
+
+// Three asks at port 0, and the answers that are due.
+fn answers_three<R>(rt: &R, alloc: Global, panel: &mut HostPanel<MemClock>, due: [&str; 3]) -> bool
+where
+    R: Net<Listener = TcpListener, Stream = TcpStream> + SystemClock + Abort,
+{
+    let [below, same, other] = due;
+    answers(rt, alloc, panel, (0, b"TimeNow < 9"), below)
+        && answers(rt, alloc, panel, (0, b"TimeNow = 4"), same)
+        && answers(rt, alloc, panel, (0, b"Load < 1"), other)
+}
+
+// Whether the panel and a share that was made before it is asked answer so.
+fn both_answer<R>(rt: &R, alloc: Global, panel: &mut HostPanel<MemClock>, due: [&str; 3]) -> bool
+where
+    R: Net<Listener = TcpListener, Stream = TcpStream> + SystemClock + Abort,
+{
+    match panel.share() {
+        Shared::Made(mut share) => {
+            answers_three(rt, alloc, panel, due) && answers_three(rt, alloc, &mut share, due)
+        }
+        Shared::Failed | Shared::NoMemory => false,
+    }
+}
+
+fn shares_answer<R>(rt: &R, alloc: Global, time: Option<u64>, due: [&str; 3]) -> bool
+where
+    R: Net<Listener = TcpListener, Stream = TcpStream> + SystemClock + Abort,
+{
+    match HostPanel::new(alloc, MemClock::new(time)) {
+        Ok(mut panel) => {
+            panel.reach(rt, 0, b"clock") == Reach::Ready && both_answer(rt, alloc, &mut panel, due)
+        }
+        Err(AllocError) => false,
+    }
 }
 
 #[test]
-fn the_clock_of_the_system_gives_the_time(rt: HostRuntime) -> Result<(), Fail> {
-    let alloc = rt.alloc();
+fn a_share_answers_by_the_same_addresses(rt: HostRuntime) {
+    assert!(rt; shares_answer(&rt, rt.alloc(), Some(5), ["Y", "N", "N"]));
+    assert!(rt; shares_answer(&rt, rt.alloc(), None, ["D", "D", "N"]));
+}
+
+fn has_bounds<R>(rt: &R, alloc: Global, panel: &mut HostPanel<MemClock>) -> bool
+where
+    R: Net<Listener = TcpListener, Stream = TcpStream> + SystemClock + Abort,
+{
+    panel.reach(rt, 16, b"clock") == Reach::Failed
+        && panel.reach(rt, 3, &[b'a'; 65]) == Reach::Failed
+        && ask(rt, alloc, panel, 16, b"TimeNow = 5") == Ask::Down
+        && ask(rt, alloc, panel, 3, b"TimeNow = 5") == Ask::Down
+}
+
+#[test]
+fn ports_and_addresses_have_bounds(rt: HostRuntime) {
+    let panel = HostPanel::new(rt.alloc(), MemClock::new(Some(5)));
+    assert!(rt; panel.is_ok());
+    if let Ok(mut panel) = panel {
+        assert!(rt; has_bounds(&rt, rt.alloc(), &mut panel));
+    }
+}
+
+// Whether the time lies between the start of 2020 and that of 2200.
+fn is_now(time: Option<u64>) -> bool {
+    matches!(time, Some(1_577_836_800..7_258_118_400))
+}
+
+fn tells_the_time<R>(rt: &R, alloc: Global, panel: &mut HostPanel<HostClock>) -> bool
+where
+    R: Net<Listener = TcpListener, Stream = TcpStream> + SystemClock + Abort,
+{
+    panel.reach(rt, 0, b"clock") == Reach::Ready
+        && ask(rt, alloc, panel, 0, b"1577836800 < TimeNow") == Ask::Yes
+        && ask(rt, alloc, panel, 0, b"TimeNow < 1577836800") == Ask::No
+}
+
+#[test]
+fn the_clock_of_the_system_gives_the_time(rt: HostRuntime) {
     let mut clock = HostClock::new();
-    let first = clock.now(&rt);
-    let again = clock.share().now(&rt);
-    // The start of 2020, and that of 2200.
-    for now in [first, again] {
-        assert!(rt; matches!(now, Some(1_577_836_800..7_258_118_400)));
+    assert!(rt; is_now(clock.now(&rt)));
+    assert!(rt; is_now(clock.share().now(&rt)));
+    let panel = HostPanel::new(rt.alloc(), clock);
+    assert!(rt; panel.is_ok());
+    if let Ok(mut panel) = panel {
+        assert!(rt; tells_the_time(&rt, rt.alloc(), &mut panel));
     }
-    let mut panel = HostPanel::new(alloc, clock)?;
-    assert_eq!(rt; panel.reach(&rt, 0, b"clock"), Reach::Ready);
-    assert_eq!(rt;
-        ask(&rt, alloc, &mut panel, 0, b"1577836800 < TimeNow"),
-        Ask::Yes
-    );
-    assert_eq!(rt;
-        ask(&rt, alloc, &mut panel, 0, b"TimeNow < 1577836800"),
-        Ask::No
-    );
-    Ok(())
 }

@@ -1,40 +1,22 @@
-use super::ask;
-use authority_ask::{Ask, HostPanel, MemClock, Panel};
+use super::answers;
+use authority_ask::{HostPanel, MemClock, Panel};
 use nx_io::{Reach, Shared};
-use std::alloc::Global;
+use std::alloc::{AllocError, Global};
 use std::io::{Read, Write};
 use std::net::{Net, TcpListener, TcpStream};
 use std::process::Abort;
 use std::rt::Clock as SystemClock;
 use std::test::Fail;
-use std::thread::{Threads, join};
+use std::thread::join;
 
-// What the authority sends after each line that it reads, connection by connection. After the last it closes.
-const CONNECTIONS: [&[&[u8]]; 7] = [
-    &[b"yes\n", b"no\n"],
-    &[b"yes\nno\n"],
-    &[b"no\n", b"yesyesyesyesyesyesyesyes\n"],
-    &[b"maybe\n"],
-    &[b"yes"],
-    &[b"yes\n"],
-    &[b"no\n"],
-];
+// What the authority sends after each line that it reads, by commas, connection by connection. After the last it closes.
+const CONNECTIONS: &str =
+    "yes\n,no\n;yes\nno\n;no\n,yesyesyesyesyesyesyesyes\n;maybe\n;yes;yes\n;no\n";
 
-// What is asked in turn, and what comes of the connections above. Beside a Down the one below it connects again.
-const ANSWERS: [Ask; 9] = [
-    Ask::Yes,
-    Ask::No,
-    // The first connection was closed.
-    Ask::Down,
-    // Bytes stand behind the line, so they are no answer to the next ask.
-    Ask::Yes,
-    Ask::No,
-    // The line is too long; it is none that answers; it has no end.
-    Ask::Down,
-    Ask::Down,
-    Ask::Down,
-    Ask::Yes,
-];
+// What is asked in turn, and what comes of the connections above. Beside a Down the one below it connects again: the first
+// connection was closed; bytes stand behind the line, so they are no answer to the next ask; the line is too long; it is none that
+// answers; it has no end.
+const ANSWERS: &str = "YNDYNDDDY";
 
 // Reads a line of the authority's peer. False where there is none.
 fn read_question(stream: &mut TcpStream) -> bool {
@@ -48,17 +30,21 @@ fn read_question(stream: &mut TcpStream) -> bool {
     true
 }
 
+fn serve_one(stream: &mut TcpStream, answers: &str) {
+    for answer in answers.split(",") {
+        if read_question(stream) {
+            let _sent = stream.write_all(answer.as_bytes());
+        }
+    }
+}
+
 // The authority: it serves the connections, and then one on which it hangs.
 fn serve(listener: &TcpListener) {
-    for answers in CONNECTIONS {
+    for answers in CONNECTIONS.split(";") {
         let Ok((mut stream, _)) = listener.accept() else {
             return;
         };
-        for answer in answers {
-            if read_question(&mut stream) {
-                let _sent = stream.write_all(answer);
-            }
-        }
+        serve_one(&mut stream, answers);
     }
     if let Ok((mut stream, _)) = listener.accept() {
         let _asked = read_question(&mut stream);
@@ -66,27 +52,61 @@ fn serve(listener: &TcpListener) {
     }
 }
 
-fn ask_all<R>(rt: &R, alloc: Global, address: &[u8]) -> Result<(), Fail>
+const OK: (u64, &[u8]) = (1, b"ntp says ok");
+
+// A share connects for itself.
+fn share_is_denied<R>(rt: &R, alloc: Global, panel: &mut HostPanel<MemClock>) -> bool
 where
     R: Net<Listener = TcpListener, Stream = TcpStream> + SystemClock + Abort,
 {
-    let mut panel = HostPanel::new(alloc, MemClock::new(Some(5)))?;
-    assert_eq!(rt; panel.reach(rt, 1, address), Reach::Ready);
-    for answer in ANSWERS {
-        assert_eq!(rt; ask(rt, alloc, &mut panel, 1, b"ntp says ok"), answer);
+    match panel.share() {
+        Shared::Made(mut share) => answers(rt, alloc, &mut share, OK, "N"),
+        Shared::Failed | Shared::NoMemory => false,
     }
+}
 
-    // A share connects for itself.
-    let share = panel.share();
-    assert!(rt; matches!(&share, Shared::Made(_)));
-    if let Shared::Made(mut share) = share {
-        assert_eq!(rt; ask(rt, alloc, &mut share, 1, b"ntp says ok"), Ask::No);
+// Asserted within the thread: the authority would wait for the asks that are left. In the end one that hangs is given up: it has
+// closed the connection of this panel, and then it takes a new one.
+fn asks_in_turn<R>(rt: &R, alloc: Global, panel: &mut HostPanel<MemClock>, address: &[u8])
+where
+    R: Net<Listener = TcpListener, Stream = TcpStream> + SystemClock + Abort,
+{
+    assert!(rt; panel.reach(rt, 1, address) == Reach::Ready);
+    assert!(rt; answers(rt, alloc, panel, OK, ANSWERS));
+    assert!(rt; share_is_denied(rt, alloc, panel));
+    assert!(rt; answers(rt, alloc, panel, OK, "DD"));
+}
+
+fn ask_all<R>(rt: &R, alloc: Global, address: &[u8]) -> bool
+where
+    R: Net<Listener = TcpListener, Stream = TcpStream> + SystemClock + Abort,
+{
+    match HostPanel::new(alloc, MemClock::new(Some(5))) {
+        Ok(mut panel) => {
+            asks_in_turn(rt, alloc, &mut panel, address);
+            true
+        }
+        Err(AllocError) => false,
     }
+}
 
-    // The authority that hangs is given up: it has closed the connection of this panel, and then it takes a new one.
-    assert_eq!(rt; ask(rt, alloc, &mut panel, 1, b"ntp says ok"), Ask::Down);
-    assert_eq!(rt; ask(rt, alloc, &mut panel, 1, b"ntp says ok"), Ask::Down);
-    Ok(())
+fn is_lost<R>(rt: &R, alloc: Global, panel: &mut HostPanel<MemClock>, address: &[u8]) -> bool
+where
+    R: Net<Listener = TcpListener, Stream = TcpStream> + SystemClock + Abort,
+{
+    panel.reach(rt, 1, address) == Reach::Failed
+        && panel.reach(rt, 1, b"no address") == Reach::Failed
+        && answers(rt, alloc, panel, OK, "D")
+}
+
+fn finds_nobody<R>(rt: &R, alloc: Global, address: &[u8]) -> bool
+where
+    R: Net<Listener = TcpListener, Stream = TcpStream> + SystemClock + Abort,
+{
+    match HostPanel::new(alloc, MemClock::new(Some(5))) {
+        Ok(mut panel) => is_lost(rt, alloc, &mut panel, address),
+        Err(AllocError) => false,
+    }
 }
 
 #[test]
@@ -99,13 +119,10 @@ fn an_authority_is_asked_over_tcp(rt: HostRuntime) -> Result<(), Fail> {
         || serve(&listener),
         || ask_all(&rt, alloc, address.as_bytes()),
     );
-    asked?;
+    assert!(&rt; asked);
 
     // Nobody listens there any more.
     drop(listener);
-    let mut panel = HostPanel::new(alloc, MemClock::new(Some(5)))?;
-    assert_eq!(&rt; panel.reach(&rt, 1, address.as_bytes()), Reach::Failed);
-    assert_eq!(&rt; panel.reach(&rt, 1, b"no address"), Reach::Failed);
-    assert_eq!(&rt; ask(&rt, alloc, &mut panel, 1, b"ntp says ok"), Ask::Down);
+    assert!(&rt; finds_nobody(&rt, alloc, address.as_bytes()));
     Ok(())
 }

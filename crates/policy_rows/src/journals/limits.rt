@@ -1,97 +1,64 @@
 //! How much a principal may add, and how many objects and cases there may be.
-use super::Change::{Delete, Object, Proof, Say};
-use super::Series::{Objects, Proofs, Says};
-use super::Step::{All, Bytes, Count, Known, Offer};
-use super::{TRIVIAL, first_wrong};
-use policy_history::Refusal::{CasesFull, ObjectsFull, Quota};
+use super::first_other;
 use std::alloc::AllocError;
 
-#[test]
-fn a_principal_has_4096_entries(rt: HostRuntime) -> Result<(), AllocError> {
-    let steps = [
-        Bytes("alice", Say("alice", "ok"), 23),
-        All(Says("alice", "ok"), 1, 4097),
-        Offer("alice", Say("alice", "ok"), Err(Quota)),
-        Offer("bob", Say("bob", "ok"), Ok(4097)),
-        Count(4097),
-    ];
-    assert_eq!(rt;
-        first_wrong(rt.alloc(), &["alice", "bob"], &[], &steps)?,
-        None
-    );
-    Ok(())
-}
-
-// A quoted text of 230 letters, as an argument.
-const LONG: &str =
-    "p(\"aaaaaaaaaaaaaaaaaaaaaaaaaaaaaaaaaaaaaaaaaaaaaaaaaaaaaaaaaaaaaaaaaaaaaaaaaaaaaaaaaaaaaaaaaaaaaaaaaaaaaaaaaaaaaaaaaaaaaaaaaaaaaaaaaaaaaaaaaaaaaaaaaaaaaaaaaaaaaaaaaaaaaaaaaaaaaaaaaaaaaaaaaaaaaaaaaaaaaaaaaaaaaaaaaaaaaaaaaaaaaaaaaaaaaa\")";
-
-#[test]
-fn the_lines_of_a_principal_have_524288_bytes(rt: HostRuntime) -> Result<(), AllocError> {
-    let steps = [
-        Bytes("alice", Say("alice", LONG), 256),
-        All(Says("alice", LONG), 1, 2049),
-        Offer("alice", Say("alice", LONG), Err(Quota)),
-        Offer("alice", Delete(1), Err(Quota)),
-    ];
-    assert_eq!(rt; first_wrong(rt.alloc(), &["alice"], &[], &steps)?, None);
-    Ok(())
-}
-
-#[test]
-fn there_are_4096_objects(rt: HostRuntime) -> Result<(), AllocError> {
-    let steps = [
-        All(Objects("alice"), 0, 4096),
-        Offer("bob", Object("o"), Err(ObjectsFull)),
-        Offer("alice", Object("o"), Err(Quota)),
-    ];
-    assert_eq!(rt;
-        first_wrong(rt.alloc(), &["alice", "bob"], &[], &steps)?,
-        None
-    );
-    Ok(())
-}
-
-#[test]
-fn a_principal_is_known_by_name_and_secret(rt: HostRuntime) -> Result<(), AllocError> {
-    let steps = [
-        Known("bob", "pw", Some(1)),
-        Known("bob", "pwx", None),
-        Known("eve", "pw", None),
-    ];
-    assert_eq!(rt;
-        first_wrong(rt.alloc(), &["alice", "bob"], &[], &steps)?,
-        None
-    );
-    Ok(())
-}
+const CASES: &str = "there are 65536 cases
+nexus 2|principal a pw|principal b pw|principal c pw|principal d pw|principal e pw|principal f pw|principal g pw|principal h pw|principal i pw|principal j pw|principal k pw|principal l pw|principal m pw|principal n pw|principal o pw|principal p pw|principal q pw|end|
+1 q object x -> 0
+all 0 4096 1 a proof o# x : proof 1 ; 1 true_i : true ; end -> each
+all 4096 8192 1 b proof o# x : proof 1 ; 1 true_i : true ; end -> each
+all 8192 12288 1 c proof o# x : proof 1 ; 1 true_i : true ; end -> each
+all 12288 16384 1 d proof o# x : proof 1 ; 1 true_i : true ; end -> each
+all 16384 20480 1 e proof o# x : proof 1 ; 1 true_i : true ; end -> each
+all 20480 24576 1 f proof o# x : proof 1 ; 1 true_i : true ; end -> each
+all 24576 28672 1 g proof o# x : proof 1 ; 1 true_i : true ; end -> each
+all 28672 32768 1 h proof o# x : proof 1 ; 1 true_i : true ; end -> each
+all 32768 36864 1 i proof o# x : proof 1 ; 1 true_i : true ; end -> each
+all 36864 40960 1 j proof o# x : proof 1 ; 1 true_i : true ; end -> each
+all 40960 45056 1 k proof o# x : proof 1 ; 1 true_i : true ; end -> each
+all 45056 49152 1 l proof o# x : proof 1 ; 1 true_i : true ; end -> each
+all 49152 53248 1 m proof o# x : proof 1 ; 1 true_i : true ; end -> each
+all 53248 57344 1 n proof o# x : proof 1 ; 1 true_i : true ; end -> each
+all 57344 61440 1 o proof o# x : proof 1 ; 1 true_i : true ; end -> each
+all 61440 65536 1 p proof o# x : proof 1 ; 1 true_i : true ; end -> each
+1 q proof o x : proof 1 ; 1 true_i : true ; end -> CasesFull
+1 a proof o x : proof 1 ; 1 true_i : true ; end -> Quota";
 
 #[test]
 fn there_are_65536_cases(rt: HostRuntime) -> Result<(), AllocError> {
-    let names = [
-        "a", "b", "c", "d", "e", "f", "g", "h", "i", "j", "k", "l", "m", "n", "o", "p", "q",
-    ];
-    let steps = [
-        Offer("q", Object("x"), Ok(0)),
-        All(Proofs("a"), 0, 4096),
-        All(Proofs("b"), 4096, 8192),
-        All(Proofs("c"), 8192, 12288),
-        All(Proofs("d"), 12288, 16384),
-        All(Proofs("e"), 16384, 20480),
-        All(Proofs("f"), 20480, 24576),
-        All(Proofs("g"), 24576, 28672),
-        All(Proofs("h"), 28672, 32768),
-        All(Proofs("i"), 32768, 36864),
-        All(Proofs("j"), 36864, 40960),
-        All(Proofs("k"), 40960, 45056),
-        All(Proofs("l"), 45056, 49152),
-        All(Proofs("m"), 49152, 53248),
-        All(Proofs("n"), 53248, 57344),
-        All(Proofs("o"), 57344, 61440),
-        All(Proofs("p"), 61440, 65536),
-        Offer("q", Proof("o", "x", TRIVIAL), Err(CasesFull)),
-        Offer("a", Proof("o", "x", TRIVIAL), Err(Quota)),
-    ];
-    assert_eq!(rt; first_wrong(rt.alloc(), &names, &[], &steps)?, None);
+    assert_eq!(rt; first_other(rt.alloc(), CASES)?.as_str(), "");
+    Ok(())
+}
+
+const TABLE: &str = "a principal has 4096 entries
+nexus 2|principal alice pw|principal bob pw|end|
+bytes 1 alice say alice : ok -> 23
+all 1 4097 1 alice say alice : ok -> each
+1 alice say alice : ok -> Quota
+1 bob say bob : ok -> 4097
+count -> 4097
+
+the lines of a principal have 524288 bytes
+nexus 2|principal alice pw|end|
+bytes 1 alice say alice : p(\"aaaaaaaaaaaaaaaaaaaaaaaaaaaaaaaaaaaaaaaaaaaaaaaaaaaaaaaaaaaaaaaaaaaaaaaaaaaaaaaaaaaaaaaaaaaaaaaaaaaaaaaaaaaaaaaaaaaaaaaaaaaaaaaaaaaaaaaaaaaaaaaaaaaaaaaaaaaaaaaaaaaaaaaaaaaaaaaaaaaaaaaaaaaaaaaaaaaaaaaaaaaaaaaaaaaaaaaaaaaaaaaaaaaaaa\") -> 256
+all 1 2049 1 alice say alice : p(\"aaaaaaaaaaaaaaaaaaaaaaaaaaaaaaaaaaaaaaaaaaaaaaaaaaaaaaaaaaaaaaaaaaaaaaaaaaaaaaaaaaaaaaaaaaaaaaaaaaaaaaaaaaaaaaaaaaaaaaaaaaaaaaaaaaaaaaaaaaaaaaaaaaaaaaaaaaaaaaaaaaaaaaaaaaaaaaaaaaaaaaaaaaaaaaaaaaaaaaaaaaaaaaaaaaaaaaaaaaaaaaaaaaaaaa\") -> each
+1 alice say alice : p(\"aaaaaaaaaaaaaaaaaaaaaaaaaaaaaaaaaaaaaaaaaaaaaaaaaaaaaaaaaaaaaaaaaaaaaaaaaaaaaaaaaaaaaaaaaaaaaaaaaaaaaaaaaaaaaaaaaaaaaaaaaaaaaaaaaaaaaaaaaaaaaaaaaaaaaaaaaaaaaaaaaaaaaaaaaaaaaaaaaaaaaaaaaaaaaaaaaaaaaaaaaaaaaaaaaaaaaaaaaaaaaaaaaaaaaa\") -> Quota
+1 alice delete 1 -> Quota
+
+there are 4096 objects
+nexus 2|principal alice pw|principal bob pw|end|
+all 0 4096 1 alice object o# -> each
+1 bob object o -> ObjectsFull
+1 alice object o -> Quota
+
+a principal is known by name and secret
+nexus 2|principal alice pw|principal bob pw|end|
+1 alice hello bob pw -> Some(1)
+1 alice hello bob pwx -> None
+1 alice hello eve pw -> None";
+
+#[test]
+fn principals_have_limits(rt: HostRuntime) -> Result<(), AllocError> {
+    assert_eq!(rt; first_other(rt.alloc(), TABLE)?.as_str(), "");
     Ok(())
 }

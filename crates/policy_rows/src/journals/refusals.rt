@@ -1,94 +1,70 @@
 //! Each refusal, also where a later one applies too.
-use super::Change::{Bind, Delete, Goal, NoGoal, NoProof, Object, Proof, Say, Transfer, Unbind};
-use super::Step::{Count, Offer};
-use super::{TRIVIAL, first_wrong};
-use policy_history::Refusal::{
-    BadFormula, BadPort, BadProof, NameTaken, NoBinding, NoGoal as GoalMissing, NoSuchLabel,
-    NoSuchObject, NoSuchPrincipal, NoSuchProof, NotHolder, NotOwner, NotYourPrincipal,
-};
+use super::first_other;
 use std::alloc::AllocError;
 
-#[test]
-fn an_owner_alone_sets_goals(rt: HostRuntime) -> Result<(), AllocError> {
-    let steps = [
-        Offer("alice", Object("f"), Ok(0)),
-        Offer("bob", Goal("read", "f", "true"), Err(NotOwner)),
-        Offer("bob", Goal("read", "f", "("), Err(NotOwner)),
-        Offer("alice", Goal("read", "f", "("), Err(BadFormula)),
-        Offer("alice", Goal("read", "f", "p(?x)"), Err(BadFormula)),
-        Offer("alice", Goal("read", "f", "?subject says p"), Ok(0)),
-        Offer("alice", Goal("read", "g", "("), Err(NoSuchObject)),
-        Offer("bob", NoGoal("write", "f"), Err(NotOwner)),
-        Offer("alice", NoGoal("write", "f"), Err(GoalMissing)),
-        Offer("alice", NoGoal("read", "g"), Err(NoSuchObject)),
-        Offer("alice", NoGoal("read", "f"), Ok(0)),
-        Offer("alice", NoGoal("read", "f"), Err(GoalMissing)),
-        Offer("bob", Object("f"), Err(NameTaken)),
-        Offer("bob", Object("g"), Ok(1)),
-        Count(4),
-    ];
-    assert_eq!(rt;
-        first_wrong(rt.alloc(), &["alice", "bob"], &[], &steps)?,
-        None
-    );
-    Ok(())
-}
+const TABLE: &str = "an owner alone sets goals
+nexus 2|principal alice pw|principal bob pw|end|
+1 alice object f -> 0
+1 bob goal read f : true -> NotOwner
+1 bob goal read f : ( -> NotOwner
+1 alice goal read f : ( -> BadFormula
+1 alice goal read f : p(?x) -> BadFormula
+1 alice goal read f : ?subject says p -> 0
+1 alice goal read g : ( -> NoSuchObject
+1 bob nogoal write f -> NotOwner
+1 alice nogoal write f -> NoGoal
+1 alice nogoal read g -> NoSuchObject
+1 alice nogoal read f -> 0
+1 alice nogoal read f -> NoGoal
+1 bob object f -> NameTaken
+1 bob object g -> 1
+count -> 4
+
+labels are their holders
+nexus 2|principal alice pw|principal bob pw|end|
+1 alice say alice : ok -> 1
+1 alice say alice.disk : ok -> 2
+1 alice say bob : ( -> NotYourPrincipal
+1 alice say ?x : ok -> BadFormula
+1 alice say alice : p(?x) -> BadFormula
+1 alice say alice : ( -> BadFormula
+1 alice transfer 9 eve -> NoSuchPrincipal
+1 alice transfer 9 bob -> NoSuchLabel
+1 bob transfer 1 bob -> NotHolder
+1 alice transfer 1 alice -> 0
+1 alice transfer 1 bob -> 0
+1 alice delete 1 -> NotHolder
+1 bob delete 1 -> 0
+1 bob delete 1 -> NoSuchLabel
+1 bob say bob : ok -> 6
+
+proofs and bindings are their subjects
+nexus 2|principal alice pw|principal bob pw|authority 1 mem|end|
+1 alice object f -> 0
+1 bob proof read g : proof -> NoSuchObject
+1 bob proof read f : proof -> BadProof
+1 bob proof read f : proof 1 ; 1 true_i : true ; end -> 0
+1 alice proof read f : proof 1 ; 1 true_i : true ; end -> 1
+1 bob proof read f : proof 1 ; 1 true_i : true ; end -> 0
+1 bob noproof read g -> NoSuchObject
+1 bob noproof write f -> NoSuchProof
+1 bob noproof read f -> 0
+1 bob noproof read f -> NoSuchProof
+1 bob proof write f : proof 1 ; 1 true_i : true ; end -> 2
+1 bob proof read f : proof 1 ; 1 true_i : true ; end -> 0
+1 bob bind alice 3 -> NotYourPrincipal
+1 bob bind bob 3 -> BadPort
+1 bob bind ( 3 -> BadPort
+1 bob bind ( 1 -> BadFormula
+1 bob bind bob 1 -> 0
+1 bob unbind alice -> NotYourPrincipal
+1 bob unbind bob.x -> NoBinding
+1 bob unbind ( -> BadFormula
+1 bob unbind bob -> 0
+1 bob unbind bob -> NoBinding";
 
 #[test]
-fn labels_are_their_holders(rt: HostRuntime) -> Result<(), AllocError> {
-    let steps = [
-        Offer("alice", Say("alice", "ok"), Ok(1)),
-        Offer("alice", Say("alice.disk", "ok"), Ok(2)),
-        Offer("alice", Say("bob", "("), Err(NotYourPrincipal)),
-        Offer("alice", Say("?x", "ok"), Err(BadFormula)),
-        Offer("alice", Say("alice", "p(?x)"), Err(BadFormula)),
-        Offer("alice", Say("alice", "("), Err(BadFormula)),
-        Offer("alice", Transfer(9, "eve"), Err(NoSuchPrincipal)),
-        Offer("alice", Transfer(9, "bob"), Err(NoSuchLabel)),
-        Offer("bob", Transfer(1, "bob"), Err(NotHolder)),
-        Offer("alice", Transfer(1, "alice"), Ok(0)),
-        Offer("alice", Transfer(1, "bob"), Ok(0)),
-        Offer("alice", Delete(1), Err(NotHolder)),
-        Offer("bob", Delete(1), Ok(0)),
-        Offer("bob", Delete(1), Err(NoSuchLabel)),
-        Offer("bob", Say("bob", "ok"), Ok(6)),
-    ];
-    assert_eq!(rt;
-        first_wrong(rt.alloc(), &["alice", "bob"], &[], &steps)?,
-        None
-    );
-    Ok(())
-}
-
-#[test]
-fn proofs_and_bindings_are_their_subjects(rt: HostRuntime) -> Result<(), AllocError> {
-    let steps = [
-        Offer("alice", Object("f"), Ok(0)),
-        Offer("bob", Proof("read", "g", "proof"), Err(NoSuchObject)),
-        Offer("bob", Proof("read", "f", "proof"), Err(BadProof)),
-        Offer("bob", Proof("read", "f", TRIVIAL), Ok(0)),
-        Offer("alice", Proof("read", "f", TRIVIAL), Ok(1)),
-        Offer("bob", Proof("read", "f", TRIVIAL), Ok(0)),
-        Offer("bob", NoProof("read", "g"), Err(NoSuchObject)),
-        Offer("bob", NoProof("write", "f"), Err(NoSuchProof)),
-        Offer("bob", NoProof("read", "f"), Ok(0)),
-        Offer("bob", NoProof("read", "f"), Err(NoSuchProof)),
-        Offer("bob", Proof("write", "f", TRIVIAL), Ok(2)),
-        Offer("bob", Proof("read", "f", TRIVIAL), Ok(0)),
-        Offer("bob", Bind("alice", 3), Err(NotYourPrincipal)),
-        Offer("bob", Bind("bob", 3), Err(BadPort)),
-        Offer("bob", Bind("(", 3), Err(BadPort)),
-        Offer("bob", Bind("(", 1), Err(BadFormula)),
-        Offer("bob", Bind("bob", 1), Ok(0)),
-        Offer("bob", Unbind("alice"), Err(NotYourPrincipal)),
-        Offer("bob", Unbind("bob.x"), Err(NoBinding)),
-        Offer("bob", Unbind("("), Err(BadFormula)),
-        Offer("bob", Unbind("bob"), Ok(0)),
-        Offer("bob", Unbind("bob"), Err(NoBinding)),
-    ];
-    assert_eq!(rt;
-        first_wrong(rt.alloc(), &["alice", "bob"], &[1], &steps)?,
-        None
-    );
+fn refusals_come_in_their_order(rt: HostRuntime) -> Result<(), AllocError> {
+    assert_eq!(rt; first_other(rt.alloc(), TABLE)?.as_str(), "");
     Ok(())
 }

@@ -1,81 +1,53 @@
 // No line, as many lines as there may be, references to no earlier line, and one ask line too many.
-use crate::checking::proofs::{Case, check_cases, fault, proof, told};
-use crate::texts::formula;
-use nal_rules::Fault;
+use crate::checking::proofs::Lines;
+use crate::rows::play;
+use nal_parse::parse_formula;
+use nal_term::Formula;
 use proof_check::{CheckError, check};
 use proof_lines::Proof;
 use std::alloc::Global;
-use std::test::Fail;
 
-const REFERENCES: &[Case] = &[
-    (Some(Fault::NoSuchRef), "1 label : p and q ; 2 and_l 0 : p"),
-    (Some(Fault::NoSuchRef), "1 label : p and q ; 2 and_l 2 : p"),
-    (Some(Fault::NoSuchRef), "1 label : p and q ; 2 and_l 3 : p"),
-];
+const REFERENCES: &str = "1 label : p and q ; 2 and_l 0 : p -> 2 NoSuchRef
+1 label : p and q ; 2 and_l 2 : p -> 2 NoSuchRef
+1 label : p and q ; 2 and_l 3 : p -> 2 NoSuchRef";
 
 #[test]
-fn references(rt: HostRuntime) -> Result<(), Fail> {
-    check_cases(&rt, rt.alloc(), REFERENCES)
+fn references(rt: HostRuntime) {
+    play::<Lines>(&rt, rt.alloc(), REFERENCES);
 }
 
-// So many lines from this number on, each with the text behind its number.
-fn lines(alloc: Global, first: u64, count: u64, text: &str) -> Result<String, Fail> {
-    let mut lines = String::new(alloc);
-    for number in 0..count {
-        let line = format!(in alloc; " ; {} {text}", first.wrapping_add(number))?;
-        lines.push_str(&line)?;
-    }
-    Ok(lines)
+// Sixteen ask lines have no fault. The last of seventeen is no statement either.
+const ASKS: &str =
+    "1 label : p{2-17 ask : a says p} @ a says p -> accepted, with labels 1 from 1 and asks 16 from 2
+1 label : p{2-17 ask : a says p} @ a says q -> 17 NotGoal
+1 label : p{2-17 ask : a says p} ; 18 ask : p @ a says p -> 18 TooManyAsks";
+
+// Whether a proof without lines is refused as such.
+fn is_empty(alloc: Global, goal: &Formula) -> bool {
+    let told = check(alloc, &Proof::new(alloc), goal);
+    matches!(told, Err(CheckError::Empty))
 }
 
 #[test]
-fn asks(rt: HostRuntime) -> Result<(), Fail> {
-    let alloc = rt.alloc();
-    let goal = formula(alloc, "a says p")?;
-    let none = Proof::new(alloc);
-    assert!(rt; matches!(check(alloc, &none, &goal), Err(CheckError::Empty)));
-
-    let most = format!(in alloc; "1 label : p{}", &lines(alloc, 2, 16, "ask : a says p")?)?;
-    let checked = check(alloc, &proof(alloc, &most)?, &goal)
-        .ok()
-        .ok_or("sixteen ask lines have no fault")?;
-    assert_eq!(rt; checked.labels.as_slice(), [1].as_slice());
-    assert_eq!(rt;
-        (checked.asks.count(), checked.asks.get(0).copied()),
-        (16, Some(2))
-    );
-    assert_eq!(rt; told(alloc, &most, "a says q")?, fault(17, Fault::NotGoal));
-
-    // The last is no statement either.
-    let more = format!(in alloc; "{most} ; 18 ask : p")?;
-    assert_eq!(rt;
-        told(alloc, &more, "a says p")?,
-        fault(18, Fault::TooManyAsks)
-    );
-    Ok(())
+fn asks(rt: HostRuntime) {
+    let goal = parse_formula(rt.alloc(), b"a says p");
+    assert!(rt; matches!(&goal, Ok(goal) if is_empty(rt.alloc(), goal)));
+    play::<Lines>(&rt, rt.alloc(), ASKS);
 }
 
 // The equation is turned 255 times.
+const TURNED: &str = "1 label : 1 = 2{2-256 eq_sym} @ 2 = 1 -> accepted";
+
 #[test]
-fn lines_on_lines(rt: HostRuntime) -> Result<(), Fail> {
-    let alloc = rt.alloc();
-    let mut turned = format!(in alloc; "1 label : 1 = 2")?;
-    for line in 1..256u64 {
-        let equation = if line % 2 == 0 { "1 = 2" } else { "2 = 1" };
-        let next = format!(in alloc; " ; {} eq_sym {line} : {equation}", line.wrapping_add(1))?;
-        turned.push_str(&next)?;
-    }
-    assert_eq!(rt; told(alloc, &turned, "2 = 1")?, None);
-    Ok(())
+fn lines_on_lines(rt: HostRuntime) {
+    play::<Lines>(&rt, rt.alloc(), TURNED);
 }
 
 // As many hypotheses as there may be before the last line.
+const HYPOTHESES: &str = "1 hyp : p{2-255 hyp : p} @ p -> 255 StillOpen
+1 hyp : p{2-255 hyp : p} ; 256 label : p @ p -> accepted";
+
 #[test]
-fn hypotheses(rt: HostRuntime) -> Result<(), Fail> {
-    let alloc = rt.alloc();
-    let open = format!(in alloc; "1 hyp : p{}", &lines(alloc, 2, 254, "hyp : p")?)?;
-    assert_eq!(rt; told(alloc, &open, "p")?, fault(255, Fault::StillOpen));
-    let closed = format!(in alloc; "{open} ; 256 label : p")?;
-    assert_eq!(rt; told(alloc, &closed, "p")?, None);
-    Ok(())
+fn hypotheses(rt: HostRuntime) {
+    play::<Lines>(&rt, rt.alloc(), HYPOTHESES);
 }

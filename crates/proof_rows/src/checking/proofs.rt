@@ -1,42 +1,60 @@
-// Proofs given by the texts of their lines, and the run over a table of them.
-use crate::texts::formula;
-use nal_rules::Fault;
-use proof_check::{CheckError, check};
+// Proofs given by the texts of their lines, and what is told of each.
+use crate::rows::Call;
+use nal_parse::parse_formula;
+use nal_term::Formula;
+use proof_check::{CheckError, Checked, check};
 use proof_lines::Proof;
 use proof_text::read_proof;
-use std::alloc::Global;
-use std::process::Abort;
-use std::test::Fail;
+use std::alloc::{AllocError, Global};
 
-// The fault of a proof's last line, where it has one, and the lines of the proof, whose goal is its last line.
-pub type Case = (Option<Fault>, &'static str);
+// Whether the lines of a proof are accepted, or the line and the fault for which they are refused. Their goal is the last line's
+// formula, or another behind `@`.
+pub struct Lines;
 
-pub fn proof(alloc: Global, lines: &str) -> Result<Proof, Fail> {
-    let text = format!(in alloc; "proof 1 ; {lines} ; end")?;
-    Ok(read_proof(alloc, text.as_bytes())?)
-}
-
-// What is told of the proof of these lines for this goal.
-pub fn told(alloc: Global, lines: &str, goal: &str) -> Result<Option<CheckError>, Fail> {
-    let proof = proof(alloc, lines)?;
-    Ok(check(alloc, &proof, &formula(alloc, goal)?).err())
-}
-
-// Each proof of the table is accepted, or refused for the fault of its last line.
-pub fn check_cases(rt: &impl Abort, alloc: Global, cases: &[Case]) -> Result<(), Fail> {
-    for (expected, lines) in cases {
-        let proof = proof(alloc, lines)?;
-        let last = proof.as_slice().last().ok_or("a proof has a line")?;
-        let found = check(alloc, &proof, &last.formula).err();
-        let due = match expected {
-            None => None,
-            Some(expected) => fault(proof.count(), *expected),
-        };
-        assert_eq!(rt; found, due, "{lines}");
+impl Call for Lines {
+    fn told(alloc: Global, input: &str) -> Result<String, AllocError> {
+        let (lines, goal) = input.split_once(" @ ").unwrap_or((input, ""));
+        let text = format!(in alloc; "proof 1 ; {lines} ; end")?;
+        told_of_text(alloc, text.as_str(), goal)
     }
-    Ok(())
 }
 
-pub const fn fault(line: u64, fault: Fault) -> Option<CheckError> {
-    Some(CheckError::Line { line, fault })
+fn told_of_text(alloc: Global, text: &str, goal: &str) -> Result<String, AllocError> {
+    match read_proof(alloc, text.as_bytes()) {
+        Ok(proof) => told_of_proof(alloc, &proof, goal),
+        Err(error) => format!(in alloc; "{error:?}"),
+    }
+}
+
+fn told_of_proof(alloc: Global, proof: &Proof, goal: &str) -> Result<String, AllocError> {
+    match proof.as_slice() {
+        [.., last] if goal.is_empty() => told_for(alloc, proof, &last.formula),
+        _ => told_for_text(alloc, proof, goal),
+    }
+}
+
+fn told_for_text(alloc: Global, proof: &Proof, goal: &str) -> Result<String, AllocError> {
+    match parse_formula(alloc, goal.as_bytes()) {
+        Ok(goal) => told_for(alloc, proof, &goal),
+        Err(_) => String::from_str(alloc, "no goal"),
+    }
+}
+
+fn told_for(alloc: Global, proof: &Proof, goal: &Formula) -> Result<String, AllocError> {
+    match check(alloc, proof, goal) {
+        Ok(checked) => accepted(alloc, &checked),
+        Err(CheckError::Line { line, fault }) => format!(in alloc; "{line} {fault:?}"),
+        Err(_) => String::from_str(alloc, "no line"),
+    }
+}
+
+// Where the proof asks, also how many label lines and ask lines it has, and the first of each.
+fn accepted(alloc: Global, checked: &Checked) -> Result<String, AllocError> {
+    let (labels, asks) = (checked.labels.count(), checked.asks.count());
+    if asks == 0 {
+        return String::from_str(alloc, "accepted");
+    }
+    let label = checked.labels.get(0).copied().unwrap_or(0);
+    let ask = checked.asks.get(0).copied().unwrap_or(0);
+    format!(in alloc; "accepted, with labels {labels} from {label} and asks {asks} from {ask}")
 }

@@ -1,40 +1,108 @@
-// Labels and goals by their texts, with the lines of the proofs that are expected of them.
-use crate::texts::{formula, formulas};
+// Labels and goals by their texts, with what is found of them.
+use crate::rows::{Call, text_of};
 use chain_prover::{ChainError, find_chain};
+use nal_parse::parse_formula;
 use nal_term::Formula;
 use proof_check::check;
 use proof_lines::Proof;
 use proof_text::print_proof;
-use std::alloc::Global;
-use std::process::Abort;
-use std::test::Fail;
+use std::alloc::{AllocError, Global};
 
-// The labels, the goal and the lines of the proof, where there is one.
-pub type Case = (&'static [&'static str], &'static str, Option<&'static str>);
+// What is told of a proof that is found and checked.
+pub trait Told {
+    fn told_of(alloc: Global, proof: &Proof) -> Result<String, AllocError>;
+}
 
-pub fn check_cases(rt: &impl Abort, alloc: Global, cases: &[Case]) -> Result<(), Fail> {
-    for (labels, goal, expected) in cases {
-        let labels = formulas(alloc, labels)?;
-        let goal = formula(alloc, goal)?;
-        let found = find(alloc, &labels, &goal)?;
-        assert_eq!(rt; found.is_some(), expected.is_some());
-        if let Some(proof) = &found {
-            assert!(rt; check(alloc, proof, &goal).is_ok());
-            assert!(rt; has_lines(alloc, proof, expected.unwrap_or(""))?);
+// The proof of a chain.
+pub struct Chain;
+
+impl Told for Chain {
+    fn told_of(alloc: Global, proof: &Proof) -> Result<String, AllocError> {
+        let printed = print_proof(alloc, proof)?;
+        String::from_str(alloc, text_of(printed.as_slice()))
+    }
+}
+
+impl Call for Chain {
+    fn told(alloc: Global, input: &str) -> Result<String, AllocError> {
+        told_of_input::<Chain>(alloc, input)
+    }
+}
+
+// How many lines it has.
+pub struct Count;
+
+impl Told for Count {
+    fn told_of(alloc: Global, proof: &Proof) -> Result<String, AllocError> {
+        format!(in alloc; "{} lines", proof.count())
+    }
+}
+
+impl Call for Count {
+    fn told(alloc: Global, input: &str) -> Result<String, AllocError> {
+        told_of_input::<Count>(alloc, input)
+    }
+}
+
+fn told_of_input<T: Told>(alloc: Global, input: &str) -> Result<String, AllocError> {
+    let mut labels = Vec::new(alloc);
+    if add_all(alloc, &mut labels, input) {
+        let goal = input.split_once("goal ").unwrap_or(("", "")).1;
+        told_for_text::<T>(alloc, &labels, goal)
+    } else {
+        String::from_str(alloc, "no label")
+    }
+}
+
+fn add_all(alloc: Global, labels: &mut Vec<Formula>, input: &str) -> bool {
+    for part in input.split(" ; ") {
+        let (word, text) = part.split_once(" ").unwrap_or((part, ""));
+        if word == "label" && !add(alloc, labels, text) {
+            return false;
         }
     }
-    Ok(())
+    true
 }
 
-pub fn find(alloc: Global, labels: &Vec<Formula>, goal: &Formula) -> Result<Option<Proof>, Fail> {
-    match find_chain(alloc, labels, goal) {
-        Ok(found) => Ok(found),
-        Err(ChainError::NotSays) => Err("the goal is that somebody says something".into()),
-        Err(ChainError::Memory) => Err("there is memory".into()),
+pub fn add(alloc: Global, labels: &mut Vec<Formula>, text: &str) -> bool {
+    match parse_formula(alloc, text.as_bytes()) {
+        Ok(label) => labels.push(label).is_ok(),
+        Err(_) => false,
     }
 }
 
-fn has_lines(alloc: Global, proof: &Proof, lines: &str) -> Result<bool, Fail> {
-    let due = format!(in alloc; "proof 2 ; {lines} ; end")?;
-    Ok(print_proof(alloc, proof)?.as_slice() == due.as_bytes())
+pub fn told_for_text<T: Told>(
+    alloc: Global,
+    labels: &Vec<Formula>,
+    goal: &str,
+) -> Result<String, AllocError> {
+    match parse_formula(alloc, goal.as_bytes()) {
+        Ok(goal) => told_for::<T>(alloc, labels, &goal),
+        Err(_) => String::from_str(alloc, "no goal"),
+    }
+}
+
+fn told_for<T: Told>(
+    alloc: Global,
+    labels: &Vec<Formula>,
+    goal: &Formula,
+) -> Result<String, AllocError> {
+    match find_chain(alloc, labels, goal) {
+        Ok(Some(proof)) => told_of_checked::<T>(alloc, &proof, goal),
+        Ok(None) => String::from_str(alloc, "none"),
+        Err(ChainError::NotSays) => String::from_str(alloc, "nobody says it"),
+        Err(ChainError::Memory) => Err(AllocError),
+    }
+}
+
+fn told_of_checked<T: Told>(
+    alloc: Global,
+    proof: &Proof,
+    goal: &Formula,
+) -> Result<String, AllocError> {
+    if check(alloc, proof, goal).is_ok() {
+        T::told_of(alloc, proof)
+    } else {
+        String::from_str(alloc, "refused")
+    }
 }

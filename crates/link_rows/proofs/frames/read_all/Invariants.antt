@@ -1,5 +1,0 @@
-use Rattle.std.proofs.Common.{◌≤◌, ◌*◌}
-use Rattle.link_rows.proofs.frames.read_all.Given as goal
-
-abbrev pub invariant-loop : goal.invariant-loop
-invariant-loop l = record { few : l.reader ≤ 33796 * l.counter; counted : l.count ≤ l.counter }
