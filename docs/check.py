@@ -19,7 +19,7 @@ TOPS = ("bench/", "clients/", "crates/", "docs/", "examples/", "man/", "release/
 
 def documents():
     listed = subprocess.run(["git", "ls-files", "--cached", "--others", "--exclude-standard", "*.md"], cwd=ROOT, capture_output=True, text=True)
-    return sorted(it for it in listed.stdout.split() if "/bench/" not in it and (ROOT / it).is_file())
+    return sorted({it for it in listed.stdout.split() if "/bench/" not in it and (ROOT / it).is_file()})
 
 
 def paths_of(text, folder):

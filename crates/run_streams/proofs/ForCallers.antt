@@ -1,8 +1,13 @@
--- Laws of what a source gave in a run, which the proofs of other crates may cite.
-use Rattle.std.proofs.Common.{◌≡◌, ◌<◌, ◌++◌, ℕ, List, length, IsTrue, Option, Some, None, refl, sym, ap, ◌∙◌, arith}
+-- Laws of what a source gave in a run, and of refusals and statuses, which the proofs of other crates may cite.
+use Rattle.std.proofs.Common.{◌≡◌, ◌==◌, ◌<◌, ◌≤◌, ◌++◌, inl, inr, ℕ, List, length, false, IsTrue, Option, Some, None, refl, sym, ap, subst, ◌∙◌, arith}
+use Rattle.std.proofs.lemmas.Bool.Decides.{Decides-eqb}
 use Rattle.std.proofs.lemmas.List.{append-nil, length-append}
 use Rattle.std.specs.Io.KnownBytes.{IsAtEnd}
 use Rattle.nx_io.specs.Streams.{prepended}
+use Rattle.run_streams.specs.declared.outcomes.Outcome.{Outcome}
+use Rattle.run_streams.specs.declared.outcomes.Outcome.TheVariants.{Told, Refused, TooLarge}
+use Rattle.run_streams.specs.Outcomes.{status_of}
+use Rattle.run_streams.specs.Refusals.{Form, IsRefusal, IsRefusalOf, IsRefusedInput}
 use Rattle.run_streams.specs.Runs.{IsReadWhole, SourceRun, most_bytes}
 
 some_same : (p q : List ℕ) → Some p ≡ Some q → p ≡ q
@@ -26,3 +31,33 @@ known_large left (Some rest) gain text e large h =
 -- a source that was read to its end gave all that it had
 pub read_whole : (source : SourceRun) (left_now : Option (List ℕ)) → source.known ≡ prepended source.given left_now → IsTrue source.over → IsAtEnd left_now → IsReadWhole source
 read_whole source left_now taken over end = record { over = over; all = λ text h. known_whole source.known left_now source.given text taken end h }
+
+-- an input that is refused, as the source gave it
+pub refusal_given : {form : Form} (source : SourceRun) (left_now : Option (List ℕ)) (outcome : Outcome) (bytes : List ℕ) → source.known ≡ prepended source.given left_now → source.given ≡ bytes
+    → IsTrue source.over → IsAtEnd left_now → IsRefusal form bytes outcome → IsRefusalOf form source outcome
+refusal_given {form = form} source left_now outcome bytes taken same over end refusal =
+    record { refusal = subst (λ (b : List ℕ). IsRefusal form b outcome) (sym same) refusal; whole = λ small. read_whole source left_now taken over end }
+
+pub too_large : {form : Form} (source : SourceRun) → most_bytes < length source.given → IsRefusalOf form source TooLarge
+too_large source large = record { refusal = large; whole = λ other. absurd (other refl) }
+
+-- the status of a refusal
+pub refusal_status : (form : Form) (text : List ℕ) (outcome : Outcome) → IsRefusal form text outcome → status_of outcome ≡ 3
+refusal_status form text TooLarge r = refl
+refusal_status form text (Refused k) r = refl
+refusal_status form text (Told verdict) r = absurd r
+
+-- what is refused of an input
+pub refused_by : (form : Form) (text : List ℕ) (outcome : Outcome) → IsRefusal form text outcome → IsRefusedInput form text
+refused_by form text TooLarge r = inl r
+refused_by form text (Refused k) r = inr r.2
+refused_by form text (Told verdict) r = absurd r
+
+-- an input in its form is not refused
+pub not_refused : (form : Form) (text : List ℕ) → length text ≤ most_bytes → form.formed text → IsRefusedInput form text → ⊥
+not_refused form text small formed (inl large) = omega (arith, large, small)
+not_refused form text small formed (inr no_form) = no_form formed
+
+-- a status is one number
+pub apart : (status m n : ℕ) → status ≡ m → status ≡ n → (m == n) ≡ false → ⊥
+apart status m n e f h = let t = (Decides-eqb m n).1 (sym e ∙ f) in cc

@@ -1,0 +1,11 @@
+pub mod Following
+pub mod Segments
+pub mod SameKeys
+pub mod Inputs
+pub mod Verdicts
+pub mod OneOutcome
+pub mod Only
+pub mod CheckEnds
+pub mod Justified
+pub mod AnswerEnds
+pub mod ForCallers

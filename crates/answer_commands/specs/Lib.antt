@@ -1,0 +1,9 @@
+pub mod CheckForm
+pub mod CheckOutcomes
+pub mod CheckRuns
+pub mod Laws
+pub mod Answers
+pub mod Trusts
+pub mod Proves
+pub mod Recovers
+pub mod Inner

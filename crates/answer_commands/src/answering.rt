@@ -1,0 +1,120 @@
+//! A run that reads its whole input and writes one answer.
+ghost use Rattle.std.specs.Prelude.{◌≡◌, ◌≢◌, ◌⊎◌, IfErr, IfOk};
+ghost use Rattle.nx_io.specs.Streams.{Gave, Grows};
+ghost use Rattle.run_streams.specs.Runs.{sink_run, source_run};
+ghost use Rattle.answer_commands.specs.Answers.{IsAnswerOf, RunsAnswer, answering};
+ghost use Rattle.run_streams.specs.Refusals.{form_of};
+ghost use Rattle.answer_commands.specs.Inner.Answering.{TellsAnswer};
+ghost use Rattle.run_streams.specs.Inner.Unread.{IsUnread, faults_after_input};
+
+use nx_io::{Bytes, Reach, Sink, Source, send_all};
+use run_streams::{Outcome, ReadError, Unread, read_whole, tell};
+use std::alloc::{AllocError, Global};
+
+/// Why a text has no answer.
+#[derive(Clone, Copy, Debug, PartialEq, Eq)]
+pub enum AnswerError {
+    /// The lowest line that is wrong, or the number after the last where the text ends too early.
+    Wrong { line: u64 },
+    /// There was no memory for what it holds.
+    Memory,
+}
+
+/// The answer of a command to the text of its input.
+pub trait Answer: Sized {
+    ghost use Rattle.std.specs.Prelude.{◌≡◌, ◌⊎◌, ◌≤◌, ℕ, List, IfErr, IfOk, length};
+    ghost use Rattle.run_streams.specs.Runs.{most_bytes};
+    ghost use Rattle.run_streams.specs.Refusals.{form_of};
+    ghost use Rattle.answer_commands.specs.Answers.{IsAnswerError};
+
+    /// Which texts have the form.
+    ghost formed: { List ℕ → Type 0 };
+
+    /// Which answer a text has.
+    ghost told: { List ℕ → Self → Type 0 };
+
+    /// Which line of a text is the lowest that is wrong.
+    ghost wrong: { List ℕ → ℕ → Type 0 };
+
+    /// What is written of an answer.
+    ghost written: { Self → List ℕ };
+
+    /// The status that an answer has: 0 or 1.
+    ghost ends: { Self → ℕ };
+
+    /// The answer to a text. `Wrong` exactly where it has not the form.
+    fn of(alloc: Global, text: &[u8]) -> Result<Self, AnswerError>
+        requires { length text.now ≤ most_bytes }
+        ensures formed { IfOk result (λ answer. formed text.now) }
+        ensures told { IfOk result (λ answer. told text.now answer) }
+        ensures wrong { IfErr result (IsAnswerError (form_of formed wrong) text.now) };
+
+    /// What is written of the answer. An `Err` is want of memory.
+    fn output(&self, alloc: Global) -> Result<Bytes, AllocError>
+        ensures { IfOk result (λ output. output ≡ written self.now) };
+
+    /// The status with which the program ends once the answer is written.
+    fn status(&self) -> u8
+        ensures value { result ≡ ends self.now }
+        ensures few { (ends self.now ≡ 0) ⊎ (ends self.now ≡ 1) };
+}
+
+/// Reads the whole input, and writes the answer to it.
+pub fn answer_input<A: Answer + Drop, S: Source, K: Sink>(
+    alloc: Global,
+    input: &mut S,
+    output: &mut K,
+) -> u8
+    ensures gave { Gave (S.left input.old) (S.left input.new) (S.given input.old) (S.given input.new) }
+    ensures sent { Grows (K.sent output.old) (K.sent output.new) }
+    ensures untouched { (result ≡ 4) ⊎ (result ≡ 6) → output.new ≡ output.old }
+    ensures runs { RunsAnswer (answering (form_of A.formed A.wrong) A.told A.written A.ends)
+        (source_run (S.left input.old) (S.given input.old) (S.given input.new) (S.over input.new) (S.faults input.old) (S.faults input.new))
+        (sink_run (K.sent output.old) (K.sent output.new) (K.faults output.old) (K.faults output.new))
+        result }
+{
+    match read_answer::<A, S>(alloc, input) {
+        Ok(answer) => tell_answer(alloc, output, &answer),
+        Err(Unread::Refused(outcome)) => tell(alloc, output, outcome),
+        Err(Unread::Failed) => 4,
+        Err(Unread::Memory) => 6,
+    }
+}
+
+/// Reads the input, and answers it.
+fn read_answer<A: Answer + Drop, S: Source>(alloc: Global, input: &mut S) -> Result<A, Unread>
+    ensures gave { Gave (S.left input.old) (S.left input.new) (S.given input.old) (S.given input.new) }
+    ensures ok { IfOk result (IsAnswerOf (answering (form_of A.formed A.wrong) A.told A.written A.ends)
+        (source_run (S.left input.old) (S.given input.old) (S.given input.new) (S.over input.new) (S.faults input.old) (S.faults input.new))) }
+    ensures err { IfErr result (IsUnread (form_of A.formed A.wrong)
+        (source_run (S.left input.old) (S.given input.old) (S.given input.new) (S.over input.new) (S.faults input.old) (S.faults input.new))) }
+    ensures count { S.faults input.new ≡ faults_after_input result (S.faults input.old) }
+{
+    match read_whole(alloc, input) {
+        Ok(text) => match A::of(alloc, text.as_slice()) {
+            Ok(answer) => Ok(answer),
+            Err(AnswerError::Wrong { line }) => Err(Unread::Refused(Outcome::Refused { line })),
+            Err(AnswerError::Memory) => Err(Unread::Memory),
+        },
+        Err(ReadError::TooLarge) => Err(Unread::Refused(Outcome::TooLarge)),
+        Err(ReadError::Failed) => Err(Unread::Failed),
+        Err(ReadError::Memory) => Err(Unread::Memory),
+    }
+}
+
+/// Writes the answer.
+#[tactic(auto, using(crate::proofs::AnswerEnds::small_status, crate::proofs::AnswerEnds::not_three))]
+fn tell_answer<A: Answer, K: Sink>(alloc: Global, output: &mut K, answer: &A) -> u8
+    ensures untouched { (result ≡ 4) ⊎ (result ≡ 6) → output.new ≡ output.old }
+    ensures few { result ≢ 3 }
+    ensures told { TellsAnswer (answering (form_of A.formed A.wrong) A.told A.written A.ends) answer.now (K.sent output.old) (K.sent output.new) (K.faults output.old) (K.faults output.new) result }
+{
+    let status = answer.status();
+    let Ok(text) = answer.output(alloc) else {
+        return 6;
+    };
+    match send_all(output, text.as_slice()) {
+        Reach::Ready => status,
+        Reach::Failed => 5,
+    }
+}

@@ -1,0 +1,132 @@
+//! The answers of `trust`, `prove` and `recover`.
+ghost use Rattle.std.specs.Prelude.{◌≡◌, ◌≢◌, IfErr, OnOk};
+
+use crate::answering::{Answer, AnswerError};
+use journal_text::{PolicyError, print_policy, read_cut};
+use nx_io::Bytes;
+use policy_history::Journal;
+use proof_lines::Proof;
+use prove_form::{ProveError, found_line, prove_of};
+use std::alloc::{AllocError, Global};
+use trust_check::Trust;
+use trust_form::{TrustError, trust_line, trust_of};
+
+impl Answer for Trust {
+    ghost use Rattle.trust_form.specs.Answers.{IsTold};
+    ghost use Rattle.trust_form.specs.TrustForm.{IsWrongLine};
+    ghost use Rattle.answer_commands.specs.Trusts.{HasTrustForm, trust_output, trust_status};
+
+    ghost formed = { HasTrustForm };
+
+    ghost told = { IsTold };
+
+    ghost wrong = { IsWrongLine };
+
+    ghost written = { trust_output };
+
+    ghost ends = { trust_status };
+
+    fn of(alloc: Global, text: &[u8]) -> Result<Trust, AnswerError> {
+        match trust_of(alloc, text) {
+            Ok(answer) => Ok(answer),
+            Err(TrustError::Wrong { line }) => Err(AnswerError::Wrong { line }),
+            Err(TrustError::Memory) => Err(AnswerError::Memory),
+        }
+    }
+
+    fn output(&self, alloc: Global) -> Result<Bytes, AllocError> {
+        let line = trust_line(alloc, *self)?;
+        Bytes::of(alloc, line.as_bytes())
+    }
+
+    fn status(&self) -> u8 {
+        match self {
+            Trust::Safe => 0,
+            Trust::Label { .. } | Trust::Goal => 1,
+        }
+    }
+}
+
+/// What was found for an input of `prove`: a proof of a shortest chain, if there is one.
+#[derive(Drop)]
+pub struct Found {
+    pub proof: Option<Proof>,
+}
+
+impl Answer for Found {
+    ghost use Rattle.std.specs.Prelude.{option_map};
+    ghost use Rattle.proof_lines.specs.Lines.{line_trees};
+    ghost use Rattle.prove_form.specs.Answers.{IsTold};
+    ghost use Rattle.prove_form.specs.ProveForm.{IsWrongLine};
+    ghost use Rattle.answer_commands.specs.Proves.{HasProveForm, prove_output, prove_status};
+
+    ghost formed = { HasProveForm };
+
+    ghost told = { λ text found. IsTold text (option_map line_trees found.proof) };
+
+    ghost wrong = { IsWrongLine };
+
+    ghost written = { λ found. prove_output (option_map line_trees found.proof) };
+
+    ghost ends = { λ found. prove_status (option_map line_trees found.proof) };
+
+    fn of(alloc: Global, text: &[u8]) -> Result<Found, AnswerError> {
+        match prove_of(alloc, text) {
+            Ok(proof) => Ok(Found { proof }),
+            Err(ProveError::Wrong { line }) => Err(AnswerError::Wrong { line }),
+            Err(ProveError::Memory) => Err(AnswerError::Memory),
+        }
+    }
+
+    fn output(&self, alloc: Global) -> Result<Bytes, AllocError> {
+        found_line(alloc, &self.proof)
+    }
+
+    fn status(&self) -> u8 {
+        match &self.proof {
+            Some(_) => 0,
+            None => 1,
+        }
+    }
+}
+
+/// The policy that was recovered from a text that was cut.
+#[derive(Drop)]
+pub struct Recovered {
+    pub journal: Journal,
+}
+
+impl Answer for Recovered {
+    ghost use Rattle.policy_history.specs.PolicyTexts.{policy_text};
+    ghost use Rattle.policy_history.specs.Values.{entry_trees};
+    ghost use Rattle.journal_text.specs.CutPolicies.{ReadsCut};
+    ghost use Rattle.answer_commands.specs.Recovers.{HasCutForm, IsWrongCutLine};
+
+    ghost formed = { HasCutForm };
+
+    ghost told = { λ text recovered. ReadsCut text recovered.journal.head (entry_trees recovered.journal.entries) };
+
+    ghost wrong = { IsWrongCutLine };
+
+    ghost written = { λ recovered. policy_text recovered.journal.head (entry_trees recovered.journal.entries) };
+
+    ghost ends = { λ recovered. 0 };
+
+    fn of(alloc: Global, text: &[u8]) -> Result<Recovered, AnswerError> {
+        match read_cut(alloc, text) {
+            Ok(journal) => Ok(Recovered { journal }),
+            Err(PolicyError::Bad { line }) => Err(AnswerError::Wrong { line }),
+            Err(PolicyError::Refused { line, .. }) => Err(AnswerError::Wrong { line }),
+            Err(PolicyError::TooLong) => unreachable!(),
+            Err(PolicyError::Memory) => Err(AnswerError::Memory),
+        }
+    }
+
+    fn output(&self, alloc: Global) -> Result<Bytes, AllocError> {
+        print_policy(alloc, &self.journal)
+    }
+
+    fn status(&self) -> u8 {
+        0
+    }
+}

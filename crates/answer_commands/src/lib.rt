@@ -1,0 +1,17 @@
+//! The commands that read one input and write one answer to it: `check`, `trust`, `prove` and `recover`.
+#![tactic(auto)]
+
+mod answering;
+mod answers;
+mod check_form;
+mod checks;
+mod judge;
+mod keys;
+mod laws;
+mod places;
+mod stages;
+
+pub use answering::{Answer, AnswerError, answer_input};
+pub use answers::{Found, Recovered};
+pub use checks::check;
+pub use laws::an_input_has_one_outcome;

@@ -1,8 +1,0 @@
-use Rattle.std.proofs.Common.{sym, ◌∙◌}
-use Rattle.nexus_main.proofs.answers.FoundAnswer.of.Goals as goal
-
-pub returns-in-Err-Wrong-clause-wrong : goal.returns-in-Err-Wrong-clause-wrong
-returns-in-Err-Wrong-clause-wrong c =
-    let is = c.in-Err-Wrong.field-0-is in
-    let wrong = rw is at c.in-Err-Wrong.ensures.wrong in
-    (wrong, λ has. c.in-Err-Wrong.ensures.refused (λ m. cc (sym is ∙ m)) has.0 has.1)

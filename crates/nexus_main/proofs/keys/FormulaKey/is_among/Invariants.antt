@@ -1,7 +1,0 @@
-use Rattle.std.proofs.Common.{ℕ, ◌<◌, ◌≡◌, slice_index_or}
-use Rattle.nexus_main.specs.declared.keys.FormulaKey.{FormulaKey}
-use Rattle.nexus_main.specs.Inner.Forms.{tree_of}
-use Rattle.nexus_main.proofs.keys.FormulaKey.is_among.Given as goal
-
-abbrev pub invariant-loop-index : goal.invariant-loop-index
-invariant-loop-index l = (k : ℕ) (d : FormulaKey) → k < l.index → tree_of (slice_index_or l.keys k d) ≡ tree_of l.self → ⊥

@@ -1,5 +1,0 @@
-use Rattle.nexus_main.proofs.ScriptEnds.{handed_end}
-use Rattle.nexus_main.proofs.script.answers.Goals as goal
-
-pub returns-clause-ends : goal.returns-clause-ends
-returns-clause-ends g c = handed_end _ c.reach_and_reply-status.new.journal _ _ _ _ c.handed-journal.ensures.written c.handed-journal.ensures.unreached c.reach_and_reply-status.ensures.ends

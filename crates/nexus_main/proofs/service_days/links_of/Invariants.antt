@@ -1,6 +1,0 @@
-use Rattle.std.specs.List.{All}
-use Rattle.nx_io.specs.MemoryDoors.{IsFreshWire}
-use Rattle.nexus_main.proofs.service_days.links_of.Given as goal
-
-abbrev pub invariant-loop-talk : goal.invariant-loop-talk
-invariant-loop-talk l = All IsFreshWire l.links.items

@@ -1,8 +1,0 @@
--- The law of outcomes.
-use Rattle.std.specs.Prelude.{◌≡◌, ℕ, List}
-use Rattle.nexus_main.specs.declared.outcomes.Outcome.{Outcome}
-use Rattle.nexus_main.specs.Outcomes.{IsOutcome}
-
--- an input has one outcome
-abbrev pub OneOutcome : Type 0
-OneOutcome = (text : List ℕ) (a b : Outcome) → IsOutcome text a → IsOutcome text b → a ≡ b

@@ -1,0 +1,141 @@
+-- What a run of a command is, by the words that call it.
+use Rattle.std.proofs.Common.{◌≡◌, ◌==◌, ◌∷◌, false, ℕ, List, [], Option, None, refl, sym, ap, ◌∙◌}
+use Rattle.std.proofs.lemmas.Bool.Decides.{Decides-eqb}
+use Rattle.policy_history.specs.Values.{History}
+use Rattle.run_streams.specs.Runs.{SinkRun, SourceRun}
+use Rattle.nexus_run.specs.declared.commands.Command.TheVariants.{Check, Script, Core, Trust, Prove, Recover, Drill}
+use Rattle.nexus_run.specs.Commands.{IsDrill, IsLoad, IsPlain, check_words, core_words, drill_words, prove_words, recover_words, script_words, trust_words}
+use Rattle.nexus_run.specs.Commanded.{RunsCommand}
+use Rattle.nexus_run.specs.LoadRuns.{RunsCore, RunsDrill, no_memory as load_memory}
+use Rattle.answer_commands.specs.CheckRuns.{RunsCheck, no_memory as check_memory}
+use Rattle.answer_commands.specs.Proves.{RunsProve}
+use Rattle.answer_commands.specs.Recovers.{RunsRecover}
+use Rattle.script_command.specs.Scripts.{PanelRun, RunsScript, no_memory as script_memory}
+use Rattle.answer_commands.specs.Trusts.{RunsTrust}
+use Rattle.answer_commands.specs.Answers.{no_memory as answer_memory}
+use Rattle.answer_commands.proofs.ForCallers.{runs_answer, runs_check}
+use Rattle.nexus_run.proofs.LoadEnds.{runs_load}
+use Rattle.run_streams.proofs.ForCallers.{apart}
+use Rattle.script_command.proofs.ForCallers.{runs_script}
+use Rattle.nexus_run.proofs.Words.{core_same, drill_same}
+
+-- the words of no command, whatever is done
+pub none_commanded : {words : List (List ℕ)} {source : SourceRun} {sink : SinkRun} {panel : PanelRun} {journal : Option History} {status : ℕ} → (IsPlain words → ⊥)
+    → RunsCommand words source sink panel journal status
+none_commanded none = record {
+  check = λ e. absurd (none (Check, tt, e));
+  script = λ e. absurd (none (Script, tt, e));
+  trust = λ e. absurd (none (Trust, tt, e));
+  prove = λ e. absurd (none (Prove, tt, e));
+  recover = λ e. absurd (none (Recover, tt, e));
+  core = λ number steps e within. absurd (none (Core number steps, within, e));
+  drill = λ number workers calls e within. absurd (none (Drill number workers calls, within, e));
+}
+
+-- ---- The words of one command are not those of another
+
+-- the first letter of the first word
+abbrev letter : List (List ℕ) → ℕ
+letter ((x ∷ xs) ∷ ws) = x
+letter _ = 0
+
+other_letter : {words : List (List ℕ)} (a b : List (List ℕ)) → words ≡ a → words ≡ b → (letter a == letter b) ≡ false → ⊥
+other_letter a b are e h = let t = (Decides-eqb (letter a) (letter b)).1 (ap letter (sym are ∙ e)) in cc (t, h)
+
+pub check_commanded : {words : List (List ℕ)} {source : SourceRun} {sink : SinkRun} {panel : PanelRun} {journal : Option History} {status : ℕ} → words ≡ check_words
+    → RunsCheck source sink status → RunsCommand words source sink panel journal status
+check_commanded are runs = record {
+  check = λ e. runs;
+  script = λ e. absurd (other_letter check_words script_words are e refl);
+  trust = λ e. absurd (other_letter check_words trust_words are e refl);
+  prove = λ e. absurd (other_letter check_words prove_words are e refl);
+  recover = λ e. absurd (other_letter check_words recover_words are e refl);
+  core = λ number steps e within. absurd (cc (sym are ∙ e));
+  drill = λ number workers calls e within. absurd (cc (sym are ∙ e));
+}
+
+pub script_commanded : {words : List (List ℕ)} {source : SourceRun} {sink : SinkRun} {panel : PanelRun} {journal : Option History} {status : ℕ} → words ≡ script_words
+    → RunsScript source sink panel journal status → RunsCommand words source sink panel journal status
+script_commanded are runs = record {
+  check = λ e. absurd (other_letter script_words check_words are e refl);
+  script = λ e. runs;
+  trust = λ e. absurd (other_letter script_words trust_words are e refl);
+  prove = λ e. absurd (other_letter script_words prove_words are e refl);
+  recover = λ e. absurd (other_letter script_words recover_words are e refl);
+  core = λ number steps e within. absurd (cc (sym are ∙ e));
+  drill = λ number workers calls e within. absurd (cc (sym are ∙ e));
+}
+
+pub trust_commanded : {words : List (List ℕ)} {source : SourceRun} {sink : SinkRun} {panel : PanelRun} {journal : Option History} {status : ℕ} → words ≡ trust_words
+    → RunsTrust source sink status → RunsCommand words source sink panel journal status
+trust_commanded are runs = record {
+  check = λ e. absurd (other_letter trust_words check_words are e refl);
+  script = λ e. absurd (other_letter trust_words script_words are e refl);
+  trust = λ e. runs;
+  prove = λ e. absurd (other_letter trust_words prove_words are e refl);
+  recover = λ e. absurd (other_letter trust_words recover_words are e refl);
+  core = λ number steps e within. absurd (cc (sym are ∙ e));
+  drill = λ number workers calls e within. absurd (cc (sym are ∙ e));
+}
+
+pub prove_commanded : {words : List (List ℕ)} {source : SourceRun} {sink : SinkRun} {panel : PanelRun} {journal : Option History} {status : ℕ} → words ≡ prove_words
+    → RunsProve source sink status → RunsCommand words source sink panel journal status
+prove_commanded are runs = record {
+  check = λ e. absurd (other_letter prove_words check_words are e refl);
+  script = λ e. absurd (other_letter prove_words script_words are e refl);
+  trust = λ e. absurd (other_letter prove_words trust_words are e refl);
+  prove = λ e. runs;
+  recover = λ e. absurd (other_letter prove_words recover_words are e refl);
+  core = λ number steps e within. absurd (cc (sym are ∙ e));
+  drill = λ number workers calls e within. absurd (cc (sym are ∙ e));
+}
+
+pub recover_commanded : {words : List (List ℕ)} {source : SourceRun} {sink : SinkRun} {panel : PanelRun} {journal : Option History} {status : ℕ} → words ≡ recover_words
+    → RunsRecover source sink status → RunsCommand words source sink panel journal status
+recover_commanded are runs = record {
+  check = λ e. absurd (other_letter recover_words check_words are e refl);
+  script = λ e. absurd (other_letter recover_words script_words are e refl);
+  trust = λ e. absurd (other_letter recover_words trust_words are e refl);
+  prove = λ e. absurd (other_letter recover_words prove_words are e refl);
+  recover = λ e. runs;
+  core = λ number steps e within. absurd (cc (sym are ∙ e));
+  drill = λ number workers calls e within. absurd (cc (sym are ∙ e));
+}
+
+pub core_commanded : {words : List (List ℕ)} {source : SourceRun} {sink : SinkRun} {panel : PanelRun} {journal : Option History} {status : ℕ} (m n : ℕ) → words ≡ core_words m n → IsLoad m n
+    → RunsCore m n sink status → RunsCommand words source sink panel journal status
+core_commanded {sink = sink} {status = status} m n are mine runs = record {
+  check = λ e. absurd (cc (sym are ∙ e));
+  script = λ e. absurd (cc (sym are ∙ e));
+  trust = λ e. absurd (cc (sym are ∙ e));
+  prove = λ e. absurd (cc (sym are ∙ e));
+  recover = λ e. absurd (cc (sym are ∙ e));
+  core = λ number steps e within. (let same = core_same number steps m n within mine (sym e ∙ are) in rw (same.0, same.1) runs);
+  drill = λ number workers calls e within. absurd (cc (sym are ∙ e));
+}
+
+pub drill_commanded : {words : List (List ℕ)} {source : SourceRun} {sink : SinkRun} {panel : PanelRun} {journal : Option History} {status : ℕ} (l m n : ℕ) → words ≡ drill_words l m n → IsDrill l m n
+    → RunsDrill l m n sink status → RunsCommand words source sink panel journal status
+drill_commanded {source = source} {sink = sink} {status = status} l m n are mine runs = record {
+  check = λ e. absurd (cc (sym are ∙ e));
+  script = λ e. absurd (cc (sym are ∙ e));
+  trust = λ e. absurd (cc (sym are ∙ e));
+  prove = λ e. absurd (cc (sym are ∙ e));
+  recover = λ e. absurd (cc (sym are ∙ e));
+  core = λ number steps e within. absurd (cc (sym are ∙ e));
+  drill = λ number workers calls e within. (let same = drill_same number workers calls l m n within mine (sym e ∙ are) in rw (same.0, same.1, same.2) runs);
+}
+
+-- ---- Where there was no memory for the words, nothing was read or written
+
+pub memory_commanded : {words : List (List ℕ)} {source : SourceRun} {sink : SinkRun} {panel : PanelRun} {status : ℕ} → status ≡ 6 → sink.sent ≡ [] → source.faults_now ≡ source.faults
+    → sink.faults_now ≡ sink.faults → RunsCommand words source sink panel None status
+memory_commanded {source = source} {sink = sink} {panel = panel} {status = status} six none still still_too = record {
+  check = λ e. runs_check (check_memory six none still still_too);
+  script = λ e. runs_script (script_memory six none still still_too);
+  trust = λ e. runs_answer (λ answer is e three. apart status 6 3 six three refl) (answer_memory six none still still_too);
+  prove = λ e. runs_answer (λ answer is e three. apart status 6 3 six three refl) (answer_memory six none still still_too);
+  recover = λ e. runs_answer (λ answer is e three. apart status 6 3 six three refl) (answer_memory six none still still_too);
+  core = λ number steps e within. runs_load (load_memory six none still_too);
+  drill = λ number workers calls e within. runs_load (load_memory six none still_too);
+}

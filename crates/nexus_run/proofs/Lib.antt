@@ -1,0 +1,4 @@
+pub mod Words
+mod LoadEnds
+mod Commanded
+pub mod ClientCalls

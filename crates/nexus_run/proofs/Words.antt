@@ -1,0 +1,221 @@
+-- The words of a call, as bytes and as texts.
+use Rattle.std.proofs.Common.{◌≡◌, ◌==◌, ◌↔◌, ◌<◌, ◌^◌, ◌++◌, ◌+◌, ℕ, Bool, true, false, IsTrue, List, [], ◌∷◌, map, take, length, get_or, inl, inr, refl, sym, ap, subst, ◌∙◌, codes, arith}
+use Rattle.std.proofs.lemmas.Bool.Decides.{Decides-eqb}
+use Rattle.std.proofs.lemmas.List.{take_more, length-map, map-append, get_or-map}
+use Rattle.std.proofs.lemmas.List.Elements.{All-cons, All-get_or, All-nil}
+use Rattle.std.specs.List.{All, list_all}
+use Rattle.std.specs.Str.{IsUtf8}
+use Rattle.std.specs.Fmt.{decimal}
+use Rattle.std.proofs.lemmas.Fmt.{IsAscii-decimal, decimal_injective}
+use Rattle.std.proofs.lemmas.Str.{IsUtf8-from_ascii}
+use Rattle.std.proofs.lemmas.Str.Ascii.{IsAscii-from_all}
+use Rattle.std.specs.Prelude.{nat_le, ◌&&◌}
+use Rattle.nal_term.specs.Secrets.{is_secret_byte}
+use Rattle.nexus_run.specs.Commands.{IsCommand, IsDrill, IsLoad, IsWithin, check_words, client_words, command_words, core_words, drill_words, prove_words, recover_words, script_words, serve_words, trust_words}
+use Rattle.service_commands.specs.Services.{IsAddress, IsService}
+use Rattle.nexus_run.specs.declared.commands.Command.{Command}
+use Rattle.nexus_run.specs.declared.commands.Command.TheVariants.{Check, Script, Core, Trust, Prove, Recover, Drill}
+
+-- one text more
+pub next_text : {T W : Type 0} (f : T → List ℕ) (g : W → List ℕ) (ts us : List T) (ws : List W) (t : T) (w : W) (k : ℕ) → map f ts ≡ take k (map g ws)
+    → us ≡ ts ++ t ∷ [] → k < length ws → w ≡ get_or ws k w → f t ≡ g w → map f us ≡ take (k + 1) (map g ws)
+next_text f g ts us ws t w k i u room at same =
+    let more = take_more (map g ws) k (g w) (omega (arith, length-map ws g, room)) in
+    let item : get_or (map g ws) k (g w) ≡ g w = get_or-map g ws k w (g w) room ∙ ap g (sym at) in
+    ap (map f) u ∙ map-append f ts (t ∷ []) ∙ rw (i, same, ← item) (sym more)
+
+-- the words of commands are texts
+check_words_are_texts : All IsUtf8 check_words
+unfolding lib.Utf8.encode
+check_words_are_texts = All-cons IsUtf8 (codes "check") [] (codes "check", (refl, refl)) (All-nil IsUtf8)
+
+script_words_are_texts : All IsUtf8 script_words
+unfolding lib.Utf8.encode
+script_words_are_texts = All-cons IsUtf8 (codes "script") [] (codes "script", (refl, refl)) (All-nil IsUtf8)
+
+trust_words_are_texts : All IsUtf8 trust_words
+unfolding lib.Utf8.encode
+trust_words_are_texts = All-cons IsUtf8 (codes "trust") [] (codes "trust", (refl, refl)) (All-nil IsUtf8)
+
+prove_words_are_texts : All IsUtf8 prove_words
+unfolding lib.Utf8.encode
+prove_words_are_texts = All-cons IsUtf8 (codes "prove") [] (codes "prove", (refl, refl)) (All-nil IsUtf8)
+
+recover_words_are_texts : All IsUtf8 recover_words
+unfolding lib.Utf8.encode
+recover_words_are_texts = All-cons IsUtf8 (codes "recover") [] (codes "recover", (refl, refl)) (All-nil IsUtf8)
+
+core_is_text : IsUtf8 (codes "core")
+unfolding lib.Utf8.encode
+core_is_text = (codes "core", (refl, refl))
+
+-- a number's digits are a text
+number_is_text : (n : ℕ) → n < 2 ^ 64 → IsUtf8 (decimal n)
+number_is_text n small = IsUtf8-from_ascii (decimal n) (IsAscii-decimal n small)
+
+-- so few steps are counted in 64 bits
+steps_small : (number steps : ℕ) → IsLoad number steps → steps < 2 ^ 64
+steps_small number steps within = let few = within.steps_are in omega (arith, few)
+
+core_words_are_texts : (number steps : ℕ) → IsLoad number steps → All IsUtf8 (core_words number steps)
+core_words_are_texts number steps within =
+    All-cons IsUtf8 (codes "core") (decimal number ∷ decimal steps ∷ []) core_is_text
+    (All-cons IsUtf8 (decimal number) (decimal steps ∷ []) (number_is_text number within.number_is)
+    (All-cons IsUtf8 (decimal steps) [] (number_is_text steps (steps_small number steps within)) (All-nil IsUtf8)))
+
+-- the words of `core` tell its numbers
+pub core_same : (number steps m n : ℕ) → IsLoad number steps → IsLoad m n → core_words number steps ≡ core_words m n → (number ≡ m) × (steps ≡ n)
+core_same number steps m n within other e =
+    let first : decimal number ≡ decimal m = cc e in
+    let second : decimal steps ≡ decimal n = cc e in
+    (decimal_injective number m within.number_is other.number_is first, decimal_injective steps n (steps_small number steps within) (steps_small m n other) second)
+
+drill_is_text : IsUtf8 (codes "drill")
+unfolding lib.Utf8.encode
+drill_is_text = (codes "drill", (refl, refl))
+
+-- so few workers and calls are counted in 64 bits
+workers_small : (number workers calls : ℕ) → IsDrill number workers calls → workers < 2 ^ 64
+workers_small number workers calls within = let few = within.workers_are in omega (arith, few)
+
+calls_small : (number workers calls : ℕ) → IsDrill number workers calls → calls < 2 ^ 64
+calls_small number workers calls within = let few = within.calls_are in omega (arith, few)
+
+drill_words_are_texts : (number workers calls : ℕ) → IsDrill number workers calls → All IsUtf8 (drill_words number workers calls)
+drill_words_are_texts number workers calls within =
+    All-cons IsUtf8 (codes "drill") (decimal number ∷ decimal workers ∷ decimal calls ∷ []) drill_is_text
+    (All-cons IsUtf8 (decimal number) (decimal workers ∷ decimal calls ∷ []) (number_is_text number within.number_is)
+    (All-cons IsUtf8 (decimal workers) (decimal calls ∷ []) (number_is_text workers (workers_small number workers calls within))
+    (All-cons IsUtf8 (decimal calls) [] (number_is_text calls (calls_small number workers calls within)) (All-nil IsUtf8))))
+
+-- the words of `drill` tell its numbers
+pub drill_same : (number workers calls l m n : ℕ) → IsDrill number workers calls → IsDrill l m n → drill_words number workers calls ≡ drill_words l m n
+    → (number ≡ l) × (workers ≡ m) × (calls ≡ n)
+drill_same number workers calls l m n within other e =
+    let first : decimal number ≡ decimal l = cc e in
+    let second : decimal workers ≡ decimal m = cc e in
+    let third : decimal calls ≡ decimal n = cc e in (
+      decimal_injective number l within.number_is other.number_is first,
+      decimal_injective workers m (workers_small number workers calls within) (workers_small l m n other) second,
+      decimal_injective calls n (calls_small number workers calls within) (calls_small l m n other) third,
+    )
+
+-- a load in threads is told by its words
+pub drill_told : (number workers calls workers_read calls_read : ℕ) (words : List (List ℕ)) (word a b c : List ℕ) → words ≡ word ∷ a ∷ b ∷ c ∷ []
+    → words ≡ drill_words number workers calls → b ≡ decimal workers_read → c ≡ decimal calls_read → workers_read < 2 ^ 64 → calls_read < 2 ^ 64
+    → IsDrill number workers calls → (workers_read ≡ workers) × (calls_read ≡ calls)
+drill_told number workers calls workers_read calls_read words word a b c are told y z small small_too within =
+    let all = sym are ∙ told in
+    let second : b ≡ decimal workers = cc all in
+    let third : c ≡ decimal calls = cc all in (
+      decimal_injective workers_read workers small (workers_small number workers calls within) (sym y ∙ second),
+      decimal_injective calls_read calls small_too (calls_small number workers calls within) (sym z ∙ third),
+    )
+
+-- digits tell how many steps a load has
+pub same_steps : (n number steps : ℕ) → n < 2 ^ 64 → IsLoad number steps → decimal n ≡ decimal steps → n ≡ steps
+same_steps n number steps small within e = decimal_injective n steps small (steps_small number steps within) e
+
+-- digits tell a number that is small
+pub same_number : (n m : ℕ) → n < 2 ^ 64 → m < 2 ^ 64 → decimal n ≡ decimal m → n ≡ m
+same_number n m small small_too e = decimal_injective n m small small_too e
+
+-- a service is told by its words
+pub service_told : (address first a w s : List ℕ) (workers sessions workers_read sessions_read : ℕ) (words : List (List ℕ)) → words ≡ first ∷ a ∷ w ∷ s ∷ [] → words ≡ serve_words address workers sessions
+    → w ≡ decimal workers_read → s ≡ decimal sessions_read → workers_read < 2 ^ 64 → sessions_read < 2 ^ 64 → IsService address workers sessions → IsService a workers_read sessions_read
+service_told address first a w s workers sessions workers_read sessions_read words are told read read_too small small_too within =
+    let all = sym are ∙ told in
+    let at : a ≡ address = cc all in
+    let first_is : w ≡ decimal workers = cc all in
+    let second_is : s ≡ decimal sessions = cc all in
+    let few = within.workers_are in
+    let few_too = within.sessions_are in
+    let workers_same : workers_read ≡ workers = same_number workers_read workers small (omega (arith, few)) (sym read ∙ first_is) in
+    let sessions_same : sessions_read ≡ sessions = same_number sessions_read sessions small_too (omega (arith, few_too)) (sym read_too ∙ second_is) in
+    rw (at, workers_same, sessions_same) within
+
+-- the words of `serve` tell what is to be served
+pub serve_same : (address : List ℕ) (workers sessions : ℕ) (other : List ℕ) (m n : ℕ) → IsService address workers sessions → IsService other m n → serve_words address workers sessions ≡ serve_words other m n
+    → (address ≡ other) × (workers ≡ m) × (sessions ≡ n)
+serve_same address workers sessions other m n within within_too e =
+    let at : address ≡ other = cc e in
+    let first : decimal workers ≡ decimal m = cc e in
+    let second : decimal sessions ≡ decimal n = cc e in
+    let a = within.workers_are in
+    let b = within.sessions_are in
+    let c = within_too.workers_are in
+    let d = within_too.sessions_are in
+    (at, same_number workers m (omega (arith, a)) (omega (arith, c)) first, same_number sessions n (omega (arith, b)) (omega (arith, d)) second)
+
+both : (b c : Bool) → (b && c) ≡ true → (b ≡ true) × (c ≡ true)
+both true c e = (refl, e)
+both false c e = absurd (cc e)
+
+low_byte : (b : ℕ) → is_secret_byte b ≡ true → b < 128
+low_byte b h = grind arith
+
+low_bytes : (bs : List ℕ) → list_all is_secret_byte bs ≡ true → All (λ b. b < 128) bs
+low_bytes [] h = All-nil (λ b. b < 128)
+low_bytes (b ∷ bs) h = let parts = both (is_secret_byte b) (list_all is_secret_byte bs) h in All-cons (λ x. x < 128) b bs (low_byte b parts.0) (low_bytes bs parts.1)
+
+address_is_text : (address : List ℕ) → IsAddress address → IsUtf8 address
+address_is_text address is =
+    let all = (both (list_all is_secret_byte address) _ (both (list_all is_secret_byte address && nat_le 1 (length address)) _ is.visible).0).0 in
+    IsUtf8-from_ascii address (IsAscii-from_all address (low_bytes address all))
+
+serve_is_text : IsUtf8 (codes "serve")
+unfolding lib.Utf8.encode
+serve_is_text = (codes "serve", (refl, refl))
+
+serve_words_are_texts : (address : List ℕ) (workers sessions : ℕ) → IsService address workers sessions → All IsUtf8 (serve_words address workers sessions)
+serve_words_are_texts address workers sessions within =
+    let a = within.workers_are in
+    let b = within.sessions_are in
+    All-cons IsUtf8 (codes "serve") (address ∷ decimal workers ∷ decimal sessions ∷ []) serve_is_text
+    (All-cons IsUtf8 address (decimal workers ∷ decimal sessions ∷ []) (address_is_text address within.address_is)
+    (All-cons IsUtf8 (decimal workers) (decimal sessions ∷ []) (number_is_text workers (omega (arith, a)))
+    (All-cons IsUtf8 (decimal sessions) [] (number_is_text sessions (omega (arith, b))) (All-nil IsUtf8))))
+
+-- what is not so is not so
+pub not_so : (b : Bool) → b ≡ false → IsTrue b → ⊥
+not_so true other is = cc other
+not_so false other is = cc is
+
+-- a word that is no text is not among texts
+pub not_all_texts : {W : Type 0} (g : W → List ℕ) (ws : List W) (w : W) (k : ℕ) → k < length ws → w ≡ get_or ws k w → (IsUtf8 (g w) → ⊥) → All IsUtf8 (map g ws) → ⊥
+not_all_texts g ws w k room at n all =
+    let within : k < length (map g ws) = omega (arith, length-map ws g, room) in
+    let item : get_or (map g ws) k (g w) ≡ g w = get_or-map g ws k w (g w) room ∙ ap g (sym at) in
+    n (subst IsUtf8 item (All-get_or IsUtf8 (map g ws) k (g w) within all))
+
+plain_is_text : (command : Command) → IsWithin command → All IsUtf8 (command_words command)
+plain_is_text Check within = check_words_are_texts
+plain_is_text Script within = script_words_are_texts
+plain_is_text Trust within = trust_words_are_texts
+plain_is_text Prove within = prove_words_are_texts
+plain_is_text Recover within = recover_words_are_texts
+plain_is_text (Drill number workers calls) within = drill_words_are_texts number workers calls within
+plain_is_text (Core number steps) within = core_words_are_texts number steps within
+
+client_is_text : IsUtf8 (codes "client")
+unfolding lib.Utf8.encode
+client_is_text = (codes "client", (refl, refl))
+
+client_words_are_texts : (address : List ℕ) → IsAddress address → All IsUtf8 (client_words address)
+client_words_are_texts address is =
+    All-cons IsUtf8 (codes "client") (address ∷ []) client_is_text (All-cons IsUtf8 address [] (address_is_text address is) (All-nil IsUtf8))
+
+-- words that are not all texts are not those of a command
+pub not_command : (words : List (List ℕ)) → (All IsUtf8 words → ⊥) → IsCommand words → ⊥
+not_command words n (inl (command, within, e)) = n (rw e (plain_is_text command within))
+not_command words n (inr (inl (address, workers, sessions, within, e))) = n (rw e (serve_words_are_texts address workers sessions within))
+not_command words n (inr (inr (address, is, e))) = n (rw e (client_words_are_texts address is))
+
+-- one word is the list of its texts
+pub one_word : {A : Type 0} (f : A → List ℕ) (due : List ℕ) (ws rest : List A) (w : A) (b : Bool) → ws ≡ w ∷ rest → (length rest == 0) ≡ true
+    → IsTrue b ↔ f w ≡ due → IsTrue b ↔ map f ws ≡ due ∷ []
+one_word f due ws [] w b e l t = rw e ((λ h. ap (λ x. x ∷ []) (t.0 h)), λ h. t.1 (head_same h))
+  where
+    head_same : {x y : List ℕ} → x ∷ [] ≡ y ∷ [] → x ≡ y
+    head_same e = cc
+one_word f due ws (r ∷ rest) w b e l t = let n = (Decides-eqb (length (r ∷ rest)) 0).0 l in absurd (omega (arith, n))

@@ -1,0 +1,42 @@
+use Rattle.std.specs.Prelude.{option_map}
+use Rattle.policy_history.specs.Values.{entry_trees}
+use Rattle.proof_lines.specs.Lines.{line_trees}
+use Rattle.answer_commands.proofs.ForCallers.{runs_as, runs_check}
+use Rattle.nexus_run.proofs.Commanded.{check_commanded, core_commanded, drill_commanded, none_commanded, prove_commanded, recover_commanded, script_commanded, trust_commanded}
+use Rattle.nexus_run.proofs.LoadEnds.{runs_load}
+use Rattle.script_command.proofs.ForCallers.{runs_script}
+use Rattle.nexus_run.proofs.plain.run_plain.Goals as goal
+
+pub returns-in-None-clause-command : goal.returns-in-None-clause-command
+returns-in-None-clause-command g c = none_commanded c.in-None.ensures
+
+pub returns-in-Some-Check-clause-command : goal.returns-in-Some-Check-clause-command
+returns-in-Some-Check-clause-command g c = check_commanded (rw c.in-Some-Check.field-0-is at c.in-Some-Check.ensures).1 (runs_check c.check.ensures.ends)
+
+pub returns-in-Some-Script-clause-command : goal.returns-in-Some-Script-clause-command
+returns-in-Some-Script-clause-command g c = script_commanded (rw c.in-Some-Script.field-0-is at c.in-Some-Script.ensures).1 (runs_script c.script.ensures.ends)
+
+pub returns-in-Some-Trust-clause-command : goal.returns-in-Some-Trust-clause-command
+returns-in-Some-Trust-clause-command g c = trust_commanded (rw c.in-Some-Trust.field-0-is at c.in-Some-Trust.ensures).1 c.answer_input.ensures.runs
+
+pub returns-in-Some-Prove-clause-command : goal.returns-in-Some-Prove-clause-command
+returns-in-Some-Prove-clause-command g c = prove_commanded (rw c.in-Some-Prove.field-0-is at c.in-Some-Prove.ensures).1 (runs_as (λ found. option_map line_trees found.proof) c.answer_input-in-Some-Prove.ensures.runs)
+
+pub returns-in-Some-Recover-clause-command : goal.returns-in-Some-Recover-clause-command
+returns-in-Some-Recover-clause-command g c = recover_commanded (rw c.in-Some-Recover.field-0-is at c.in-Some-Recover.ensures).1 (runs_as (λ recovered. record { head = recovered.journal.head; entries = entry_trees recovered.journal.entries }) c.answer_input-in-Some-Recover.ensures.runs)
+
+pub returns-in-Some-Core-clause-command : goal.returns-in-Some-Core-clause-command
+returns-in-Some-Core-clause-command g c =
+    let of_words = rw c.in-Some-Core.field-0-is at c.in-Some-Core.ensures in
+    core_commanded c.in-Some-Core.number c.in-Some-Core.steps of_words.1 of_words.0 (runs_load c.load.ensures.ends)
+
+pub drill-requires-clause-workers : goal.drill-requires-clause-workers
+drill-requires-clause-workers g c κs within = (rw c.in-Some-Drill.field-0-is at c.in-Some-Drill.ensures).0.workers_are
+
+pub drill-requires-clause-calls : goal.drill-requires-clause-calls
+drill-requires-clause-calls g c κs within = (rw c.in-Some-Drill.field-0-is at c.in-Some-Drill.ensures).0.calls_are.1
+
+pub returns-in-Some-Drill-clause-command : goal.returns-in-Some-Drill-clause-command
+returns-in-Some-Drill-clause-command g c =
+    let of_words = rw c.in-Some-Drill.field-0-is at c.in-Some-Drill.ensures in
+    drill_commanded c.in-Some-Drill.number c.in-Some-Drill.workers c.in-Some-Drill.calls of_words.1 of_words.0 (runs_load c.drill.ensures.ends)

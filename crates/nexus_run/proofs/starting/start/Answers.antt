@@ -1,0 +1,118 @@
+use Rattle.std.proofs.Common.{inl, inr, refl, subst, sym, ◌∙◌}
+use Rattle.nx_io.proofs.ForCallers.{gained-nothing}
+use Rattle.service_commands.specs.Clients.{no_memory}
+use Rattle.nexus_run.specs.Commands.{IsClientCall, IsCommand, IsPlain, IsServiceCall}
+use Rattle.service_commands.proofs.ForCallers.{runs_client}
+use Rattle.nexus_run.proofs.Commanded.{memory_commanded, none_commanded}
+use Rattle.nexus_run.proofs.Words.{not_command}
+use Rattle.nexus_run.proofs.starting.start.Goals as goal
+
+pub returns-in-Ok-Some-clause-other_words : goal.returns-in-Ok-Some-clause-other_words
+returns-in-Ok-Some-clause-other_words g c =
+    let texts = rw (c.in-Ok-Some.field-0-is, c.as_slice.ensures.value, ← c.as_slice-in-Ok-Some.ensures.value) at c.in-Ok-Some.ensures in
+    let same = texts ∙ c.in-Ok.ensures.words in
+    λ none. let other = c.run-ended.ensures.other_words (λ command. none (subst IsCommand same command)) in
+    (inl (c.from.ensures ∙ other.0), other.1, other.2)
+
+pub returns-in-Ok-Some-clause-sent : goal.returns-in-Ok-Some-clause-sent
+returns-in-Ok-Some-clause-sent g c =
+    let texts = rw (c.in-Ok-Some.field-0-is, c.as_slice.ensures.value, ← c.as_slice-in-Ok-Some.ensures.value) at c.in-Ok-Some.ensures in
+    let same = texts ∙ c.in-Ok.ensures.words in
+    λ plain. c.run-ended.ensures.sent (λ call. plain (subst IsServiceCall same call))
+
+pub returns-in-Ok-Some-clause-untouched : goal.returns-in-Ok-Some-clause-untouched
+returns-in-Ok-Some-clause-untouched g c =
+    let texts = rw (c.in-Ok-Some.field-0-is, c.as_slice.ensures.value, ← c.as_slice-in-Ok-Some.ensures.value) at c.in-Ok-Some.ensures in
+    let same = texts ∙ c.in-Ok.ensures.words in
+    λ plain none failed. c.run-ended.ensures.untouched (λ call. plain (subst IsServiceCall same call)) none (rw (c.from.ensures) at failed)
+
+pub returns-in-Ok-Some-clause-undialed : goal.returns-in-Ok-Some-clause-undialed
+returns-in-Ok-Some-clause-undialed g c =
+    let texts = rw (c.in-Ok-Some.field-0-is, c.as_slice.ensures.value, ← c.as_slice-in-Ok-Some.ensures.value) at c.in-Ok-Some.ensures in
+    let same = texts ∙ c.in-Ok.ensures.words in
+    λ plain none other. c.run-ended.ensures.undialed (λ call. plain (subst IsServiceCall same call)) none (λ seven. other (c.from.ensures ∙ seven))
+
+pub returns-in-Ok-Some-clause-command : goal.returns-in-Ok-Some-clause-command
+returns-in-Ok-Some-clause-command g c =
+    let texts = rw (c.in-Ok-Some.field-0-is, c.as_slice.ensures.value, ← c.as_slice-in-Ok-Some.ensures.value) at c.in-Ok-Some.ensures in
+    let same = texts ∙ c.in-Ok.ensures.words in
+    λ plain. rw (c.from.ensures, ← same) (c.run-ended.ensures.command (λ call. plain (subst IsServiceCall same call)))
+
+pub returns-in-Ok-Some-clause-core_reads_nothing : goal.returns-in-Ok-Some-clause-core_reads_nothing
+returns-in-Ok-Some-clause-core_reads_nothing g c =
+    let texts = rw (c.in-Ok-Some.field-0-is, c.as_slice.ensures.value, ← c.as_slice-in-Ok-Some.ensures.value) at c.in-Ok-Some.ensures in
+    let same = texts ∙ c.in-Ok.ensures.words in
+    λ number steps words. c.run-ended.ensures.core_reads_nothing number steps (same ∙ words)
+
+pub returns-in-Ok-Some-clause-drill_reads_nothing : goal.returns-in-Ok-Some-clause-drill_reads_nothing
+returns-in-Ok-Some-clause-drill_reads_nothing g c =
+    let texts = rw (c.in-Ok-Some.field-0-is, c.as_slice.ensures.value, ← c.as_slice-in-Ok-Some.ensures.value) at c.in-Ok-Some.ensures in
+    let same = texts ∙ c.in-Ok.ensures.words in
+    λ number workers calls words. c.run-ended.ensures.drill_reads_nothing number workers calls (same ∙ words)
+
+pub returns-in-Ok-Some-clause-serve : goal.returns-in-Ok-Some-clause-serve
+returns-in-Ok-Some-clause-serve g c =
+    let texts = rw (c.in-Ok-Some.field-0-is, c.as_slice.ensures.value, ← c.as_slice-in-Ok-Some.ensures.value) at c.in-Ok-Some.ensures in
+    let same = texts ∙ c.in-Ok.ensures.words in
+    λ address workers sessions words within. rw c.from.ensures (c.run-ended.ensures.serve address workers sessions (same ∙ words) within)
+
+pub returns-in-Ok-Some-clause-other_door : goal.returns-in-Ok-Some-clause-other_door
+returns-in-Ok-Some-clause-other_door g c =
+    let texts = rw (c.in-Ok-Some.field-0-is, c.as_slice.ensures.value, ← c.as_slice-in-Ok-Some.ensures.value) at c.in-Ok-Some.ensures in
+    let same = texts ∙ c.in-Ok.ensures.words in
+    λ plain quiet. c.run-ended.ensures.other_door (λ call. plain (subst IsServiceCall same call)) (λ call. quiet (subst IsClientCall same call))
+
+pub returns-in-Ok-Some-clause-unshared : goal.returns-in-Ok-Some-clause-unshared
+returns-in-Ok-Some-clause-unshared g c =
+    let texts = rw (c.in-Ok-Some.field-0-is, c.as_slice.ensures.value, ← c.as_slice-in-Ok-Some.ensures.value) at c.in-Ok-Some.ensures in
+    let same = texts ∙ c.in-Ok.ensures.words in
+    λ plain. c.run-ended.ensures.unshared (λ call. plain (subst IsServiceCall same call))
+
+pub returns-in-Ok-Some-clause-dialed : goal.returns-in-Ok-Some-clause-dialed
+returns-in-Ok-Some-clause-dialed g c =
+    let texts = rw (c.in-Ok-Some.field-0-is, c.as_slice.ensures.value, ← c.as_slice-in-Ok-Some.ensures.value) at c.in-Ok-Some.ensures in
+    let same = texts ∙ c.in-Ok.ensures.words in
+    λ quiet. c.run-ended.ensures.dialed (λ call. quiet (subst IsClientCall same call))
+
+pub returns-in-Ok-Some-clause-client : goal.returns-in-Ok-Some-clause-client
+returns-in-Ok-Some-clause-client g c =
+    let texts = rw (c.in-Ok-Some.field-0-is, c.as_slice.ensures.value, ← c.as_slice-in-Ok-Some.ensures.value) at c.in-Ok-Some.ensures in
+    let same = texts ∙ c.in-Ok.ensures.words in
+    λ address words is. rw c.from.ensures (c.run-ended.ensures.client address (same ∙ words) is)
+
+pub returns-in-Ok-Some-clause-other_panel : goal.returns-in-Ok-Some-clause-other_panel
+returns-in-Ok-Some-clause-other_panel g c =
+    let texts = rw (c.in-Ok-Some.field-0-is, c.as_slice.ensures.value, ← c.as_slice-in-Ok-Some.ensures.value) at c.in-Ok-Some.ensures in
+    let same = texts ∙ c.in-Ok.ensures.words in
+    λ others plain. c.run-ended.ensures.other_panel (λ words. others (sym same ∙ words)) (λ call. plain (subst IsServiceCall same call))
+
+pub returns-in-Ok-None-clause-command : goal.returns-in-Ok-None-clause-command
+returns-in-Ok-None-clause-command g c =
+    let none = not_command _ (rw (c.in-Ok-None.field-0-is, c.as_slice.ensures.value) at c.in-Ok-None.ensures) in
+    λ plain. rw (c.stopped-in-Ok-None.ensures.output) (none_commanded (λ is. none (inl (subst IsPlain (sym c.in-Ok.ensures.words) is))))
+
+pub returns-in-Ok-None-clause-serve : goal.returns-in-Ok-None-clause-serve
+returns-in-Ok-None-clause-serve g c =
+    let none = not_command _ (rw (c.in-Ok-None.field-0-is, c.as_slice.ensures.value) at c.in-Ok-None.ensures) in
+    λ address workers sessions words within. absurd (none (inr (inl (address, workers, sessions, within, c.in-Ok.ensures.words ∙ words))))
+
+pub returns-in-Ok-None-clause-client : goal.returns-in-Ok-None-clause-client
+returns-in-Ok-None-clause-client g c =
+    let none = not_command _ (rw (c.in-Ok-None.field-0-is, c.as_slice.ensures.value) at c.in-Ok-None.ensures) in
+    λ address words is. absurd (none (inr (inr (address, is, c.in-Ok.ensures.words ∙ words))))
+
+pub returns-in_default-clause-command : goal.returns-in_default-clause-command
+returns-in_default-clause-command g c = λ plain. rw (c.stopped.ensures.output, c.stopped.ensures.unused.0) (memory_commanded c.stopped.ensures.code (gained-nothing (g.K.Sink.sent c.args.output)) refl refl)
+
+pub returns-clause-command : goal.returns-clause-command
+returns-clause-command g c = λ plain. rw (c.stopped-in-Err.ensures.output, c.stopped-in-Err.ensures.unused.0) (memory_commanded c.stopped-in-Err.ensures.code (gained-nothing (g.K.Sink.sent c.args.output)) refl refl)
+
+pub returns-in_default-clause-client : goal.returns-in_default-clause-client
+returns-in_default-clause-client g c =
+    let unused = c.stopped.ensures.unused in
+    λ address words is. rw (c.stopped.ensures.output, unused.2, unused.3) (runs_client (no_memory refl c.stopped.ensures.code refl (gained-nothing (g.K.Sink.sent c.args.output)) refl refl))
+
+pub returns-clause-client : goal.returns-clause-client
+returns-clause-client g c =
+    let unused = c.stopped-in-Err.ensures.unused in
+    λ address words is. rw (c.stopped-in-Err.ensures.output, unused.2, unused.3) (runs_client (no_memory refl c.stopped-in-Err.ensures.code refl (gained-nothing (g.K.Sink.sent c.args.output)) refl refl))

@@ -1,0 +1,21 @@
+-- How a run of a command ends that is neither a service nor a client.
+use Rattle.std.specs.Prelude.{◌≡◌, ℕ, List, Option}
+use Rattle.policy_history.specs.Values.{History}
+use Rattle.run_streams.specs.Runs.{SinkRun, SourceRun}
+use Rattle.nexus_run.specs.Commands.{IsDrill, IsLoad, check_words, core_words, drill_words, prove_words, recover_words, script_words, trust_words}
+use Rattle.nexus_run.specs.LoadRuns.{RunsCore, RunsDrill}
+use Rattle.answer_commands.specs.CheckRuns.{RunsCheck}
+use Rattle.answer_commands.specs.Proves.{RunsProve}
+use Rattle.answer_commands.specs.Recovers.{RunsRecover}
+use Rattle.script_command.specs.Scripts.{PanelRun, RunsScript}
+use Rattle.answer_commands.specs.Trusts.{RunsTrust}
+
+-- what a run with these words is, for each command
+pub record RunsCommand (words : List (List ℕ)) (source : SourceRun) (sink : SinkRun) (panel : PanelRun) (journal : Option History) (status : ℕ) : Type 0 where
+  pub check : words ≡ check_words → RunsCheck source sink status
+  pub script : words ≡ script_words → RunsScript source sink panel journal status
+  pub trust : words ≡ trust_words → RunsTrust source sink status
+  pub prove : words ≡ prove_words → RunsProve source sink status
+  pub recover : words ≡ recover_words → RunsRecover source sink status
+  pub core : (number steps : ℕ) → words ≡ core_words number steps → IsLoad number steps → RunsCore number steps sink status
+  pub drill : (number workers calls : ℕ) → words ≡ drill_words number workers calls → IsDrill number workers calls → RunsDrill number workers calls sink status

@@ -1,0 +1,84 @@
+-- The words by which commands are called.
+use Rattle.std.specs.Prelude.{◌≡◌, ◌≢◌, ◌<◌, ◌≤◌, ◌^◌, ◌⊎◌, ℕ, List, [], ◌∷◌, codes}
+use Rattle.std.specs.Fmt.{decimal}
+use Rattle.service_commands.specs.Services.{IsAddress, IsService}
+use Rattle.nexus_run.specs.declared.commands.Command.{Command}
+use Rattle.nexus_run.specs.declared.commands.Command.TheVariants.{Check, Script, Core, Trust, Prove, Recover, Drill}
+
+abbrev pub check_words : List (List ℕ)
+check_words = codes "check" ∷ []
+
+abbrev pub script_words : List (List ℕ)
+script_words = codes "script" ∷ []
+
+abbrev pub trust_words : List (List ℕ)
+trust_words = codes "trust" ∷ []
+
+abbrev pub prove_words : List (List ℕ)
+prove_words = codes "prove" ∷ []
+
+abbrev pub recover_words : List (List ℕ)
+recover_words = codes "recover" ∷ []
+
+-- a number from which a load is drawn, and how many steps it has
+abbrev pub core_words : ℕ → ℕ → List (List ℕ)
+core_words number steps = codes "core" ∷ decimal number ∷ decimal steps ∷ []
+
+-- how many steps a load has at most
+abbrev pub most_steps : ℕ
+most_steps = 1000000
+
+-- the numbers of `core` are within their bounds
+pub record IsLoad (number steps : ℕ) : Type 0 where
+  pub number_is : number < 2 ^ 64
+  pub steps_are : steps ≤ most_steps
+
+-- a number from which a load is drawn, on how many workers it runs, and how many drawn requests each has
+abbrev pub drill_words : ℕ → ℕ → ℕ → List (List ℕ)
+drill_words number workers calls = codes "drill" ∷ decimal number ∷ decimal workers ∷ decimal calls ∷ []
+
+-- the numbers of `drill` are within their bounds
+pub record IsDrill (number workers calls : ℕ) : Type 0 where
+  pub number_is : number < 2 ^ 64
+  pub workers_are : (1 ≤ workers) × (workers ≤ 64)
+  pub calls_are : (1 ≤ calls) × (calls ≤ 4000)
+
+-- the words of a command
+abbrev pub command_words : Command → List (List ℕ)
+command_words Check = check_words
+command_words Script = script_words
+command_words Trust = trust_words
+command_words Prove = prove_words
+command_words Recover = recover_words
+command_words (Core number steps) = core_words number steps
+command_words (Drill number workers calls) = drill_words number workers calls
+
+-- the numbers of a command, if it has some, are within their bounds
+abbrev pub IsWithin : Command → Type 0
+IsWithin (Core number steps) = IsLoad number steps
+IsWithin (Drill number workers calls) = IsDrill number workers calls
+IsWithin _ = Unit {0}
+
+-- the words are those of a command, but not of a service or a client
+abbrev pub IsPlain : List (List ℕ) → Type 0
+IsPlain words = (command : Command) × IsWithin command × (words ≡ command_words command)
+
+-- where a service listens, how many workers it has, and how many sessions each of them serves
+abbrev pub serve_words : List ℕ → ℕ → ℕ → List (List ℕ)
+serve_words address workers sessions = codes "serve" ∷ address ∷ decimal workers ∷ decimal sessions ∷ []
+
+-- the words are those of a service
+abbrev pub IsServiceCall : List (List ℕ) → Type 0
+IsServiceCall words = (address : List ℕ) × (workers : ℕ) × (sessions : ℕ) × IsService address workers sessions × (words ≡ serve_words address workers sessions)
+
+-- where the service is that a client talks to
+abbrev pub client_words : List ℕ → List (List ℕ)
+client_words address = codes "client" ∷ address ∷ []
+
+-- the words are those of a client
+abbrev pub IsClientCall : List (List ℕ) → Type 0
+IsClientCall words = (address : List ℕ) × IsAddress address × (words ≡ client_words address)
+
+-- the words are those of a command
+abbrev pub IsCommand : List (List ℕ) → Type 0
+IsCommand words = IsPlain words ⊎ IsServiceCall words ⊎ IsClientCall words

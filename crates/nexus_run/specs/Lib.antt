@@ -1,0 +1,4 @@
+pub mod Commands
+pub mod Arguments
+pub mod LoadRuns
+pub mod Commanded

@@ -1,0 +1,241 @@
+//! The words by which commands are called.
+ghost use Rattle.std.specs.Prelude.{◌≡◌, ◌≢◌, ◌↔◌, ◌<◌, ◌≤◌, ◌^◌, ◌∷◌, [], ℕ, List, IsTrue, MatchOption, map};
+ghost use Rattle.nexus_run.specs.Commands.{IsClientCall, IsDrill, IsLoad, IsPlain, IsWithin, client_words, command_words, core_words, drill_words, most_steps, serve_words};
+ghost use Rattle.service_commands.specs.Services.{IsAddress, IsService};
+
+use nal_term::is_secret;
+use service_commands::Service;
+use text_lines::read_number;
+
+/// How many steps a load of `core` has at most.
+const MOST_STEPS: u64 = 1_000_000;
+
+/// How many workers a service has at most.
+const MOST_WORKERS: u64 = 64;
+
+/// How many drawn requests a worker of a load has at most.
+const MOST_CALLS: u64 = 4000;
+
+/// How many sessions a worker serves at most.
+const MOST_SESSIONS: u64 = 65_536;
+
+/// What the program can be asked to do, but for a service.
+#[derive(Clone, Copy, Debug, PartialEq, Eq)]
+pub enum Command {
+    /// Checks one proof.
+    Check,
+    /// Answers the requests of a script.
+    Script,
+    /// Says whether the untrusted can reach a goal.
+    Trust,
+    /// Finds a chain of delegations.
+    Prove,
+    /// Makes a policy text of one that was cut.
+    Recover,
+    /// Takes so many steps of a load that is drawn from a number.
+    Core {
+        number: u64,
+        steps: u64,
+    },
+    /// Runs a load that is drawn from a number on so many threads, each with so many drawn requests.
+    Drill {
+        number: u64,
+        workers: u64,
+        calls: u64,
+    },
+}
+
+/// The service that is called by these words. None exactly where they are those of none.
+/// `docs/FORMATS.md`, "Commands", states them.
+pub fn service_of<'a>(words: &'a [&'a str]) -> Option<Service<'a>>
+    ensures { MatchOption result ((address : List ℕ) (workers sessions : ℕ) → IsService address workers sessions → map (λ w. w.now) words.now ≢ serve_words address workers sessions)
+        (λ s. IsService s.address.now s.workers s.sessions × (map (λ w. w.now) words.now ≡ serve_words s.address.now s.workers s.sessions)) }
+{
+    let (first, rest) = words.split_first()?;
+    if !is_same(first, "serve") {
+        return None;
+    }
+    let (address, workers, sessions) = three(rest)?;
+    let workers = read_number(workers.as_bytes())?;
+    let sessions = read_number(sessions.as_bytes())?;
+    let address = address.as_bytes();
+    if is_service(address, workers, sessions) {
+        Some(Service {
+            address,
+            workers,
+            sessions,
+        })
+    } else {
+        None
+    }
+}
+
+/// The address of the service that a client is to talk to, by these words. None exactly where they are not those of a client.
+/// `docs/FORMATS.md`, "Commands", states them.
+pub fn client_of<'a>(words: &'a [&'a str]) -> Option<&'a [u8]>
+    ensures { MatchOption result (¬ IsClientCall (map (λ w. w.now) words.now))
+        (λ address. IsAddress address.now × (map (λ w. w.now) words.now ≡ client_words address.now)) }
+{
+    let (word, address) = two(words)?;
+    let address = address.as_bytes();
+    if is_same(word, "client") && is_address(address) {
+        Some(address)
+    } else {
+        None
+    }
+}
+
+/// The words, where they are two.
+fn two<'a>(words: &'a [&'a str]) -> Option<(&'a str, &'a str)>
+    ensures { MatchOption result ((a b : List ℕ) → map (λ w. w.now) words.now ≢ a ∷ b ∷ []) (λ r. map (λ w. w.now) words.now ≡ r.0.now ∷ r.1.now ∷ []) }
+{
+    let (first, rest) = words.split_first()?;
+    let (second, rest) = rest.split_first()?;
+    if rest.is_empty() {
+        Some((first, second))
+    } else {
+        None
+    }
+}
+
+/// Whether a service may listen there, with so many workers and so many sessions for each.
+fn is_service(address: &[u8], workers: u64, sessions: u64) -> bool
+    ensures value { IsTrue result ↔ IsService address.now workers sessions }
+    ensures small { (workers < 2 ^ 64) × (sessions < 2 ^ 64) }
+{
+    is_address(address)
+        && (1..=MOST_WORKERS).contains(&workers)
+        && (1..=MOST_SESSIONS).contains(&sessions)
+}
+
+/// Whether the word may be an address.
+fn is_address(word: &[u8]) -> bool
+    ensures { IsTrue result ↔ IsAddress word.now }
+{
+    is_secret(word) && word != b"help".as_slice() && word.first() != Some(&b'-')
+}
+
+/// The command that is called by these words, if they are not those of a service. None exactly where they are those of none.
+/// `docs/FORMATS.md`, "Commands", lists them.
+pub fn command_of(words: &[&str]) -> Option<Command>
+    ensures { MatchOption result (¬ IsPlain (map (λ w. w.now) words.now)) (λ command. IsWithin command × (map (λ w. w.now) words.now ≡ command_words command)) }
+{
+    if is_word(words, "check") {
+        Some(Command::Check)
+    } else if is_word(words, "script") {
+        Some(Command::Script)
+    } else if is_word(words, "trust") {
+        Some(Command::Trust)
+    } else if is_word(words, "prove") {
+        Some(Command::Prove)
+    } else if is_word(words, "recover") {
+        Some(Command::Recover)
+    } else {
+        load_of(words)
+    }
+}
+
+/// The load that is called by these words, if they are those of `core` or `drill`.
+fn load_of(words: &[&str]) -> Option<Command>
+    ensures { MatchOption result
+        (((number steps : ℕ) → IsLoad number steps → map (λ w. w.now) words.now ≢ core_words number steps)
+        × ((number workers calls : ℕ) → IsDrill number workers calls → map (λ w. w.now) words.now ≢ drill_words number workers calls))
+        (λ command. IsWithin command × (map (λ w. w.now) words.now ≡ command_words command)) }
+{
+    match core_of(words) {
+        Some(command) => Some(command),
+        None => drill_of(words),
+    }
+}
+
+/// The load that is called by these words, if they are those of `drill`.
+fn drill_of(words: &[&str]) -> Option<Command>
+    ensures { MatchOption result ((number workers calls : ℕ) → IsDrill number workers calls → map (λ w. w.now) words.now ≢ drill_words number workers calls)
+        (λ command. IsWithin command × (map (λ w. w.now) words.now ≡ command_words command)) }
+{
+    let (word, rest) = words.split_first()?;
+    if !is_same(word, "drill") {
+        return None;
+    }
+    let (number_text, workers_text, calls_text) = three(rest)?;
+    let number = read_number(number_text.as_bytes())?;
+    let workers = read_number(workers_text.as_bytes())?;
+    let calls = read_number(calls_text.as_bytes())?;
+    if !is_drill(workers, calls) {
+        return None;
+    }
+    Some(Command::Drill {
+        number,
+        workers,
+        calls,
+    })
+}
+
+/// Whether a load in threads may have so many workers, and so many drawn requests for each.
+fn is_drill(workers: u64, calls: u64) -> bool
+    ensures value { IsTrue result ↔ ((1 ≤ workers) × (workers ≤ 64) × (1 ≤ calls) × (calls ≤ 4000)) }
+    ensures small { (workers < 2 ^ 64) × (calls < 2 ^ 64) }
+{
+    (1..=MOST_WORKERS).contains(&workers) && (1..=MOST_CALLS).contains(&calls)
+}
+
+/// The load that is called by these words, if they are those of `core`.
+fn core_of(words: &[&str]) -> Option<Command>
+    ensures { MatchOption result ((number steps : ℕ) → IsLoad number steps → map (λ w. w.now) words.now ≢ core_words number steps) (λ command. IsWithin command × (map (λ w. w.now) words.now ≡ command_words command)) }
+{
+    let (word, number, steps) = three(words)?;
+    if !is_same(word, "core") {
+        return None;
+    }
+    let number = read_number(number.as_bytes())?;
+    let steps = read_number(steps.as_bytes())?;
+    if !are_few(steps) {
+        return None;
+    }
+    Some(Command::Core { number, steps })
+}
+
+/// Whether a load may have so many steps.
+fn are_few(steps: u64) -> bool
+    ensures value { IsTrue result ↔ (steps ≤ most_steps) }
+    ensures small { steps < 2 ^ 64 }
+{
+    steps <= MOST_STEPS
+}
+
+/// The words, where they are three.
+fn three<'a>(words: &'a [&'a str]) -> Option<(&'a str, &'a str, &'a str)>
+    ensures { MatchOption result ((a b c : List ℕ) → map (λ w. w.now) words.now ≢ a ∷ b ∷ c ∷ []) (λ r. map (λ w. w.now) words.now ≡ r.0.now ∷ r.1.now ∷ r.2.now ∷ []) }
+{
+    let (first, rest) = words.split_first()?;
+    let (second, rest) = rest.split_first()?;
+    let (third, rest) = rest.split_first()?;
+    if rest.is_empty() {
+        Some((first, second, third))
+    } else {
+        None
+    }
+}
+
+/// Whether this is the one word.
+fn is_word(words: &[&str], due: &str) -> bool
+    ensures { IsTrue result ↔ (map (λ w. w.now) words.now ≡ due.now ∷ []) }
+{
+    match words.split_first() {
+        Some((word, rest)) => {
+            if rest.is_empty() {
+                is_same(word, due)
+            } else {
+                false
+            }
+        }
+        None => false,
+    }
+}
+
+/// Whether the word is this one.
+fn is_same(word: &str, due: &str) -> bool
+    ensures { IsTrue result ↔ (word.now ≡ due.now) }
+{
+    word.as_bytes() == due.as_bytes()
+}

@@ -1,0 +1,16 @@
+//! The program over its surroundings: the words of its call, and what each of them runs.
+#![tactic(auto)]
+
+mod arguments;
+mod commands;
+mod load;
+mod plain;
+mod program;
+mod starting;
+
+pub use arguments::{Arguments, SystemArguments, texts, words_of_call};
+pub use plain::run_plain;
+pub use program::run;
+pub use script_command::PlainEnd;
+pub use service_commands::Ended;
+pub use starting::{Finished, start};

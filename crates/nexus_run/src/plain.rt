@@ -1,0 +1,106 @@
+//! The commands that are neither a service nor a client.
+ghost use Rattle.std.specs.Prelude.{◌≡◌, ◌≢◌, ◌⊎◌, ℕ, None, map};
+ghost use Rattle.nx_io.specs.Streams.{Gave, Grows, gained};
+ghost use Rattle.run_streams.specs.Runs.{sink_run, source_run};
+ghost use Rattle.nexus_run.specs.Commanded.{RunsCommand};
+ghost use Rattle.nexus_run.specs.Commands.{IsPlain, core_words, drill_words, script_words};
+ghost use Rattle.script_command.specs.Scripts.{panel_run};
+
+use crate::commands::{Command, command_of};
+use crate::load::{drill, load};
+use answer_commands::{Found, Recovered, answer_input, check};
+use authority_ask::Panel;
+use nx_io::{Sink, Source};
+use script_command::{PlainEnd, script};
+use std::alloc::Global;
+use std::net::{Net, TcpListener, TcpStream};
+use std::rt::Clock;
+use std::sync::Wait;
+use std::thread::Threads;
+use trust_check::Trust;
+
+/// Runs a command that is neither a service nor a client: `check` reads one input from the source and writes its outcome to the
+/// sink; `script` reads a policy and the requests of sessions, answers each, and writes the replies and then the policy as they
+/// left it; `trust` reads what an owner assumes and a goal, and writes whether the untrusted can reach it; `prove` reads labels and
+/// a goal, and writes a proof by a chain of delegations; `recover` reads a policy text that may be cut, and writes it whole; `core`
+/// reads nothing, and writes the line of a generated load; and so does `drill`, whose load runs on threads.
+///
+/// The status is 0 where all was done (of `check` at `allowed`, of `trust` at `safe`, of `prove` at a proof), 1 at `denied`, where a
+/// goal is not safe and where there is no chain, 2 where the words are not those of a command, which then reads and writes nothing,
+/// 3 where the input is refused, 4 where the source failed, 5 where the sink failed, 6 where memory ran out, and 8 where an
+/// authority could not be reached. At 4, 6 and 8 nothing was written, and at 5 a proper part of what was to be.
+/// `docs/FORMATS.md`, "Statuses", states this.
+///
+/// The input is what the source gives in this call. It is read to its first end, unless it is too large. The panel is handed
+/// back; only `script` uses it.
+pub fn run_plain<R, S: Source, K: Sink, P: Panel>(
+    rt: &R,
+    alloc: Global,
+    words: &[&str],
+    input: &mut S,
+    output: &mut K,
+    panel: P,
+) -> PlainEnd<P>
+where
+    R: Net<Listener = TcpListener, Stream = TcpStream> + Clock + Wait + Threads + Sync,
+    ensures other_words { ¬ IsPlain (map (λ w. w.now) words.now)
+        → (result.status ≡ 2) × (input.new ≡ input.old) × (output.new ≡ output.old) }
+    ensures gave { Gave (S.left input.old) (S.left input.new) (S.given input.old) (S.given input.new) }
+    ensures sent { Grows (K.sent output.old) (K.sent output.new) }
+    ensures said { Grows (P.said panel) (P.said result.panel) }
+    ensures untouched { (result.status ≡ 4) ⊎ (result.status ≡ 6) → output.new ≡ output.old }
+    ensures command { RunsCommand (map (λ w. w.now) words.now)
+        (source_run (S.left input.old) (S.given input.old) (S.given input.new) (S.over input.new) (S.faults input.old) (S.faults input.new))
+        (sink_run (K.sent output.old) (K.sent output.new) (K.faults output.old) (K.faults output.new))
+        (panel_run (P.said panel) (P.said result.panel) (P.asks panel) (P.asks result.panel) (P.reached panel) (P.reached result.panel)
+        (P.faults panel) (P.faults result.panel))
+        result.journal result.status }
+    ensures core_reads_nothing { (number steps : ℕ) → map (λ w. w.now) words.now ≡ core_words number steps → input.new ≡ input.old }
+    ensures drill_reads_nothing { (number workers calls : ℕ) → map (λ w. w.now) words.now ≡ drill_words number workers calls → input.new ≡ input.old }
+    ensures other_panel { map (λ w. w.now) words.now ≢ script_words → (result.panel ≡ panel) × (result.journal ≡ None) }
+{
+    match command_of(words) {
+        None => PlainEnd {
+            status: 2,
+            journal: None,
+            panel,
+        },
+        Some(Command::Check) => PlainEnd {
+            status: check(alloc, input, output),
+            journal: None,
+            panel,
+        },
+        Some(Command::Script) => script(rt, alloc, input, output, panel),
+        Some(Command::Trust) => PlainEnd {
+            status: answer_input::<Trust, S, K>(alloc, input, output),
+            journal: None,
+            panel,
+        },
+        Some(Command::Prove) => PlainEnd {
+            status: answer_input::<Found, S, K>(alloc, input, output),
+            journal: None,
+            panel,
+        },
+        Some(Command::Recover) => PlainEnd {
+            status: answer_input::<Recovered, S, K>(alloc, input, output),
+            journal: None,
+            panel,
+        },
+        Some(Command::Core { number, steps }) => PlainEnd {
+            status: load(alloc, number, steps, output),
+            journal: None,
+            panel,
+        },
+        Some(
+            Command::Drill {
+                number,
+                workers,
+                calls,
+            },
+        ) => PlainEnd {
+            status: drill(rt, alloc, number, workers, calls, output),
+            journal: None,
+            panel,
+        },
+    }
+}

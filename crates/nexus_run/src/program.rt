@@ -1,0 +1,161 @@
+ghost use Rattle.std.specs.Prelude.{◌≡◌, ◌≢◌, ◌⊎◌, ℕ, List, [], None, map, option_map};
+ghost use Rattle.nx_io.specs.Streams.{Gave, Grows, gained};
+ghost use Rattle.run_streams.specs.Runs.{sink_run, source_run};
+ghost use Rattle.nexus_serve.specs.Views.{door_view, link_view, panel_view, report_view};
+ghost use Rattle.service_commands.specs.Clients.{EndsClient, RunsClient};
+ghost use Rattle.nexus_run.specs.Commanded.{RunsCommand};
+ghost use Rattle.nexus_run.specs.Commands.{IsClientCall, IsCommand, IsServiceCall, client_words, core_words, drill_words, script_words, serve_words};
+ghost use Rattle.service_commands.specs.Services.{IsAddress, IsService, HandsBack, RunsService};
+ghost use Rattle.script_command.specs.Scripts.{panel_run};
+
+use crate::commands::{client_of, service_of};
+use crate::plain::run_plain;
+use authority_ask::Panel;
+use nx_io::{Door, Gate, Link, Sink, Source};
+use service_commands::{ClientEnd, Ended, client, run_service};
+use std::alloc::Global;
+use std::net::{Net, TcpListener, TcpStream};
+use std::rt::Clock;
+use std::sync::Wait;
+use std::thread::Threads;
+
+/// Runs the program: `check` reads one input from the source and writes its outcome to the sink; `script` reads a policy and
+/// the requests of sessions, answers each, and writes the replies and then the policy as they left it; `trust` reads what an
+/// owner assumes and a goal, and writes whether the untrusted can reach it; `prove` reads labels and a goal, and writes a proof by
+/// a chain of delegations; `recover` reads a policy text that may be cut, and writes it whole; `core` and `drill` read nothing, and
+/// write the line of a generated load, which `drill` runs on threads; `client` reads request lines, sends each over a link to an
+/// address, and writes the line of its reply before the next is sent; `serve` reads a policy, listens at an address, serves the
+/// sessions of its workers, and writes the policy text as the journal grows.
+///
+/// The status is 0 where all was done (of `check` at `allowed`, of `trust` at `safe`, of `prove` at a proof), 1 at `denied`, where a
+/// goal is not safe and where there is no chain, 2 where the words are not those of a command, which then reads and writes nothing,
+/// 3 where the input is refused, 4 where the source failed, 5 where the sink failed, 6 where memory ran out, 7 where the door or a
+/// share of it failed, or the link of a client, 8 where an authority could not be reached, and 9 where the link of a client ended
+/// before a whole reply or gave what is no reply. `docs/FORMATS.md`, "Statuses", states this.
+///
+/// The input is what the source gives in this call. It is read to its first end, unless it is too large. Door and panel are
+/// handed back; only `serve` and `client` use the door, and only `script` and `serve` the panel.
+pub fn run<R, S: Source, K, D, P, G>(
+    rt: &R,
+    alloc: Global,
+    words: &[&str],
+    input: &mut S,
+    output: K,
+    door: D,
+    panel: P,
+    gate: &G,
+) -> Ended<D, P, K>
+where
+    K: Sink + Send + Drop,
+    D: Door + Send + Drop,
+    D::Link: Link + Send + Drop,
+    P: Panel + Send + Drop,
+    G: Gate + Sync,
+    R: Net<Listener = TcpListener, Stream = TcpStream> + Clock + Wait + Threads + Sync,
+    ensures other_words { ¬ IsCommand (map (λ w. w.now) words.now)
+        → (result.status ≡ 2) × (input.new ≡ input.old) × HandsBack result.output (λ k. k ≡ output) }
+    ensures gave { Gave (S.left input.old) (S.left input.new) (S.given input.old) (S.given input.new) }
+    ensures sent { ¬ IsServiceCall (map (λ w. w.now) words.now) → HandsBack result.output (λ k. Grows (K.sent output) (K.sent k)) }
+    ensures said { Grows (P.said panel) (P.said result.panel) }
+    ensures undialed { ¬ IsServiceCall (map (λ w. w.now) words.now) → result.dialed ≡ None → result.status ≢ 7 → result.door ≡ door }
+    ensures untouched { ¬ IsServiceCall (map (λ w. w.now) words.now) → result.dialed ≡ None → (result.status ≡ 4) ⊎ (result.status ≡ 6) → HandsBack result.output (λ k. k ≡ output) }
+    ensures command { ¬ IsServiceCall (map (λ w. w.now) words.now) → HandsBack result.output (λ k. RunsCommand (map (λ w. w.now) words.now)
+        (source_run (S.left input.old) (S.given input.old) (S.given input.new) (S.over input.new) (S.faults input.old) (S.faults input.new))
+        (sink_run (K.sent output) (K.sent k) (K.faults output) (K.faults k))
+        (panel_run (P.said panel) (P.said result.panel) (P.asks panel) (P.asks result.panel) (P.reached panel) (P.reached result.panel)
+        (P.faults panel) (P.faults result.panel))
+        result.journal result.status) }
+    ensures core_reads_nothing { (number steps : ℕ) → map (λ w. w.now) words.now ≡ core_words number steps → input.new ≡ input.old }
+    ensures drill_reads_nothing { (number workers calls : ℕ) → map (λ w. w.now) words.now ≡ drill_words number workers calls → input.new ≡ input.old }
+    ensures client { (address : List ℕ) → map (λ w. w.now) words.now ≡ client_words address → IsAddress address → HandsBack result.output (λ k. RunsClient address
+        (source_run (S.left input.old) (S.given input.old) (S.given input.new) (S.over input.new) (S.faults input.old) (S.faults input.new))
+        (sink_run (K.sent output) (K.sent k) (K.faults output) (K.faults k))
+        (door_view (link_view D.Link.left D.Link.taken D.Link.sent D.Link.over D.Link.closed D.Link.place D.Link.toward D.Link.faults) D.links D.over D.gave D.listened D.faults door)
+        (door_view (link_view D.Link.left D.Link.taken D.Link.sent D.Link.over D.Link.closed D.Link.place D.Link.toward D.Link.faults) D.links D.over D.gave D.listened D.faults result.door)
+        (option_map (link_view D.Link.left D.Link.taken D.Link.sent D.Link.over D.Link.closed D.Link.place D.Link.toward D.Link.faults) result.dialed)
+        result.status) }
+    ensures serve { (address : List ℕ) (workers sessions : ℕ) → map (λ w. w.now) words.now ≡ serve_words address workers sessions → IsService address workers sessions
+        → RunsService (panel_view P.said P.asks P.reached P.faults) (record { address = address; workers = workers; sessions = sessions })
+        (source_run (S.left input.old) (S.given input.old) (S.given input.new) (S.over input.new) (S.faults input.old) (S.faults input.new))
+        (record { sent = K.sent output; faults = K.faults output }) (door_view (link_view D.Link.left D.Link.taken D.Link.sent D.Link.over D.Link.closed D.Link.place D.Link.toward D.Link.faults) D.links D.over D.gave D.listened D.faults door) panel
+        (record {
+          status = result.status;
+          output = option_map (λ k. record { sent = K.sent k; faults = K.faults k }) result.output;
+          journal = result.journal;
+          reports = map (report_view (link_view D.Link.left D.Link.taken D.Link.sent D.Link.over D.Link.closed D.Link.place D.Link.toward D.Link.faults)) result.reports.items;
+          door = (door_view (link_view D.Link.left D.Link.taken D.Link.sent D.Link.over D.Link.closed D.Link.place D.Link.toward D.Link.faults) D.links D.over D.gave D.listened D.faults result.door);
+          doors = map (door_view (link_view D.Link.left D.Link.taken D.Link.sent D.Link.over D.Link.closed D.Link.place D.Link.toward D.Link.faults) D.links D.over D.gave D.listened D.faults) result.doors.items;
+          panel = result.panel;
+          panels = result.panels.items;
+        }) }
+    ensures other_door { ¬ IsServiceCall (map (λ w. w.now) words.now) → ¬ IsClientCall (map (λ w. w.now) words.now) → result.door ≡ door }
+    ensures unshared { ¬ IsServiceCall (map (λ w. w.now) words.now) → (result.reports.items ≡ []) × (result.doors.items ≡ []) × (result.panels.items ≡ []) }
+    ensures other_panel { map (λ w. w.now) words.now ≢ script_words → ¬ IsServiceCall (map (λ w. w.now) words.now) → (result.panel ≡ panel) × (result.journal ≡ None) }
+    ensures dialed { ¬ IsClientCall (map (λ w. w.now) words.now) → result.dialed ≡ None }
+{
+    if let Some(service) = service_of(words) {
+        return run_service(rt, alloc, service, input, output, door, panel, gate);
+    }
+    match client_of(words) {
+        Some(address) => run_client(rt, alloc, address, input, output, door, panel),
+        None => {
+            let mut output = output;
+            let end = run_plain(rt, alloc, words, input, &mut output, panel);
+            Ended {
+                status: end.status,
+                output: Some(output),
+                journal: end.journal,
+                reports: Vec::new(alloc),
+                dialed: None,
+                door,
+                doors: Vec::new(alloc),
+                panel: end.panel,
+                panels: Vec::new(alloc),
+            }
+        }
+    }
+}
+
+/// Runs a client, which needs the source, the sink and the door. It stands apart, so that the other commands have no room on the stack
+/// for a talk.
+#[inline(never)]
+fn run_client<R, S: Source, K: Sink + Drop, D: Door + Drop, P: Panel + Drop>(
+    rt: &R,
+    alloc: Global,
+    address: &[u8],
+    input: &mut S,
+    output: K,
+    door: D,
+    panel: P,
+) -> Ended<D, P, K>
+where
+    D::Link: Drop,
+    R: Net<Listener = TcpListener, Stream = TcpStream> + Clock,
+    ensures gave { Gave (S.left input.old) (S.left input.new) (S.given input.old) (S.given input.new) }
+    ensures sent { HandsBack result.output (λ k. Grows (K.sent output) (K.sent k)) }
+    ensures untouched { result.dialed ≡ None → (result.status ≡ 4) ⊎ (result.status ≡ 6) → HandsBack result.output (λ k. k ≡ output) }
+    ensures undialed { result.dialed ≡ None → result.status ≢ 7 → result.door ≡ door }
+    ensures client { HandsBack result.output (λ k. EndsClient address.now
+        (source_run (S.left input.old) (S.given input.old) (S.given input.new) (S.over input.new) (S.faults input.old) (S.faults input.new))
+        (sink_run (K.sent output) (K.sent k) (K.faults output) (K.faults k))
+        (door_view (link_view D.Link.left D.Link.taken D.Link.sent D.Link.over D.Link.closed D.Link.place D.Link.toward D.Link.faults) D.links D.over D.gave D.listened D.faults door)
+        (door_view (link_view D.Link.left D.Link.taken D.Link.sent D.Link.over D.Link.closed D.Link.place D.Link.toward D.Link.faults) D.links D.over D.gave D.listened D.faults result.door)
+        (option_map (link_view D.Link.left D.Link.taken D.Link.sent D.Link.over D.Link.closed D.Link.place D.Link.toward D.Link.faults) result.dialed)
+        result.status) }
+    ensures unused { (result.journal ≡ None) × (result.reports.items ≡ []) × (result.doors.items ≡ []) × (result.panel ≡ panel) × (result.panels.items ≡ []) }
+{
+    let mut output = output;
+    let mut door = door;
+    let ClientEnd { status, dialed } = client(rt, alloc, address, input, &mut output, &mut door);
+    Ended {
+        status,
+        output: Some(output),
+        journal: None,
+        reports: Vec::new(alloc),
+        dialed,
+        door,
+        doors: Vec::new(alloc),
+        panel,
+        panels: Vec::new(alloc),
+    }
+}

@@ -1,0 +1,159 @@
+ghost use Rattle.std.specs.Prelude.{◌≡◌, ◌≢◌, ◌⊎◌, ℕ, List, [], IsTrue, None, Some, map, option_map};
+ghost use Rattle.std.specs.Process.{exit_status};
+ghost use Rattle.nx_io.specs.Streams.{Gave, Grows, gained};
+ghost use Rattle.run_streams.specs.Runs.{sink_run, source_run};
+ghost use Rattle.nexus_serve.specs.Views.{door_view, link_view, panel_view, report_view};
+ghost use Rattle.nexus_run.specs.Arguments.{words_of_call};
+ghost use Rattle.service_commands.specs.Clients.{RunsClient};
+ghost use Rattle.nexus_run.specs.Commanded.{RunsCommand};
+ghost use Rattle.nexus_run.specs.Commands.{IsClientCall, IsCommand, IsServiceCall, client_words, core_words, drill_words, script_words, serve_words};
+ghost use Rattle.service_commands.specs.Services.{IsAddress, IsService, HandsBack, RunsService};
+ghost use Rattle.script_command.specs.Scripts.{panel_run};
+
+use crate::arguments::{Arguments, texts, words_of_call};
+use crate::program::run;
+use authority_ask::Panel;
+use nx_io::{Door, Gate, Link, Sink, Source};
+use policy_history::Journal;
+use session_core::Report;
+use std::alloc::Global;
+use std::net::{Net, TcpListener, TcpStream};
+use std::process::ExitCode;
+use std::rt::Clock;
+use std::sync::Wait;
+use std::thread::Threads;
+
+/// What the program leaves: the code with which it ends, and what is handed back.
+#[derive(Drop)]
+pub struct Finished<D: Door, P: Panel, K: Sink> {
+    pub code: ExitCode,
+    pub output: Option<K>,
+    pub journal: Option<Journal>,
+    pub reports: Vec<Report<D::Link>>,
+    pub dialed: Option<D::Link>,
+    pub door: D,
+    pub doors: Vec<D>,
+    pub panel: P,
+    pub panels: Vec<P>,
+}
+
+/// The whole program over its surroundings: `run` on all words after the program's name, ended by its status. A word
+/// that is not UTF-8 is no word of a command.
+pub fn start<R, A: Arguments, S: Source, K, D, P, G>(
+    rt: &R,
+    alloc: Global,
+    arguments: &mut A,
+    input: &mut S,
+    output: K,
+    door: D,
+    panel: P,
+    gate: &G,
+) -> Finished<D, P, K>
+where
+    K: Sink + Send + Drop,
+    D: Door + Send + Drop,
+    D::Link: Link + Send + Drop,
+    P: Panel + Send + Drop,
+    G: Gate + Sync,
+    R: Net<Listener = TcpListener, Stream = TcpStream> + Clock + Wait + Threads + Sync,
+    ensures words { Grows (A.told arguments.old) (A.told arguments.new) }
+    ensures all_words { exit_status result.code ≢ 6 → IsTrue (A.over arguments.new) }
+    ensures other_words { ¬ IsCommand (words_of_call (gained (A.told arguments.old) (A.told arguments.new)))
+        → ((exit_status result.code ≡ 2) ⊎ (exit_status result.code ≡ 6)) × (input.new ≡ input.old) × HandsBack result.output (λ k. k ≡ output) }
+    ensures gave { Gave (S.left input.old) (S.left input.new) (S.given input.old) (S.given input.new) }
+    ensures sent { ¬ IsServiceCall (words_of_call (gained (A.told arguments.old) (A.told arguments.new))) → HandsBack result.output (λ k. Grows (K.sent output) (K.sent k)) }
+    ensures said { Grows (P.said panel) (P.said result.panel) }
+    ensures undialed { ¬ IsServiceCall (words_of_call (gained (A.told arguments.old) (A.told arguments.new))) → result.dialed ≡ None → exit_status result.code ≢ 7 → result.door ≡ door }
+    ensures untouched { ¬ IsServiceCall (words_of_call (gained (A.told arguments.old) (A.told arguments.new))) → result.dialed ≡ None → (exit_status result.code ≡ 4) ⊎ (exit_status result.code ≡ 6) → HandsBack result.output (λ k. k ≡ output) }
+    ensures command { ¬ IsServiceCall (words_of_call (gained (A.told arguments.old) (A.told arguments.new))) → HandsBack result.output (λ k. RunsCommand (words_of_call (gained (A.told arguments.old) (A.told arguments.new)))
+        (source_run (S.left input.old) (S.given input.old) (S.given input.new) (S.over input.new) (S.faults input.old) (S.faults input.new))
+        (sink_run (K.sent output) (K.sent k) (K.faults output) (K.faults k))
+        (panel_run (P.said panel) (P.said result.panel) (P.asks panel) (P.asks result.panel) (P.reached panel) (P.reached result.panel)
+        (P.faults panel) (P.faults result.panel))
+        result.journal (exit_status result.code)) }
+    ensures core_reads_nothing { (number steps : ℕ) → words_of_call (gained (A.told arguments.old) (A.told arguments.new)) ≡ core_words number steps → input.new ≡ input.old }
+    ensures drill_reads_nothing { (number workers calls : ℕ) → words_of_call (gained (A.told arguments.old) (A.told arguments.new)) ≡ drill_words number workers calls → input.new ≡ input.old }
+    ensures client { (address : List ℕ) → words_of_call (gained (A.told arguments.old) (A.told arguments.new)) ≡ client_words address → IsAddress address → HandsBack result.output (λ k. RunsClient address
+        (source_run (S.left input.old) (S.given input.old) (S.given input.new) (S.over input.new) (S.faults input.old) (S.faults input.new))
+        (sink_run (K.sent output) (K.sent k) (K.faults output) (K.faults k))
+        (door_view (link_view D.Link.left D.Link.taken D.Link.sent D.Link.over D.Link.closed D.Link.place D.Link.toward D.Link.faults) D.links D.over D.gave D.listened D.faults door)
+        (door_view (link_view D.Link.left D.Link.taken D.Link.sent D.Link.over D.Link.closed D.Link.place D.Link.toward D.Link.faults) D.links D.over D.gave D.listened D.faults result.door)
+        (option_map (link_view D.Link.left D.Link.taken D.Link.sent D.Link.over D.Link.closed D.Link.place D.Link.toward D.Link.faults) result.dialed)
+        (exit_status result.code)) }
+    ensures serve { (address : List ℕ) (workers sessions : ℕ) → words_of_call (gained (A.told arguments.old) (A.told arguments.new)) ≡ serve_words address workers sessions → IsService address workers sessions
+        → RunsService (panel_view P.said P.asks P.reached P.faults) (record { address = address; workers = workers; sessions = sessions })
+        (source_run (S.left input.old) (S.given input.old) (S.given input.new) (S.over input.new) (S.faults input.old) (S.faults input.new))
+        (record { sent = K.sent output; faults = K.faults output }) (door_view (link_view D.Link.left D.Link.taken D.Link.sent D.Link.over D.Link.closed D.Link.place D.Link.toward D.Link.faults) D.links D.over D.gave D.listened D.faults door) panel
+        (record {
+          status = exit_status result.code;
+          output = option_map (λ k. record { sent = K.sent k; faults = K.faults k }) result.output;
+          journal = result.journal;
+          reports = map (report_view (link_view D.Link.left D.Link.taken D.Link.sent D.Link.over D.Link.closed D.Link.place D.Link.toward D.Link.faults)) result.reports.items;
+          door = (door_view (link_view D.Link.left D.Link.taken D.Link.sent D.Link.over D.Link.closed D.Link.place D.Link.toward D.Link.faults) D.links D.over D.gave D.listened D.faults result.door);
+          doors = map (door_view (link_view D.Link.left D.Link.taken D.Link.sent D.Link.over D.Link.closed D.Link.place D.Link.toward D.Link.faults) D.links D.over D.gave D.listened D.faults) result.doors.items;
+          panel = result.panel;
+          panels = result.panels.items;
+        }) }
+    ensures other_door { ¬ IsServiceCall (words_of_call (gained (A.told arguments.old) (A.told arguments.new))) → ¬ IsClientCall (words_of_call (gained (A.told arguments.old) (A.told arguments.new))) → result.door ≡ door }
+    ensures unshared { ¬ IsServiceCall (words_of_call (gained (A.told arguments.old) (A.told arguments.new))) → (result.reports.items ≡ []) × (result.doors.items ≡ []) × (result.panels.items ≡ []) }
+    ensures other_panel { words_of_call (gained (A.told arguments.old) (A.told arguments.new)) ≢ script_words → ¬ IsServiceCall (words_of_call (gained (A.told arguments.old) (A.told arguments.new))) → (result.panel ≡ panel) × (result.journal ≡ None) }
+    ensures dialed { ¬ IsClientCall (words_of_call (gained (A.told arguments.old) (A.told arguments.new))) → result.dialed ≡ None }
+{
+    let Ok(words) = words_of_call(alloc, arguments) else {
+        return stopped(alloc, 6, output, door, panel);
+    };
+    match texts(alloc, words.as_slice()) {
+        Ok(Some(texts)) => {
+            let ended = run(
+                rt,
+                alloc,
+                texts.as_slice(),
+                input,
+                output,
+                door,
+                panel,
+                gate,
+            );
+            Finished {
+                code: ExitCode::from(ended.status),
+                output: ended.output,
+                journal: ended.journal,
+                reports: ended.reports,
+                dialed: ended.dialed,
+                door: ended.door,
+                doors: ended.doors,
+                panel: ended.panel,
+                panels: ended.panels,
+            }
+        }
+        Ok(None) => stopped(alloc, 2, output, door, panel),
+        Err(_) => stopped(alloc, 6, output, door, panel),
+    }
+}
+
+/// The end of a call of no command, or of one that found no memory.
+fn stopped<D: Door + Drop, P: Panel + Drop, K: Sink + Drop>(
+    alloc: Global,
+    status: u8,
+    output: K,
+    door: D,
+    panel: P,
+) -> Finished<D, P, K>
+where
+    D::Link: Drop,
+    ensures code { exit_status result.code ≡ status }
+    ensures output { result.output ≡ Some output }
+    ensures unused { (result.journal ≡ None) × (result.reports.items ≡ []) × (result.dialed ≡ None) × (result.door ≡ door) × (result.doors.items ≡ []) × (result.panel ≡ panel) × (result.panels.items ≡ []) }
+{
+    Finished {
+        code: ExitCode::from(status),
+        output: Some(output),
+        journal: None,
+        reports: Vec::new(alloc),
+        dialed: None,
+        door,
+        doors: Vec::new(alloc),
+        panel,
+        panels: Vec::new(alloc),
+    }
+}

@@ -1,0 +1,136 @@
+// Whole inputs with the line that is written of each, and what faults of the source and of the sink come to.
+use crate::runs::{comes_to, pieces, play, play_faults, words_of};
+use std::alloc::{AllocError, Global};
+use std::net::{Net, TcpListener, TcpStream};
+use std::process::Abort;
+use std::rt::Clock;
+use std::sync::Wait;
+use std::thread::Threads;
+
+const ALLOWED: &str =
+    "nexus check 1|subject alice|label alice says ok|goal alice says ok|proof 1|1 label : alice says ok|end|";
+
+// Inputs of `check`; of each all is read.
+const CHECKS: &str =
+    "nexus check 1|subject alice|label alice says ok|goal alice says ok|proof 1|1 label : alice says ok|end| -> 0 none:allowed|
+ -> 3 none:refused line 1|
+nexus check 1|subject alice|goal alice says ok|proof 1|1 label : alice says ok|end| -> 1 none:denied LabelMissing 1|
+nexus check 1|subject a|label a says (p => q)|label a says p|goal a says q|proof 1|1 label : a says (p => q)|2 label : a says p|\
+    3 deduce 1 2 : a says q|end| -> 0 none:allowed|
+nexus check 1|subject a|label a says (p => q)|label a says p|goal a says q|proof 1|1 label : a says (p => q)|2 label : a says p|\
+    3 deduce 2 1 : a says q|end| -> 1 none:denied Line 3 WrongShape|
+nexus check 1|subject bob|label fs says ntp speaksfor fs on TimeNow|yes ntp says Load < 5|goal fs says Load < 5|proof 1|\
+    1 label : fs says ntp speaksfor fs on TimeNow|2 handoff_on 1 : ntp speaksfor fs on TimeNow|3 ask : ntp says Load < 5|\
+    4 sf_on_e 2 3 : fs says Load < 5|end| -> 1 none:denied Line 4 OutOfScope|
+nexus check 1|subject bob|goal true|proof 1|1 hyp : p(?x) and true|2 and_r 1 : true|3 forall_i 2 : forall ?x : true|end| -> 1 none:denied Line 3 NotFresh|
+nexus check 1|subject bob|goal true|proof 1|1 hyp : forall ?x : exists ?y : p(?x, ?y)|2 forall_e 1 [?y] : exists ?y : p(?y, ?y)|\
+    end| -> 1 none:denied Line 2 Capture|
+nexus check 1|subject bob|goal ok|proof 1|1 hyp : ok|end| -> 1 none:denied Line 1 StillOpen|
+nexus check 1|subject bob|goal ntp says ok|proof 1|1 ask : ntp says ok|end| -> 1 none:denied AuthorityNo 1|
+nexus check 1|subject bob|goal ?subject says ok|proof 1|1 label : bob says ok| -> 3 none:refused line 6|";
+
+#[test]
+fn inputs_come_to_their_outcomes(rt: HostRuntime) -> Result<(), AllocError> {
+    play(&rt, rt.alloc(), &["check"], pieces(7, 3), CHECKS)
+}
+
+// The numbers of the read and of the write that fail, and what the run comes to.
+const FAULTS: [(u64, u64, &str); 3] = [(2, 0, "4 some:"), (0, 5, "5 none:allo"), (0, 1, "5 none:")];
+
+#[test]
+fn faults_end_the_program(rt: HostRuntime) -> Result<(), AllocError> {
+    play_faults(&rt, rt.alloc(), &["check"], ALLOWED, &FAULTS)
+}
+
+// What an owner assumes, and a goal of which nothing can come.
+const SAFE: &str =
+    "nexus trust 1|subject bob|label fs says may(bob)|label fs says ntp speaksfor fs on TimeNow|untrusted ntp|loose TimeNow|fact may(bob)|\
+    goal fs says may(eve)|end|";
+
+const TRUSTS: &str =
+    "nexus trust 1|subject bob|label fs says may(bob)|label fs says ntp speaksfor fs on TimeNow|untrusted ntp|loose TimeNow|fact may(bob)|\
+    goal fs says may(eve)|end| -> 0 none:safe|
+nexus trust 1|subject bob|label fs says ntp speaksfor fs|untrusted ntp|goal fs says may(eve)|end| -> 1 none:label 1|
+nexus trust 1|subject bob|untrusted ntp|goal ntp says may(?subject)|end| -> 1 none:goal|
+nexus trust 1|subject bob|fact may(?x)|goal fs says may(eve)|end| -> 3 none:refused line 3|";
+
+#[test]
+fn questions_of_trust_are_answered(rt: HostRuntime) -> Result<(), AllocError> {
+    play(&rt, rt.alloc(), &["trust"], pieces(7, 3), TRUSTS)
+}
+
+const TRUST_FAULTS: [(u64, u64, &str); 2] = [(2, 0, "4 some:"), (0, 3, "5 none:sa")];
+
+#[test]
+fn faults_end_a_question_of_trust(rt: HostRuntime) -> Result<(), AllocError> {
+    play_faults(&rt, rt.alloc(), &["trust"], SAFE, &TRUST_FAULTS)
+}
+
+// The first has delegations by which what bob says counts as said by dave.
+const CHAINS: &str =
+    "nexus prove 1|subject bob|label bob says ok|label carol says bob speaksfor carol|label dave says carol speaksfor dave on ok|\
+    goal dave says ok|end| -> 0 none:proof 2 ; 1 label : bob says ok ; 2 label : carol says bob speaksfor carol ; 3 handoff 2 : bob speaksfor carol ; 4 sf_e 3 1 : carol says ok ; 5 label : dave says carol speaksfor dave on ok ; 6 handoff_on 5 : carol speaksfor dave on ok ; 7 sf_on_e 6 4 : dave says ok ; end|
+nexus prove 1|subject bob|label bob says ok|label dave says carol speaksfor dave on ok|goal dave says ok|end| -> 1 none:no chain|
+nexus prove 1|subject bob|label bob says ok|goal ?subject.x says ok|\
+    end -> 0 none:proof 2 ; 1 label : bob says ok ; 2 sf_sub : bob speaksfor bob.x ; 3 sf_e 2 1 : bob.x says ok ; end|
+nexus prove 1|subject bob|label bob says ok|goal true|end| -> 3 none:refused line 4|";
+
+#[test]
+fn chains_are_found(rt: HostRuntime) -> Result<(), AllocError> {
+    play(&rt, rt.alloc(), &["prove"], pieces(7, 3), CHAINS)
+}
+
+// Each row is words, ` -> ` and what comes of a run with them.
+fn play_words<R>(rt: &R, alloc: Global, rows: &str) -> Result<(), AllocError>
+where
+    R: Net<Listener = TcpListener, Stream = TcpStream> + Clock + Wait + Threads + Sync + Abort,
+{
+    for row in rows.lines() {
+        let (words, due) = row.split_once(" -> ").unwrap_or(("", "two columns"));
+        let words = words_of(alloc, words)?;
+        comes_to(rt, alloc, words.as_slice(), "", ALLOWED, pieces(7, 3), due)?;
+    }
+    Ok(())
+}
+
+// The words of a load, and its line. That of a thousand steps was worked out by a program written apart from this one.
+const LOADS: &str = "core 0 1 -> 0 all:steps 1 idle 0 writes 0 allowed 0 denied 0 length 4|
+core 18446744073709551615 0 -> 0 all:steps 0 idle 0 writes 0 allowed 0 denied 0 length 4|
+drill 0 1 1 -> 0 all:workers 1 requests 8 allowed 1 denied 0 length 6|
+core 7 1000 -> 0 all:steps 1000 idle 869 writes 12 allowed 10 denied 11 length 16|";
+
+#[test]
+fn loads_are_taken(rt: HostRuntime) -> Result<(), AllocError> {
+    let alloc = rt.alloc();
+    play_words(&rt, alloc, LOADS)?;
+    let cut = [(0, 5, "5 all:step")];
+    play_faults(&rt, alloc, &["core", "0", "1"], ALLOWED, &cut)
+}
+
+// Words that are those of no command.
+const OTHER_WORDS: &str = "chec -> 2 all:
+check check -> 2 all:
+script script -> 2 all:
+check script -> 2 all:
+trust trust -> 2 all:
+drill 0 0 1 -> 2 all:
+drill 0 65 1 -> 2 all:
+drill 0 1 0 -> 2 all:
+drill 0 1 4001 -> 2 all:
+drill 0 1 -> 2 all:
+check 0 1 -> 2 all:
+core -> 2 all:
+core 0 -> 2 all:
+core 0 01 -> 2 all:
+core 0 1000001 -> 2 all:
+core 18446744073709551616 1 -> 2 all:
+core 0 1 2 -> 2 all:";
+
+#[test]
+fn other_words_are_not_run(rt: HostRuntime) -> Result<(), AllocError> {
+    let alloc = rt.alloc();
+    play_words(&rt, alloc, OTHER_WORDS)?;
+    let none: [(u64, u64, &str); 1] = [(0, 0, "2 all:")];
+    play_faults(&rt, alloc, &[], ALLOWED, &none)?;
+    play_faults(&rt, alloc, &["core", "0", ""], ALLOWED, &none)
+}

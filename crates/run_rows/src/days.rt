@@ -1,0 +1,328 @@
+// Plays whole days of a service over a door and a panel in memory, and compares what each session is told, line by line, how it ends, and what is
+// written.
+ghost use Rattle.std.specs.Prelude.{◌≤◌, IfOk};
+ghost use Rattle.std.specs.List.{All};
+ghost use Rattle.nx_io.specs.MemoryDoors.{IsFreshPlan, IsFreshWire};
+
+use crate::runs::{asks_of, show, spelled, words_of};
+use authority_ask::MemPanel;
+use journal_text::reply_line;
+use nexus_client::request_of_line;
+use nexus_run::{Ended, run};
+use nx_io::{Bytes, DoorPlan, Gate, MemDoor, MemLink, MemSink, MemSource, OpenGate};
+use session_core::{Report, SessionEnd};
+use session_wire::{ReplyRead, read_reply};
+use std::alloc::{AllocError, Global};
+use std::mem;
+use std::net::{Net, TcpListener, TcpStream};
+use std::process::Abort;
+use std::rt::Clock;
+use std::sync::Wait;
+use std::thread::Threads;
+
+// A service and what comes of it, as lines `name=value`, in which `|` stands for a line feed; what its own lines do not say is said by another text.
+//
+// `words`, and the input, `policy`; `answers` of authorities; `room` and `piece` of the streams; `write`, `reach`, `share`, `listen`, `next` and `send`,
+// the number of the call that fails, 0 or nothing where none does. `talks`, the sessions of the first worker, and `others`, those of the second: `&`
+// stands between sessions, and `|` between the lines of one, which are request lines, `objects N`, which asks for so many objects, and `raw` with bytes.
+//
+// Then `status`; `told`, what the sessions are told, one after another, and how each ends; and `written`. Where these begin with `..` they are the end.
+#[derive(Clone, Copy)]
+pub struct Day<'a> {
+    pub own: &'a str,
+    pub other: &'a str,
+}
+
+// The value that a text has under a name.
+fn value<'a>(text: &'a str, name: &str) -> Option<&'a str> {
+    for line in text.lines() {
+        let (before, value) = line.split_once('=').unwrap_or(("", ""));
+        if before == name {
+            return Some(value);
+        }
+    }
+    None
+}
+
+impl<'a> Day<'a> {
+    fn at(self, name: &str) -> &'a str {
+        match value(self.own, name) {
+            Some(value) => value,
+            None => value(self.other, name).unwrap_or(""),
+        }
+    }
+
+    fn number(self, name: &str) -> u64 {
+        self.at(name).parse::<u64>().unwrap_or(0)
+    }
+
+    fn size(self, name: &str) -> usize {
+        self.at(name).parse::<usize>().unwrap_or(0)
+    }
+}
+
+// The frame of a line.
+fn frame_of(alloc: Global, line: &str) -> Result<Bytes, AllocError> {
+    match request_of_line(alloc, line.as_bytes()) {
+        Ok(frame) => Ok(frame),
+        Err(_) => Err(AllocError),
+    }
+}
+
+// Appends the frame of a line.
+fn push_frame(alloc: Global, line: &str, frames: &mut Vec<u8>) -> Result<(), AllocError> {
+    let frame = frame_of(alloc, line)?;
+    frames.extend_from_slice(frame.as_slice())
+}
+
+// Appends the frames that ask for so many objects.
+fn push_objects(alloc: Global, objects: u64, frames: &mut Vec<u8>) -> Result<(), AllocError> {
+    for number in 0..objects {
+        let line = format!(in alloc; "object o{number}")?;
+        push_frame(alloc, line.as_str(), frames)?;
+    }
+    Ok(())
+}
+
+fn digit(byte: u8) -> u8
+    ensures { result ≤ 15 }
+{
+    match byte {
+        b'0'..=b'9' => byte - b'0',
+        b'a'..=b'f' => byte - b'a' + 10,
+        _ => 0,
+    }
+}
+
+// Appends the bytes that a text spells, two digits each.
+fn push_raw(text: &str, frames: &mut Vec<u8>) -> Result<(), AllocError> {
+    let mut high = None;
+    for byte in text.as_bytes() {
+        high = match high {
+            None => Some(digit(*byte)),
+            Some(high) => {
+                frames.push(high.wrapping_mul(16) | digit(*byte))?;
+                None
+            }
+        };
+    }
+    Ok(())
+}
+
+// Appends what comes of a line of a session.
+fn push_line(alloc: Global, line: &str, frames: &mut Vec<u8>) -> Result<(), AllocError> {
+    match line.split_once(' ') {
+        Some(("objects", count)) => {
+            push_objects(alloc, count.parse::<u64>().unwrap_or(0), frames)
+        }
+        Some(("raw", text)) => push_raw(text, frames),
+        _ => push_frame(alloc, line, frames),
+    }
+}
+
+// What comes over the link of a session.
+fn frames_of(alloc: Global, session: &str) -> Result<Vec<u8>, AllocError> {
+    let mut frames = Vec::new(alloc);
+    for line in session.split('|') {
+        push_line(alloc, line, &mut frames)?;
+    }
+    Ok(frames)
+}
+
+// The link of a session.
+fn link_of(alloc: Global, session: &str, day: Day) -> Result<MemLink, AllocError>
+    ensures { IfOk result IsFreshWire }
+{
+    let frames = frames_of(alloc, session)?;
+    let piece = day.size("piece").max(1);
+    let fails = [day.number("send")];
+    MemLink::new(alloc, frames.as_slice(), 40_000, piece, &[], &fails)
+}
+
+// One link more.
+fn with_link(links: Vec<MemLink>, link: MemLink) -> Result<Vec<MemLink>, AllocError>
+    requires links { All IsFreshWire links.items }
+    requires link { IsFreshWire link }
+    ensures { IfOk result (λ more. All IsFreshWire more.items) }
+{
+    let mut links = links;
+    links.push(link)?;
+    Ok(links)
+}
+
+// The links of the sessions.
+fn links_of(alloc: Global, sessions: &str, day: Day) -> Result<Vec<MemLink>, AllocError>
+    ensures { IfOk result (λ links. All IsFreshWire links.items) }
+{
+    let mut links = Vec::new(alloc);
+    for session in sessions.split('&') {
+        if !session.is_empty() {
+            let link = link_of(alloc, session, day)?;
+            links = with_link(links, link)?;
+        }
+    }
+    Ok(links)
+}
+
+// What the share of a worker will have.
+fn plan_of(alloc: Global, sessions: &str, day: Day) -> Result<DoorPlan, AllocError>
+    ensures { IfOk result IsFreshPlan }
+{
+    let fails = [day.number("next")];
+    Ok(DoorPlan {
+        links: links_of(alloc, sessions, day)?,
+        fails: Vec::from_slice(alloc, &fails)?,
+    })
+}
+
+// The door of two workers.
+fn door_of(alloc: Global, day: Day) -> Result<MemDoor, AllocError> {
+    let first = plan_of(alloc, day.at("talks"), day)?;
+    let second = plan_of(alloc, day.at("others"), day)?;
+    let mut plans = Vec::new(alloc);
+    plans.push(first)?;
+    plans.push(second)?;
+    MemDoor::new(alloc, plans, None, &[day.number("listen")])
+}
+
+// No session here has more replies.
+const MOST_REPLIES: u64 = 1000;
+
+// Appends the lines of the replies in these bytes, each with a `|`.
+fn show_replies(alloc: Global, sent: &[u8], lines: &mut Vec<u8>) -> Result<(), AllocError> {
+    let mut link = MemLink::new(alloc, sent, 0, 1000, &[], &[])?;
+    for _ in 0..MOST_REPLIES {
+        let ReplyRead::Reply(reply) = read_reply(&mut link) else {
+            return Ok(());
+        };
+        let line = reply_line(alloc, &reply)?;
+        lines.extend_from_slice(line.as_slice())?;
+        lines.push(b'|')?;
+    }
+    Ok(())
+}
+
+// How a session ended.
+fn end_line(end: SessionEnd) -> &'static [u8] {
+    match end {
+        SessionEnd::Closed => b"closed|",
+        SessionEnd::Torn => b"torn|",
+        SessionEnd::BadFrame { .. } => b"bad frame|",
+        SessionEnd::ReadFault => b"read fault|",
+        SessionEnd::WriteFault => b"write fault|",
+        SessionEnd::Spent => b"spent|",
+        SessionEnd::Memory => b"memory|",
+    }
+}
+
+// What the sessions were told, and how each ended.
+fn told_in(alloc: Global, reports: &[Report<MemLink>]) -> Result<Vec<u8>, AllocError> {
+    let mut lines = Vec::new(alloc);
+    for report in reports {
+        show_replies(alloc, report.link.sent(), &mut lines)?;
+        lines.extend_from_slice(end_line(report.end))?;
+    }
+    Ok(lines)
+}
+
+// What was written.
+fn written_in(alloc: Global, sink: &MemSink) -> Result<Vec<u8>, AllocError> {
+    let mut lines = Vec::new(alloc);
+    show(sink.sent(), &mut lines)?;
+    Ok(lines)
+}
+
+// Whether the bytes are what is due, or end in it.
+fn is_due(bytes: &[u8], due: &str) -> bool {
+    match due.strip_prefix("..") {
+        Some(end) => bytes.ends_with(end.as_bytes()),
+        None => bytes == due.as_bytes(),
+    }
+}
+
+// A service that is run.
+fn ended<R, G: Gate + Sync>(
+    rt: &R,
+    alloc: Global,
+    day: Day,
+    gate: &G,
+) -> Result<Ended<MemDoor, MemPanel, MemSink>, AllocError>
+where
+    R: Net<Listener = TcpListener, Stream = TcpStream> + Clock + Wait + Threads + Sync,
+{
+    let words = words_of(alloc, day.at("words"))?;
+    let policy = spelled(alloc, day.at("policy"))?;
+    let answers = asks_of(alloc, day.at("answers"))?;
+    let (reach, share, write) = (
+        [day.number("reach")],
+        [day.number("share")],
+        [day.number("write")],
+    );
+    let mut source = MemSource::new(alloc, policy.as_slice(), 100, &[])?;
+    let sink = MemSink::new(alloc, day.size("room"), 11, &write)?;
+    let door = door_of(alloc, day)?;
+    let panel = MemPanel::new(alloc, answers.as_slice(), &reach, &share)?;
+    Ok(run(
+        rt,
+        alloc,
+        words.as_slice(),
+        &mut source,
+        sink,
+        door,
+        panel,
+        gate,
+    ))
+}
+
+// What a service came to is what is due.
+fn compare(
+    rt: &impl Abort,
+    alloc: Global,
+    day: Day,
+    ended: &Ended<MemDoor, MemPanel, MemSink>,
+) -> Result<(), AllocError> {
+    assert_eq!(rt; u64::from(ended.status), day.number("status"));
+    let told = told_in(alloc, ended.reports.as_slice())?;
+    assert!(rt;
+        is_due(told.as_slice(), day.at("told")),
+        "{}",
+        day.at("told")
+    );
+    let Some(sink) = &ended.output else {
+        return Err(AllocError);
+    };
+    let written = written_in(alloc, sink)?;
+    assert!(rt;
+        is_due(written.as_slice(), day.at("written")),
+        "{}",
+        day.at("written")
+    );
+    Ok(())
+}
+
+// A service that is run by this gate comes to what it should. What it hands back is kept, since it takes long to prove that it may be dropped.
+pub fn try_day<R, G: Gate + Sync>(
+    rt: &R,
+    alloc: Global,
+    day: Day,
+    gate: &G,
+) -> Result<(), AllocError>
+where
+    R: Net<Listener = TcpListener, Stream = TcpStream> + Clock + Wait + Threads + Sync + Abort,
+{
+    let ended = ended(rt, alloc, day, gate)?;
+    let compared = compare(rt, alloc, day, &ended);
+    mem::forget(ended);
+    compared
+}
+
+// Each of the days, which empty lines part, comes to what it should.
+pub fn try_days<R>(rt: &R, alloc: Global, days: &str, other: &str) -> Result<(), AllocError>
+where
+    R: Net<Listener = TcpListener, Stream = TcpStream> + Clock + Wait + Threads + Sync + Abort,
+{
+    for own in days.split("\n\n") {
+        try_day(rt, alloc, Day { own, other }, &OpenGate)?;
+    }
+    Ok(())
+}

@@ -1,0 +1,2 @@
+pub mod ScriptEnds
+pub mod ForCallers

@@ -1,0 +1,3 @@
+-- Laws of the runs of `serve` and `client`, which the proofs of other crates may cite.
+pub use Rattle.service_commands.proofs.ClientEnds.{runs_client}
+pub use Rattle.service_commands.proofs.ServiceEnds.{runs_service}

@@ -1,0 +1,3 @@
+pub mod ServiceEnds
+pub mod ClientEnds
+pub mod ForCallers

@@ -1,0 +1,162 @@
+-- How the ends of a run of `serve` come from those of its parts.
+use Rattle.std.proofs.Common.{◌≡◌, ◌≢◌, ◌≤◌, ◌==◌, ◌⊎◌, inl, inr, ℕ, Bool, true, false, List, [], ◌∷◌, length, Option, Some, IsTrue, refl, sym, ap, subst, ◌∙◌, arith}
+use Rattle.std.proofs.lemmas.Bool.Decides.{Decides-eqb}
+use Rattle.std.specs.Io.KnownBytes.{IsAtEnd}
+use Rattle.nx_io.specs.Streams.{Rose, prepended}
+use Rattle.policy_history.specs.declared.events.Entry.{Entry}
+use Rattle.policy_history.specs.declared.heads.Head.{Head}
+use Rattle.policy_history.specs.Events.{EntryTree}
+use Rattle.policy_history.specs.Values.{entry_trees}
+use Rattle.journal_text.specs.PolicyFronts.{IsFront, IsFrontError, wrong, above}
+use Rattle.journal_text.specs.PolicyText.{formless, refusal}
+use Rattle.journal_text.specs.declared.policy_reader.PolicyError.TheVariants.{Bad as BadLine, Refused as RefusedLine}
+use Rattle.nexus_serve.specs.declared.service.ServeEnd.{ServeEnd}
+use Rattle.nexus_serve.specs.declared.service.ServeEnd.TheVariants.{Done, DoorFault, Memory}
+use Rattle.nexus_serve.specs.Views.{DoorView, PanelView}
+use Rattle.nexus_serve.specs.Services.{IsTextSent, Serves, SinkView, whole as text_whole, line_cut, end_cut, done, unopened, no_memory_before, no_memory as lost_memory}
+use Rattle.nexus_serve.specs.Hosting.{AreReady, Hosts, Plan, served, status_of, unheard, unreached, unready}
+use Rattle.run_streams.specs.Runs.{SourceRun, most_bytes}
+use Rattle.run_streams.proofs.ForCallers.{read_whole, not_refused, refusal_status, refused_by, apart}
+use Rattle.run_streams.specs.declared.outcomes.Outcome.{Outcome}
+use Rattle.run_streams.specs.declared.outcomes.Outcome.TheVariants.{Refused}
+use Rattle.service_commands.specs.declared.service.PolicyTextError.{PolicyTextError}
+use Rattle.service_commands.specs.declared.service.PolicyTextError.TheVariants.{Wrong as WrongText, Memory as TextMemory}
+use Rattle.run_streams.specs.Refusals.{IsRefusal, IsRefusalOf, RefusesExactly}
+use Rattle.run_streams.specs.Telling.{Tells, whole, part, nothing}
+use Rattle.service_commands.specs.Inner.ServiceEnds.{IsWrongText}
+use Rattle.service_commands.specs.Services.{EndedView, EndsService, IsCompleteService, IsPolicy, IsPolicyOf, IsServedWhole, IsUnbegun, IsWrongPolicy, RunsService, hosted, hosted_of, in_policy, most_session, no_memory, policy_form, refusal_cut_off, refused, source_failed}
+
+-- ---- The input
+
+pub bad_line : (most : ℕ) (text : List ℕ) (k : ℕ) → IsFrontError most text (BadLine k) → IsWrongPolicy most text k
+bad_line most text k (inl w) = in_policy (wrong formless w)
+bad_line most text k (inr w) = in_policy (above w)
+
+pub refused_line : (most : ℕ) (text : List ℕ) (k number : ℕ) → IsFrontError most text (RefusedLine k number) → IsWrongPolicy most text k
+refused_line most text k number w = in_policy (wrong (refusal w.0) w.2)
+
+pub nothing_left : (rest : List ℕ) → (length rest == 0) ≡ true → rest ≡ []
+nothing_left [] e = refl
+nothing_left (x ∷ xs) e = let none = (Decides-eqb (length (x ∷ xs)) 0).0 e in absurd (omega (arith, none))
+
+pub something_left : (rest : List ℕ) → (length rest == 0) ≡ false → rest ≢ []
+something_left rest e none = let is = (Decides-eqb (length rest) 0).1 (ap length none) in absurd (cc (is, e))
+
+-- a policy that is followed by something is none that is followed by nothing
+pub none_followed : (most : ℕ) (text : List ℕ) (h : Head) (es : List EntryTree) (n : ℕ) (rest : List ℕ)
+    → ((h_too : Head) (es_too : List EntryTree) (m : ℕ) (rest_too : List ℕ) → IsFront most text h_too es_too m rest_too → (h_too ≡ h) × (es_too ≡ es) × (m ≡ n) × (rest_too ≡ rest))
+    → rest ≢ [] → (h_too : Head) (es_too : List EntryTree) → IsPolicy most text h_too es_too → ⊥
+none_followed most text h es n rest only some h_too es_too (small, (m, front)) = some (sym (only h_too es_too m [] front).3)
+
+pub policy_given : (source : SourceRun) (left_now : Option (List ℕ)) (most : ℕ) (h : Head) (es : List EntryTree) (bytes : List ℕ) → source.known ≡ prepended source.given left_now → source.given ≡ bytes
+    → IsTrue source.over → IsAtEnd left_now → IsPolicy most bytes h es → IsPolicyOf source most h es
+policy_given source left_now most h es bytes taken same over end form =
+    record { form = subst (λ (b : List ℕ). IsPolicy most b h es) (sym same) form; whole = read_whole source left_now taken over end }
+
+pub wrong_policy : {most : ℕ} {text : List ℕ} {error : PolicyTextError} {k : ℕ} → error ≡ WrongText k → length text ≤ most_bytes → IsWrongText most text error
+    → (error ≢ TextMemory → (h : Head) (es : List EntryTree) → ¬ IsPolicy most text h es) → IsRefusal (policy_form most) text (Refused k)
+wrong_policy {most = most} {text = text} {k = k} e small w no_form = (small, subst (IsWrongText most text) e w, λ has. no_form (λ m. cc (sym e ∙ m)) has.0 has.1 has.2)
+
+-- ---- The statuses of a service
+
+memory_status : (written : Bool) → status_of written Memory ≡ 6
+memory_status true = refl
+memory_status false = refl
+
+never_three : (written : Bool) (end : ServeEnd) → status_of written end ≡ 3 → ⊥
+never_three true Done e = apart (status_of true Done) 0 3 refl e refl
+never_three true DoorFault e = apart (status_of true DoorFault) 7 3 refl e refl
+never_three true Memory e = apart (status_of true Memory) 6 3 refl e refl
+never_three false Done e = apart (status_of false Done) 5 3 refl e refl
+never_three false DoorFault e = apart (status_of false DoorFault) 5 3 refl e refl
+never_three false Memory e = apart (status_of false Memory) 6 3 refl e refl
+
+-- ---- The run
+
+module _ {P : Type 0} (panel : P → PanelView) (plan : Plan) (source : SourceRun) (sink : SinkView) (door : DoorView) (asked : P) (ended : EndedView P) where
+  -- a refusal that was told
+  pub policy_refusal_ends : (outcome : Outcome) (sink_now : SinkView) → IsRefusalOf (policy_form (most_session plan)) source outcome → source.faults_now ≡ source.faults → IsUnbegun door asked ended
+      → ended.output ≡ Some sink_now → Tells outcome sink.sent sink_now.sent sink.faults sink_now.faults ended.status → EndsService panel plan source sink door asked ended
+  policy_refusal_ends outcome sink_now r still idle output (whole e w f) =
+      refused outcome sink_now (e ∙ refusal_status (policy_form (most_session plan)) source.given outcome r.refusal) r idle output w still f
+  policy_refusal_ends outcome sink_now r still idle output (part e w f) = refusal_cut_off outcome sink_now e r idle output w still f
+  policy_refusal_ends outcome sink_now r still idle output (nothing e w f) =
+      let same : sink_now ≡ sink = ap (λ s. record { sent = s; faults = sink_now.faults }) w ∙ ap (λ n. record { sent = sink.sent; faults = n }) f in
+      no_memory e idle (output ∙ ap Some same) still
+
+  module _ (unfailed : (sink_now : SinkView) → ended.output ≡ Some sink_now → Rose sink.faults sink_now.faults → ⊥) (head : Head) (opening : List Entry) (written : Bool) (end : ServeEnd)
+      (policy : IsPolicyOf source (most_session plan) head (entry_trees opening)) (doors : List DoorView) (panels : List P)
+      (ready : AreReady panel plan head door ended.door (panel asked) (panel ended.panel) doors panels) (status : ended.status ≡ status_of written end) where
+    served_whole : written ≡ true → Serves panel plan.sessions head opening sink doors panels (hosted_of ended written end).served → IsServedWhole panel plan source sink door asked ended
+    served_whole is serves = record {
+      head = head;
+      opening = opening;
+      end = end;
+      doors = doors;
+      panels = panels;
+      policy = policy;
+      ready = ready;
+      serves = subst (λ w. Serves panel plan.sessions head opening sink doors panels (hosted_of ended w end).served) is serves;
+      status = status ∙ ap (λ w. status_of w end) is;
+    }
+
+    had_no_memory : end ≡ Memory → ended.status ≡ 6
+    had_no_memory is = status ∙ ap (status_of written) is ∙ memory_status written
+
+    is_written : (h : Head) (es : List EntryTree) (sink_now : SinkView) → ended.output ≡ Some sink_now → IsTextSent h es written sink sink_now → written ≡ true
+    is_written h es sink_now output (text_whole is sent) = is
+    is_written h es sink_now output (line_cut entry un accepted cut rose) = absurd (unfailed sink_now output rose)
+    is_written h es sink_now output (end_cut un cut rose) = absurd (unfailed sink_now output rose)
+
+    complete_serves : Serves panel plan.sessions head opening sink doors panels (hosted_of ended written end).served → (ended.status ≡ 6) ⊎ IsServedWhole panel plan source sink door asked ended
+    complete_serves (done es sink_now journal output serves text) = inr (served_whole (is_written head (entry_trees es) sink_now output text) (done es sink_now journal output serves text))
+    complete_serves (unopened sink_now journal output cut rose reports ds ps un e) = absurd (unfailed sink_now output rose)
+    complete_serves (no_memory_before journal output reports ds ps un e) = inl (had_no_memory e)
+    complete_serves (lost_memory journal un e) = inl (had_no_memory e)
+
+  complete_hosts : ((sink_now : SinkView) → ended.output ≡ Some sink_now → Rose sink.faults sink_now.faults → ⊥) → (Rose door.faults ended.door.faults → ⊥) → (Rose (panel asked).faults (panel ended.panel).faults → ⊥)
+      → (head : Head) (opening : List Entry) (written : Bool) (end : ServeEnd) → IsPolicyOf source (most_session plan) head (entry_trees opening)
+      → Hosts panel plan head opening sink door asked (hosted_of ended written end) → (ended.status ≡ 6) ⊎ IsServedWhole panel plan source sink door asked ended
+  complete_hosts sunk shut down head opening written end policy (served ds ps ready serves status) = complete_serves sunk head opening written end policy ds ps ready status serves
+  complete_hosts sunk shut down head opening written end policy (unreached status idle d s a rose) = absurd (down rose)
+  complete_hosts sunk shut down head opening written end policy (unheard status idle reached failed) = absurd (shut failed.faults)
+  complete_hosts sunk shut down head opening written end policy (unready status idle reached held) = inl status
+
+  complete : EndsService panel plan source sink door asked ended → IsCompleteService panel plan source sink door asked ended
+  complete (hosted h es written end policy still hosts) = λ p q r s form. complete_hosts q r s h es written end policy hosts
+  complete (refused outcome sink_now e r idle output sent f g) = λ p q u v form. absurd (form (refused_by (policy_form (most_session plan)) source.given outcome r.refusal))
+  complete (refusal_cut_off outcome sink_now e r idle output sent f g) = λ p q u v form. absurd (q sink_now output (rw g (omega arith)))
+  complete (source_failed e idle output f) = λ p q u v form. absurd (p (rw f (omega arith)))
+  complete (no_memory e idle output f) = λ p q u v form. inl e
+
+  not_three : (h : Head) (opening : List Entry) (written : Bool) (end : ServeEnd) → Hosts panel plan h opening sink door asked (hosted_of ended written end) → ended.status ≡ 3 → ⊥
+  not_three h opening written end (served ds ps ready serves status) e = never_three written end (sym status ∙ e)
+  not_three h opening written end (unreached status idle d s a rose) e = apart ended.status 8 3 status e refl
+  not_three h opening written end (unheard status idle reached failed) e = apart ended.status 7 3 status e refl
+  not_three h opening written end (unready status idle reached held) e = apart ended.status 6 3 status e refl
+
+  refuses : EndsService panel plan source sink door asked ended → RefusesExactly (policy_form (most_session plan)) source ended.status
+  refuses (hosted h opening written end policy still hosts) = λ x y z.
+      ((λ three. absurd (not_three h opening written end hosts three)), λ r. absurd (not_refused (policy_form (most_session plan)) source.given policy.form.0 (h, entry_trees opening, policy.form) r))
+  refuses (refused outcome sink_now e r idle output sent f g) = λ x y z. ((λ three. refused_by (policy_form (most_session plan)) source.given outcome r.refusal), λ is. e)
+  refuses (refusal_cut_off outcome sink_now e r idle output sent f g) = λ x y z. absurd (y e)
+  refuses (source_failed e idle output f) = λ x y z. absurd (x e)
+  refuses (no_memory e idle output f) = λ x y z. absurd (z e)
+
+  -- what ends a run of `serve` is a run of `serve`
+  pub runs_service : EndsService panel plan source sink door asked ended → RunsService panel plan source sink door asked ended
+  runs_service e = record { ends = e; complete = complete e; refuses = refuses e }
+
+  -- the panel that is handed back was asked nothing: its shares were
+  hosts_said : (h : Head) (opening : List Entry) (written : Bool) (end : ServeEnd) → Hosts panel plan h opening sink door asked (hosted_of ended written end) → (panel ended.panel).said ≡ (panel asked).said
+  hosts_said h opening written end (served ds ps ready serves status) = ready.reached.said
+  hosts_said h opening written end (unreached status idle d s a rose) = s
+  hosts_said h opening written end (unheard status idle reached failed) = reached.said
+  hosts_said h opening written end (unready status idle reached held) = reached.said
+
+  pub service_said : EndsService panel plan source sink door asked ended → (panel ended.panel).said ≡ (panel asked).said
+  service_said (hosted h es written end policy still hosts) = hosts_said h es written end hosts
+  service_said (refused outcome sink_now e r idle output sent f g) = ap (λ p. (panel p).said) idle.panel_is
+  service_said (refusal_cut_off outcome sink_now e r idle output sent f g) = ap (λ p. (panel p).said) idle.panel_is
+  service_said (source_failed e idle output f) = ap (λ p. (panel p).said) idle.panel_is
+  service_said (no_memory e idle output f) = ap (λ p. (panel p).said) idle.panel_is

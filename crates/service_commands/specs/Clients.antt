@@ -1,0 +1,91 @@
+-- How a run of `client` ends: the status, what the source gave, the link that was dialed, and what was written.
+use Rattle.std.specs.Prelude.{◌≡◌, ◌⊎◌, ◌≤◌, ℕ, List, [], length, true, Option, Some, None}
+use Rattle.nx_io.specs.Doors.{KeepsLinks}
+use Rattle.nx_io.specs.Streams.{MayRise, Rose, one_more}
+use Rattle.nexus_client.specs.declared.ends.TalkEnd.{TalkEnd}
+use Rattle.nexus_client.specs.declared.ends.TalkEnd.TheVariants.{Done, Unreached, Broken, Ended, Unwritten, Memory}
+use Rattle.nexus_client.specs.LineFrames.{AreFramesOfLines, IsWrongLine}
+use Rattle.nexus_client.specs.TalkLaws.{IsInOrder}
+use Rattle.nexus_client.specs.Talks.{Talks, link_faults_after, sink_faults_after}
+use Rattle.nexus_serve.specs.Views.{DoorView, LinkView}
+use Rattle.run_streams.specs.Runs.{IsProperPart, IsReadWhole, SinkRun, SourceRun, most_bytes}
+use Rattle.run_streams.specs.declared.outcomes.Outcome.{Outcome}
+use Rattle.run_streams.specs.Outcomes.{output_of}
+use Rattle.run_streams.specs.Refusals.{Form, IsRefusalOf, IsRefusedInput, RefusesExactly, form_of}
+
+-- the form of the inputs of `client`: lines of requests
+abbrev pub requests_form : Form
+requests_form = form_of (λ text. (frames : List (List ℕ)) × AreFramesOfLines text frames) IsWrongLine
+
+-- the input is the lines of the requests with these frames
+pub record AreRequestsOf (source : SourceRun) (frames : List (List ℕ)) : Type 0 where
+  pub small : length source.given ≤ most_bytes
+  pub form : AreFramesOfLines source.given frames
+  pub whole : IsReadWhole source
+
+-- the status of a talk that ended so
+abbrev pub client_status : TalkEnd → ℕ
+client_status Done = 0
+client_status Unwritten = 5
+client_status Memory = 6
+client_status Unreached = 7
+client_status Broken = 7
+client_status Ended = 9
+
+-- The link was dialed at this address, and over it a talk with these requests ended so, the link being closed then. All that was written is the lines of the
+-- replies; and no count rose but that of what failed. A link may also fail as it is closed.
+pub record HasTalked (address : List ℕ) (frames : List (List ℕ)) (sink : SinkRun) (link : LinkView) (end : TalkEnd) : Type 0 where
+  pub talks : Talks frames link.sent link.taken sink.sent link.over end
+  pub in_order : IsInOrder frames link.sent link.taken sink.sent link.over end
+  pub toward : link.toward ≡ Some address
+  pub closed : link.closed ≡ true
+  pub place : link.place ≡ 0
+  pub link_count : MayRise (link_faults_after end 0) link.faults
+  pub sink_count : sink.faults_now ≡ sink_faults_after end sink.faults
+
+-- the door gave no link by `next`, listens where it listened, and its count stands still
+pub record IsKept (door door_now : DoorView) : Type 0 where
+  pub links : KeepsLinks door.links door_now.links door.over door_now.over door.gave door_now.gave
+  pub listened : door_now.listened ≡ door.listened
+  pub faults : door_now.faults ≡ door.faults
+
+-- the same, but that it failed once
+pub record HasRefused (door door_now : DoorView) : Type 0 where
+  pub links : KeepsLinks door.links door_now.links door.over door_now.over door.gave door_now.gave
+  pub listened : door_now.listened ≡ door.listened
+  pub faults : door_now.faults ≡ one_more door.faults
+
+-- `client` ends with this status: the requests were read, and a talk over a link to the address ended; or no link could be dialed; or a refusal is written, or a
+-- proper part of it; or the source failed; or there was no memory for the input. Where no link was dialed nothing else is written.
+pub data EndsClient (address : List ℕ) (source : SourceRun) (sink : SinkRun) (door door_now : DoorView) (dialed : Option LinkView) (status : ℕ) : Type 0 where
+  talked : (frames : List (List ℕ)) (link : LinkView) (end : TalkEnd) → dialed ≡ Some link → status ≡ client_status end → AreRequestsOf source frames
+      → HasTalked address frames sink link end → IsKept door door_now → source.faults_now ≡ source.faults → EndsClient address source sink door door_now dialed status
+  unreached : (frames : List (List ℕ)) → dialed ≡ None → status ≡ 7 → AreRequestsOf source frames → HasRefused door door_now → sink.sent ≡ []
+      → source.faults_now ≡ source.faults → sink.faults_now ≡ sink.faults → EndsClient address source sink door door_now dialed status
+  refused : (outcome : Outcome) → dialed ≡ None → status ≡ 3 → IsRefusalOf requests_form source outcome → door_now ≡ door → sink.sent ≡ output_of outcome
+      → source.faults_now ≡ source.faults → sink.faults_now ≡ sink.faults → EndsClient address source sink door door_now dialed status
+  refusal_cut_off : (outcome : Outcome) → dialed ≡ None → status ≡ 5 → IsRefusalOf requests_form source outcome → door_now ≡ door → IsProperPart sink.sent (output_of outcome)
+      → source.faults_now ≡ source.faults → sink.faults_now ≡ one_more sink.faults → EndsClient address source sink door door_now dialed status
+  source_failed : dialed ≡ None → status ≡ 4 → door_now ≡ door → sink.sent ≡ [] → source.faults_now ≡ one_more source.faults → sink.faults_now ≡ sink.faults
+      → EndsClient address source sink door door_now dialed status
+  no_memory : dialed ≡ None → status ≡ 6 → door_now ≡ door → sink.sent ≡ [] → source.faults_now ≡ source.faults → sink.faults_now ≡ sink.faults
+      → EndsClient address source sink door door_now dialed status
+
+-- a talk was had to this end
+abbrev pub HasEnded : List ℕ → SourceRun → SinkRun → Option LinkView → ℕ → TalkEnd → Type 0
+HasEnded address source sink dialed status end =
+    (frames : List (List ℕ)) × (link : LinkView) × (dialed ≡ Some link) × AreRequestsOf source frames × HasTalked address frames sink link end × (status ≡ client_status end)
+
+-- Where neither source nor sink, neither door nor link failed, an input that is not refused is talked over to the last reply, or until the link ended or what came was no
+-- reply; or there was no memory.
+abbrev pub IsCompleteClient : List ℕ → SourceRun → SinkRun → DoorView → DoorView → Option LinkView → ℕ → Type 0
+IsCompleteClient address source sink door door_now dialed status =
+    ¬ Rose source.faults source.faults_now → ¬ Rose sink.faults sink.faults_now → ¬ Rose door.faults door_now.faults
+    → ((link : LinkView) → dialed ≡ Some link → link.faults ≡ 0) → ¬ IsRefusedInput requests_form source.given
+    → (status ≡ 6) ⊎ HasEnded address source sink dialed status Done ⊎ HasEnded address source sink dialed status Ended
+
+-- a run of `client`
+pub record RunsClient (address : List ℕ) (source : SourceRun) (sink : SinkRun) (door door_now : DoorView) (dialed : Option LinkView) (status : ℕ) : Type 0 where
+  pub ends : EndsClient address source sink door door_now dialed status
+  pub complete : IsCompleteClient address source sink door door_now dialed status
+  pub refuses : RefusesExactly requests_form source status

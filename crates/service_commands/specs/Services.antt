@@ -1,0 +1,133 @@
+-- How a run of `serve` ends: the status, what the source gave, what is handed back, and what was written.
+use Rattle.std.specs.Prelude.{◌≡◌, ◌≢◌, ◌*◌, ◌+◌, ◌-◌, ◌^◌, ◌⊎◌, ◌≤◌, ◌∷◌, ℕ, List, [], length, codes, Bool, true, Option, Some, None}
+use Rattle.nal_term.specs.Secrets.{IsSecret}
+use Rattle.nx_io.specs.Streams.{Rose, Sends, SendsPart, one_more}
+use Rattle.policy_history.specs.declared.events.Entry.{Entry}
+use Rattle.policy_history.specs.declared.heads.Head.{Head}
+use Rattle.policy_history.specs.Events.{EntryTree}
+use Rattle.policy_history.specs.Values.{History, entry_trees}
+use Rattle.journal_text.specs.PolicyFronts.{IsFront, IsWrongFront}
+use Rattle.nexus_serve.specs.declared.service.ServeEnd.{ServeEnd}
+use Rattle.nexus_serve.specs.Views.{DoorView, PanelView, ReportView}
+use Rattle.nexus_serve.specs.Services.{Serves, SinkView}
+use Rattle.nexus_serve.specs.Hosting.{AreReady, HostedView, Hosts, Plan, status_of}
+use Rattle.run_streams.specs.Runs.{IsReadWhole, SourceRun, most_bytes}
+use Rattle.run_streams.specs.declared.outcomes.Outcome.{Outcome}
+use Rattle.run_streams.specs.Outcomes.{output_of}
+use Rattle.run_streams.specs.Refusals.{Form, IsRefusalOf, IsRefusedInput, RefusesExactly, form_of}
+
+-- an address: 1 to 64 visible bytes that are not `help` and do not begin with `-`
+pub record IsAddress (address : List ℕ) : Type 0 where
+  pub visible : IsSecret address
+  pub no_help : address ≢ codes "help"
+  pub no_option : (rest : List ℕ) → address ≢ 45 ∷ rest
+
+-- a service is within the bounds
+pub record IsService (address : List ℕ) (workers sessions : ℕ) : Type 0 where
+  pub address_is : IsAddress address
+  pub workers_are : (1 ≤ workers) × (workers ≤ 64)
+  pub sessions_are : (1 ≤ sessions) × (sessions ≤ 65536)
+
+-- it is handed back, and this holds of it
+abbrev pub HandsBack : {K : Type 0} → Option K → (K → Type 0) → Type 0
+HandsBack None Property = ⊥
+HandsBack (Some k) Property = Property k
+
+-- the greatest number that a session of the policy's entries may have, so that there are numbers for all sessions of the service
+abbrev pub most_session : Plan → ℕ
+most_session plan = 2 ^ 64 - 2 - plan.workers * plan.sessions
+
+-- the text is that of a policy with this head and these entries, in which no session has a greater number than this
+abbrev pub IsPolicy : ℕ → List ℕ → Head → List EntryTree → Type 0
+IsPolicy most text h es = (length text ≤ most_bytes) × ((n : ℕ) × IsFront most text h es n [])
+
+-- line k is the lowest that is wrong: one of the policy's, or the first behind it
+pub data IsWrongPolicy (most : ℕ) (text : List ℕ) (k : ℕ) : Type 0 where
+  in_policy : IsWrongFront most text k → IsWrongPolicy most text k
+  behind : {n : ℕ} {h : Head} {es : List EntryTree} {rest : List ℕ} → IsFront most text h es n rest → rest ≢ [] → k ≡ n + 1 → IsWrongPolicy most text k
+
+-- the form of the policies in which no session has a greater number than this
+abbrev pub policy_form : ℕ → Form
+policy_form most = form_of (λ text. (h : Head) × (es : List EntryTree) × IsPolicy most text h es) (IsWrongPolicy most)
+
+-- the input is that of this policy
+pub record IsPolicyOf (source : SourceRun) (most : ℕ) (h : Head) (es : List EntryTree) : Type 0 where
+  pub form : IsPolicy most source.given h es
+  pub whole : IsReadWhole source
+
+-- what the program hands back behind a service
+pub record EndedView (P : Type 0) : Type 0 where
+  pub status : ℕ
+  pub output : Option SinkView
+  pub journal : Option History
+  pub reports : List ReportView
+  pub door : DoorView
+  pub doors : List DoorView
+  pub panel : P
+  pub panels : List P
+
+-- the same as what a service at an address hands back, whose text was written whole or not, and which ended so
+abbrev pub hosted_of : {P : Type 0} → EndedView P → Bool → ServeEnd → HostedView P
+hosted_of ended written end = record {
+  status = ended.status;
+  door = ended.door;
+  panel = ended.panel;
+  served = record {
+    journal = ended.journal;
+    sink = ended.output;
+    reports = ended.reports;
+    doors = ended.doors;
+    panels = ended.panels;
+    written = written;
+    end = end;
+  };
+}
+
+-- nothing was begun: door and panel are as they were, and there is no journal and no report
+pub record IsUnbegun {P : Type 0} (door : DoorView) (panel : P) (ended : EndedView P) : Type 0 where
+  pub journal : ended.journal ≡ None
+  pub reports : ended.reports ≡ []
+  pub door_is : ended.door ≡ door
+  pub doors : ended.doors ≡ []
+  pub panel_is : ended.panel ≡ panel
+  pub panels : ended.panels ≡ []
+
+-- `serve` ends so: a policy was read, and hosted by the plan; or the input was refused, and that is written, or a proper part of it; or the source
+-- failed; or there was no memory for the input. A failure of the source or the sink that ends it before it is hosted is the only one.
+pub data EndsService {P : Type 0} (panel : P → PanelView) (plan : Plan) (source : SourceRun) (sink : SinkView) (door : DoorView) (asked : P) (ended : EndedView P) : Type 0 where
+  hosted : (h : Head) (opening : List Entry) (written : Bool) (end : ServeEnd) → IsPolicyOf source (most_session plan) h (entry_trees opening) → source.faults_now ≡ source.faults
+      → Hosts panel plan h opening sink door asked (hosted_of ended written end) → EndsService panel plan source sink door asked ended
+  refused : (outcome : Outcome) (sink_now : SinkView) → ended.status ≡ 3 → IsRefusalOf (policy_form (most_session plan)) source outcome → IsUnbegun door asked ended
+      → ended.output ≡ Some sink_now → Sends sink.sent sink_now.sent (output_of outcome) → source.faults_now ≡ source.faults → sink_now.faults ≡ sink.faults
+      → EndsService panel plan source sink door asked ended
+  refusal_cut_off : (outcome : Outcome) (sink_now : SinkView) → ended.status ≡ 5 → IsRefusalOf (policy_form (most_session plan)) source outcome → IsUnbegun door asked ended
+      → ended.output ≡ Some sink_now → SendsPart sink.sent sink_now.sent (output_of outcome) → source.faults_now ≡ source.faults → sink_now.faults ≡ one_more sink.faults
+      → EndsService panel plan source sink door asked ended
+  source_failed : ended.status ≡ 4 → IsUnbegun door asked ended → ended.output ≡ Some sink → source.faults_now ≡ one_more source.faults → EndsService panel plan source sink door asked ended
+  no_memory : ended.status ≡ 6 → IsUnbegun door asked ended → ended.output ≡ Some sink → source.faults_now ≡ source.faults → EndsService panel plan source sink door asked ended
+
+-- a policy was read and served by the plan, and this is how: its whole text was written
+pub record IsServedWhole {P : Type 0} (panel : P → PanelView) (plan : Plan) (source : SourceRun) (sink : SinkView) (door : DoorView) (asked : P) (ended : EndedView P) : Type 0 where
+  pub head : Head
+  pub opening : List Entry
+  pub end : ServeEnd
+  pub doors : List DoorView
+  pub panels : List P
+  pub policy : IsPolicyOf source (most_session plan) head (entry_trees opening)
+  pub ready : AreReady panel plan head door ended.door (panel asked) (panel ended.panel) doors panels
+  pub serves : Serves panel plan.sessions head opening sink doors panels (hosted_of ended true end).served
+  pub status : ended.status ≡ status_of true end
+
+-- Where neither the source nor the sink failed, nor the door or the panel as the service was made ready, an input that is not refused is served, and its
+-- text is written whole; or there was no memory.
+abbrev pub IsCompleteService : {P : Type 0} → (P → PanelView) → Plan → SourceRun → SinkView → DoorView → P → EndedView P → Type 0
+IsCompleteService panel plan source sink door asked ended =
+    ¬ Rose source.faults source.faults_now → ((sink_now : SinkView) → ended.output ≡ Some sink_now → ¬ Rose sink.faults sink_now.faults) → ¬ Rose door.faults ended.door.faults
+    → ¬ Rose (panel asked).faults (panel ended.panel).faults → ¬ IsRefusedInput (policy_form (most_session plan)) source.given
+    → (ended.status ≡ 6) ⊎ IsServedWhole panel plan source sink door asked ended
+
+-- a run of `serve`
+pub record RunsService {P : Type 0} (panel : P → PanelView) (plan : Plan) (source : SourceRun) (sink : SinkView) (door : DoorView) (asked : P) (ended : EndedView P) : Type 0 where
+  pub ends : EndsService panel plan source sink door asked ended
+  pub complete : IsCompleteService panel plan source sink door asked ended
+  pub refuses : RefusesExactly (policy_form (most_session plan)) source ended.status

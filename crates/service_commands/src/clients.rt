@@ -1,0 +1,103 @@
+//! A run of `client`.
+ghost use Rattle.std.specs.Prelude.{◌≡◌, ◌≢◌, ◌⊎◌, IfErr, IfOk, None, option_map};
+ghost use Rattle.nx_io.specs.Streams.{Gave, Grows};
+ghost use Rattle.run_streams.specs.Runs.{sink_run, source_run};
+ghost use Rattle.nexus_serve.specs.Views.{door_view, link_view};
+ghost use Rattle.service_commands.specs.Clients.{AreRequestsOf, EndsClient, client_status, requests_form};
+ghost use Rattle.run_streams.specs.Inner.Unread.{IsUnread, faults_after_input};
+
+use nexus_client::{Requests, RequestsError, Talk, TalkEnd, read_requests, talk};
+use nx_io::{Door, Sink, Source};
+use run_streams::{Outcome, ReadError, Unread, read_whole, tell};
+use std::alloc::Global;
+use std::net::{Net, TcpListener, TcpStream};
+use std::rt::Clock;
+
+/// What a run of `client` leaves.
+#[derive(Drop)]
+pub struct ClientEnd<L> {
+    /// The status that the operating system is given. `docs/FORMATS.md`, "Statuses", says what each means.
+    pub status: u8,
+    /// The link that was dialed, if any.
+    pub dialed: Option<L>,
+}
+
+/// Reads request lines, and sends each over a link to the address, after the line of the reply to the one before was written.
+pub fn client<R, S: Source, K: Sink, D: Door>(
+    rt: &R,
+    alloc: Global,
+    address: &[u8],
+    input: &mut S,
+    output: &mut K,
+    door: &mut D,
+) -> ClientEnd<D::Link>
+where
+    R: Net<Listener = TcpListener, Stream = TcpStream> + Clock,
+    D::Link: Drop,
+    ensures gave { Gave (S.left input.old) (S.left input.new) (S.given input.old) (S.given input.new) }
+    ensures sent { Grows (K.sent output.old) (K.sent output.new) }
+    ensures untouched { result.dialed ≡ None → (result.status ≡ 4) ⊎ (result.status ≡ 6) → output.new ≡ output.old }
+    ensures undialed { result.dialed ≡ None → result.status ≢ 7 → door.new ≡ door.old }
+    ensures ends { EndsClient address.now
+        (source_run (S.left input.old) (S.given input.old) (S.given input.new) (S.over input.new) (S.faults input.old) (S.faults input.new))
+        (sink_run (K.sent output.old) (K.sent output.new) (K.faults output.old) (K.faults output.new))
+        (door_view (link_view D.Link.left D.Link.taken D.Link.sent D.Link.over D.Link.closed D.Link.place D.Link.toward D.Link.faults) D.links D.over D.gave D.listened D.faults door.old)
+        (door_view (link_view D.Link.left D.Link.taken D.Link.sent D.Link.over D.Link.closed D.Link.place D.Link.toward D.Link.faults) D.links D.over D.gave D.listened D.faults door.new)
+        (option_map (link_view D.Link.left D.Link.taken D.Link.sent D.Link.over D.Link.closed D.Link.place D.Link.toward D.Link.faults) result.dialed) result.status }
+{
+    match read_lines(alloc, input) {
+        Ok(requests) => {
+            let Talk { dialed, end } = talk(rt, alloc, address, &requests, door, output);
+            ClientEnd {
+                status: status_of(end),
+                dialed,
+            }
+        }
+        Err(Unread::Refused(outcome)) => ClientEnd {
+            status: tell(alloc, output, outcome),
+            dialed: None,
+        },
+        Err(Unread::Failed) => ClientEnd {
+            status: 4,
+            dialed: None,
+        },
+        Err(Unread::Memory) => ClientEnd {
+            status: 6,
+            dialed: None,
+        },
+    }
+}
+
+/// Reads the input, which is the lines of requests.
+fn read_lines<S: Source>(alloc: Global, input: &mut S) -> Result<Requests, Unread>
+    ensures gave { Gave (S.left input.old) (S.left input.new) (S.given input.old) (S.given input.new) }
+    ensures ok { IfOk result (AreRequestsOf
+        (source_run (S.left input.old) (S.given input.old) (S.given input.new) (S.over input.new) (S.faults input.old) (S.faults input.new))) }
+    ensures err { IfErr result (IsUnread requests_form
+        (source_run (S.left input.old) (S.given input.old) (S.given input.new) (S.over input.new) (S.faults input.old) (S.faults input.new))) }
+    ensures count { S.faults input.new ≡ faults_after_input result (S.faults input.old) }
+{
+    match read_whole(alloc, input) {
+        Ok(text) => match read_requests(alloc, text.as_slice()) {
+            Ok(requests) => Ok(requests),
+            Err(RequestsError::Wrong { line }) => Err(Unread::Refused(Outcome::Refused { line })),
+            Err(RequestsError::Memory) => Err(Unread::Memory),
+        },
+        Err(ReadError::TooLarge) => Err(Unread::Refused(Outcome::TooLarge)),
+        Err(ReadError::Failed) => Err(Unread::Failed),
+        Err(ReadError::Memory) => Err(Unread::Memory),
+    }
+}
+
+/// The status of a talk that ended so.
+fn status_of(end: TalkEnd) -> u8
+    ensures { result ≡ client_status end }
+{
+    match end {
+        TalkEnd::Done => 0,
+        TalkEnd::Unwritten => 5,
+        TalkEnd::Memory => 6,
+        TalkEnd::Unreached | TalkEnd::Broken => 7,
+        TalkEnd::Ended => 9,
+    }
+}

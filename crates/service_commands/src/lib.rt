@@ -1,0 +1,10 @@
+//! The commands that use the door: `serve`, which serves the sessions of its workers, and `client`, which talks to a service.
+#![tactic(auto)]
+
+mod clients;
+mod ends;
+mod service;
+
+pub use clients::{ClientEnd, client};
+pub use ends::Ended;
+pub use service::{Service, run_service};

@@ -1,0 +1,239 @@
+//! A run of `serve`.
+ghost use Rattle.std.specs.Prelude.{◌≡◌, ◌≢◌, ◌⊎◌, ◌≤◌, ◌+◌, ◌*◌, ◌-◌, ◌^◌, ℕ, List, [], IfErr, IfOk, None, Some, length, map, option_map};
+ghost use Rattle.nx_io.specs.Streams.{Gave};
+ghost use Rattle.policy_history.specs.Values.{entry_trees};
+ghost use Rattle.policy_history.specs.Events.{EntryTree};
+ghost use Rattle.policy_history.specs.declared.heads.Head.{Head};
+ghost use Rattle.journal_text.specs.PolicyFronts.{AreBelow};
+ghost use Rattle.run_streams.specs.Runs.{most_bytes, source_run};
+ghost use Rattle.nexus_serve.specs.Views.{door_view, link_view, panel_view, report_view};
+ghost use Rattle.service_commands.specs.Services.{EndsService, IsPolicy, IsPolicyOf, IsService, IsUnbegun, hosted_of, policy_form};
+ghost use Rattle.run_streams.specs.Inner.Unread.{faults_after_input, IsUnread};
+ghost use Rattle.service_commands.specs.Inner.ServiceEnds.{IsWrongText};
+
+use crate::ends::Ended;
+use authority_ask::Panel;
+use journal_text::{PolicyError, PolicyFront, read_front};
+use nexus_serve::{Hosted, Served, host};
+use nx_io::{Door, Gate, Link, Sink, Source};
+use policy_history::Journal;
+use run_streams::{Outcome, ReadError, Unread, read_whole, tell};
+use std::alloc::Global;
+use std::net::{Net, TcpListener, TcpStream};
+use std::rt::Clock;
+use std::sync::Wait;
+use std::thread::Threads;
+
+/// A service that the program can be asked to run: where it listens, how many workers it has, and how many sessions each serves at
+/// most.
+#[derive(Clone, Copy)]
+pub struct Service<'a> {
+    pub address: &'a [u8],
+    pub workers: u64,
+    pub sessions: u64,
+}
+
+/// Reads a policy, and serves the sessions of its workers. It stands apart, so that the other commands have no room on the stack for
+/// a service.
+#[inline(never)]
+pub fn run_service<R, S: Source, K, D, P, G>(
+    rt: &R,
+    alloc: Global,
+    service: Service,
+    input: &mut S,
+    output: K,
+    door: D,
+    panel: P,
+    gate: &G,
+) -> Ended<D, P, K>
+where
+    K: Sink + Send + Drop,
+    D: Door + Send + Drop,
+    D::Link: Link + Send + Drop,
+    P: Panel + Send + Drop,
+    G: Gate + Sync,
+    R: Net<Listener = TcpListener, Stream = TcpStream> + Clock + Wait + Threads + Sync,
+    requires within { IsService service.address.now service.workers service.sessions }
+    ensures gave { Gave (S.left input.old) (S.left input.new) (S.given input.old) (S.given input.new) }
+    ensures ends { EndsService (panel_view P.said P.asks P.reached P.faults) (record { address = service.entry.address.now; workers = service.entry.workers; sessions = service.entry.sessions })
+        (source_run (S.left input.old) (S.given input.old) (S.given input.new) (S.over input.new) (S.faults input.old) (S.faults input.new))
+        (record { sent = K.sent output; faults = K.faults output }) (door_view (link_view D.Link.left D.Link.taken D.Link.sent D.Link.over D.Link.closed D.Link.place D.Link.toward D.Link.faults) D.links D.over D.gave D.listened D.faults door) panel
+        (record {
+          status = result.status;
+          output = option_map (λ k. record { sent = K.sent k; faults = K.faults k }) result.output;
+          journal = result.journal;
+          reports = map (report_view (link_view D.Link.left D.Link.taken D.Link.sent D.Link.over D.Link.closed D.Link.place D.Link.toward D.Link.faults)) result.reports.items;
+          door = (door_view (link_view D.Link.left D.Link.taken D.Link.sent D.Link.over D.Link.closed D.Link.place D.Link.toward D.Link.faults) D.links D.over D.gave D.listened D.faults result.door);
+          doors = map (door_view (link_view D.Link.left D.Link.taken D.Link.sent D.Link.over D.Link.closed D.Link.place D.Link.toward D.Link.faults) D.links D.over D.gave D.listened D.faults) result.doors.items;
+          panel = result.panel;
+          panels = result.panels.items;
+        }) }
+    ensures dialed { result.dialed ≡ None }
+{
+    let most = u64::MAX - 1 - service.workers * service.sessions;
+    match read_policy_input(alloc, input, most) {
+        Ok(journal) => ended_by(host(
+            rt,
+            alloc,
+            journal,
+            output,
+            door,
+            panel,
+            gate,
+            service.address,
+            service.workers,
+            service.sessions,
+        )),
+        Err(Unread::Refused(outcome)) => {
+            let mut output = output;
+            let status = tell(alloc, &mut output, outcome);
+            unserved(alloc, status, output, door, panel)
+        }
+        Err(Unread::Failed) => unserved(alloc, 4, output, door, panel),
+        Err(Unread::Memory) => unserved(alloc, 6, output, door, panel),
+    }
+}
+
+/// Reads the input of a service, in which no session's number is above the bound.
+fn read_policy_input<S: Source>(alloc: Global, input: &mut S, most: u64) -> Result<Journal, Unread>
+    ensures gave { Gave (S.left input.old) (S.left input.new) (S.given input.old) (S.given input.new) }
+    ensures ok { IfOk result (λ journal. IsPolicyOf
+        (source_run (S.left input.old) (S.given input.old) (S.given input.new) (S.over input.new) (S.faults input.old) (S.faults input.new)) most journal.head (entry_trees journal.entries)) }
+    ensures below { IfOk result (λ journal. AreBelow most (entry_trees journal.entries)) }
+    ensures err { IfErr result (IsUnread (policy_form most)
+        (source_run (S.left input.old) (S.given input.old) (S.given input.new) (S.over input.new) (S.faults input.old) (S.faults input.new))) }
+    ensures count { S.faults input.new ≡ faults_after_input result (S.faults input.old) }
+{
+    match read_whole(alloc, input) {
+        Ok(text) => match read_policy_text(alloc, text.as_slice(), most) {
+            Ok(journal) => Ok(journal),
+            Err(PolicyTextError::Wrong { line }) => Err(Unread::Refused(Outcome::Refused { line })),
+            Err(PolicyTextError::Memory) => Err(Unread::Memory),
+        },
+        Err(ReadError::TooLarge) => Err(Unread::Refused(Outcome::TooLarge)),
+        Err(ReadError::Failed) => Err(Unread::Failed),
+        Err(ReadError::Memory) => Err(Unread::Memory),
+    }
+}
+
+/// Why the text of a policy was not read.
+#[derive(Clone, Copy, Debug, PartialEq, Eq)]
+pub enum PolicyTextError {
+    /// The lowest line that is wrong, or the first behind the policy, or the number after the last where the policy is not ended.
+    Wrong { line: u64 },
+    /// There was no memory for what it holds.
+    Memory,
+}
+
+/// Reads a text that is that of a policy, in which no session's number is above the bound.
+fn read_policy_text(alloc: Global, text: &[u8], most: u64) -> Result<Journal, PolicyTextError>
+    requires { length text.now ≤ most_bytes }
+    ensures ok { IfOk result (λ journal. IsPolicy most text.now journal.head (entry_trees journal.entries)) }
+    ensures below { IfOk result (λ journal. AreBelow most (entry_trees journal.entries)) }
+    ensures wrong { IfErr result (IsWrongText most text.now) }
+    ensures refused { IfErr result (λ e. e ≢ PolicyTextError.Memory → (h : Head) (es : List EntryTree) → ¬ IsPolicy most text.now h es) }
+{
+    match read_front(alloc, text, most) {
+        Ok(
+            PolicyFront {
+                journal,
+                rest,
+                lines,
+            },
+        ) => {
+            if rest.is_empty() {
+                Ok(journal)
+            } else {
+                drop(journal);
+                Err(PolicyTextError::Wrong { line: lines + 1 })
+            }
+        }
+        Err(PolicyError::Bad { line }) => Err(PolicyTextError::Wrong { line }),
+        Err(PolicyError::Refused { line, .. }) => Err(PolicyTextError::Wrong { line }),
+        Err(PolicyError::TooLong) => unreachable!(),
+        Err(PolicyError::Memory) => Err(PolicyTextError::Memory),
+    }
+}
+
+/// The end of a service that was hosted.
+fn ended_by<D: Door + Drop, P: Panel + Drop, K: Sink + Drop>(
+    hosted: Hosted<D, P, K>,
+) -> Ended<D, P, K>
+where
+    D::Link: Drop,
+    ensures hosted { hosted_of (record {
+      status = result.status;
+      output = option_map (λ k. record { sent = K.sent k; faults = K.faults k }) result.output;
+      journal = result.journal;
+      reports = map (report_view (link_view D.Link.left D.Link.taken D.Link.sent D.Link.over D.Link.closed D.Link.place D.Link.toward D.Link.faults)) result.reports.items;
+      door = (door_view (link_view D.Link.left D.Link.taken D.Link.sent D.Link.over D.Link.closed D.Link.place D.Link.toward D.Link.faults) D.links D.over D.gave D.listened D.faults result.door);
+      doors = map (door_view (link_view D.Link.left D.Link.taken D.Link.sent D.Link.over D.Link.closed D.Link.place D.Link.toward D.Link.faults) D.links D.over D.gave D.listened D.faults) result.doors.items;
+      panel = result.panel;
+      panels = result.panels.items;
+    }) hosted.served.written hosted.served.end ≡ hosted }
+    ensures dialed { result.dialed ≡ None }
+{
+    let Hosted {
+        status,
+        door,
+        panel,
+        served,
+    } = hosted;
+    let Served {
+        journal,
+        sink,
+        reports,
+        doors,
+        panels,
+        ..
+    } = served;
+    Ended {
+        status,
+        output: sink,
+        journal,
+        reports,
+        dialed: None,
+        door,
+        doors,
+        panel,
+        panels,
+    }
+}
+
+/// The end of a service that was not begun.
+fn unserved<D: Door + Drop, P: Panel + Drop, K: Sink + Drop>(
+    alloc: Global,
+    status: u8,
+    output: K,
+    door: D,
+    panel: P,
+) -> Ended<D, P, K>
+where
+    D::Link: Drop,
+    ensures status { result.status ≡ status }
+    ensures output { result.output ≡ Some output }
+    ensures unbegun { IsUnbegun (door_view (link_view D.Link.left D.Link.taken D.Link.sent D.Link.over D.Link.closed D.Link.place D.Link.toward D.Link.faults) D.links D.over D.gave D.listened D.faults door) panel
+        (record {
+          status = result.status;
+          output = option_map (λ k. record { sent = K.sent k; faults = K.faults k }) result.output;
+          journal = result.journal;
+          reports = map (report_view (link_view D.Link.left D.Link.taken D.Link.sent D.Link.over D.Link.closed D.Link.place D.Link.toward D.Link.faults)) result.reports.items;
+          door = (door_view (link_view D.Link.left D.Link.taken D.Link.sent D.Link.over D.Link.closed D.Link.place D.Link.toward D.Link.faults) D.links D.over D.gave D.listened D.faults result.door);
+          doors = map (door_view (link_view D.Link.left D.Link.taken D.Link.sent D.Link.over D.Link.closed D.Link.place D.Link.toward D.Link.faults) D.links D.over D.gave D.listened D.faults) result.doors.items;
+          panel = result.panel;
+          panels = result.panels.items;
+        }) }
+    ensures dialed { result.dialed ≡ None }
+{
+    Ended {
+        status,
+        output: Some(output),
+        journal: None,
+        reports: Vec::new(alloc),
+        dialed: None,
+        door,
+        doors: Vec::new(alloc),
+        panel,
+        panels: Vec::new(alloc),
+    }
+}
