@@ -32,7 +32,7 @@ pub struct Play<'a> {
 /// once both are met at the end.
 #[derive(Clone, Copy, Debug, PartialEq, Eq)]
 pub struct Taken {
-    pub wrong: Option<(usize, Told)>,
+    pub wrong: Option<(u64, Told)>,
     pub seen: [u64; 2],
 }
 
@@ -203,7 +203,15 @@ fn served<R: Net<Listener = TcpListener, Stream = TcpStream> + Clock>(
     let mut book = book;
     let first = book.enter(board);
     let second = book.enter(board);
-    let taken = step_all(rt, alloc, &mut book, board, head, first, second, play.steps);
+    let taken = step_all(
+        rt,
+        alloc,
+        &mut book,
+        board,
+        head,
+        (first, second),
+        play.steps,
+    );
     ended(book, taken, play)
 }
 
@@ -227,34 +235,60 @@ fn step_all<R: Net<Listener = TcpListener, Stream = TcpStream> + Clock>(
     book: &mut Book<MemSink>,
     board: &Board<NalMatter>,
     head: &Head,
-    first: Pass<NalMatter>,
-    second: Pass<NalMatter>,
+    passes: (Pass<NalMatter>, Pass<NalMatter>),
     steps: &str,
 ) -> Taken
     requires opened { book.old.is_open ≡ true }
     requires board { book.old.board ≡ board.now }
     requires head { head.now ≡ head_of book.old }
     requires principals { 2 ≤ length (head_of book.old).principals }
-    requires passes { (first.board ≡ board.now) × (second.board ≡ board.now) }
+    requires passes { (passes.0.board ≡ board.now) × (passes.1.board ≡ board.now) }
 {
-    let (mut first, mut second, mut wrong) = (first, second, None);
-    for (place, line) in steps.lines().enumerate() {
+    let (mut passes, mut place, mut wrong) = (passes, 0u64, None);
+    for line in steps.lines() {
         let (asked, wanted) = line.split_once(" -> ").unwrap_or(("", ""));
-        let (who, request) = asked.split_once(" ").unwrap_or(("", ""));
-        let told;
-        if who == "alice" {
-            (first, told) = step(rt, alloc, book, board, head, first, 0, request);
-        } else {
-            (second, told) = step(rt, alloc, book, board, head, second, 1, request);
-        }
+        let (next, told) = turn(rt, alloc, book, board, head, passes, asked);
+        passes = next;
         if !is_told(alloc, &told, wanted) {
             wrong = wrong.or(Some((place, told)));
         }
+        place = place.wrapping_add(1);
     }
+    let (first, second) = passes;
     let (first, second) = (book.meet(board, first), book.meet(board, second));
     Taken {
         wrong,
         seen: [first.at(), second.at()],
+    }
+}
+
+// Lets a session take a step, which begins with the name of the first principal or with another.
+fn turn<R: Net<Listener = TcpListener, Stream = TcpStream> + Clock>(
+    rt: &R,
+    alloc: Global,
+    book: &mut Book<MemSink>,
+    board: &Board<NalMatter>,
+    head: &Head,
+    passes: (Pass<NalMatter>, Pass<NalMatter>),
+    asked: &str,
+) -> ((Pass<NalMatter>, Pass<NalMatter>), Told)
+    requires opened { book.old.is_open ≡ true }
+    requires board { book.old.board ≡ board.now }
+    requires head { head.now ≡ head_of book.old }
+    requires principals { 2 ≤ length (head_of book.old).principals }
+    requires passes { (passes.0.board ≡ board.now) × (passes.1.board ≡ board.now) }
+    ensures first { result.0.0.board ≡ board.now }
+    ensures second { result.0.1.board ≡ board.now }
+    ensures book { (book.new.board ≡ book.old.board) × (book.new.is_open ≡ true) }
+{
+    let (first, second) = passes;
+    let (who, line) = asked.split_once(" ").unwrap_or(("", ""));
+    if who == "alice" {
+        let (first, told) = step(rt, alloc, book, board, head, first, 0, line);
+        ((first, second), told)
+    } else {
+        let (second, told) = step(rt, alloc, book, board, head, second, 1, line);
+        ((first, second), told)
     }
 }
 

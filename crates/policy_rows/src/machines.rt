@@ -1,6 +1,7 @@
 //! Lists of steps on one journal, with what is told and how many do nothing, worked out by hand. The journal is owned by
 //! one function alone, since each way out of a function that owns one is proved.
-ghost use Rattle.std.specs.Prelude.{◌≡◌, ◌<◌, ◌∷◌, [], length, IfOk};
+ghost use Rattle.std.specs.Prelude.{◌≡◌, ◌<◌, ◌≤◌, length, IfOk};
+ghost use Rattle.std.specs.List.{All};
 
 use crate::policies::{event, name};
 use crate::tables::{first_other, number};
@@ -67,24 +68,34 @@ fn push_all(alloc: Global, list: &mut Vec<Step>, lines: &str) -> Result<(), Allo
     Ok(())
 }
 
-// Three times the first principal.
-fn three(alloc: Global) -> Result<Vec<u32>, AllocError>
-    ensures { IfOk result (λ v. v.items ≡ 0 ∷ 0 ∷ 0 ∷ []) }
+// Three times the first principal of a journal that has one.
+fn three(alloc: Global, journal: &Journal) -> Result<Vec<u32>, AllocError>
+    requires { 1 ≤ length journal.now.head.principals }
+    ensures principals { IfOk result (λ v. All (λ p. p < length journal.now.head.principals) v.items) }
+    ensures count { IfOk result (λ v. length v.items ≡ 3) }
 {
     Vec::from_slice(alloc, &[0, 0, 0])
 }
 
+// What three actors, all the journal's first principal, come to by these steps.
+fn driven(alloc: Global, journal: Journal, list: &Vec<Step>) -> Result<Outcome, AllocError> {
+    if journal.head().principals.count() < 1 || journal.greatest_session() > 1 {
+        drop(journal);
+        return Err(AllocError);
+    }
+    match three(alloc, &journal) {
+        Ok(actors) => drive(alloc, journal, &actors, list),
+        Err(AllocError) => {
+            drop(journal);
+            Err(AllocError)
+        }
+    }
+}
+
 // What three actors, all alice, come to by these steps.
 fn outcome(alloc: Global, list: &Vec<Step>) -> Result<Outcome, AllocError> {
-    let actors = three(alloc)?;
     match read_policy(alloc, POLICY.as_bytes()) {
-        Ok(journal) => {
-            if journal.head().principals.count() == 0 || journal.greatest_session() > 1 {
-                drop(journal);
-                return Err(AllocError);
-            }
-            drive(alloc, journal, &actors, list)
-        }
+        Ok(journal) => driven(alloc, journal, list),
         Err(_) => Err(AllocError),
     }
 }
@@ -125,13 +136,15 @@ pub fn told(alloc: Global, lines: &str) -> Result<String, AllocError> {
 /// The numbers of the acts of actor 0 that are not idle after these steps, of which none is idle.
 pub fn acts_told(alloc: Global, lines: &str) -> Result<String, AllocError> {
     let mut told = String::from_str(alloc, "acts")?;
-    for (place, act) in ACTS.lines().enumerate() {
+    let mut place = 0u64;
+    for act in ACTS.lines() {
         let (_, idle) = ran(alloc, format!(in alloc; "{lines}0 {act}")?.as_str())?;
         match idle {
             0 => told.push_str(format!(in alloc; " {place}")?.as_str())?,
             1 => {}
             _ => told.push_str(format!(in alloc; " {place}: {idle}")?.as_str())?,
         }
+        place = place.wrapping_add(1);
     }
     Ok(told)
 }

@@ -83,7 +83,8 @@ fn push(alloc: Global, line: &mut String, word: &str, bytes: &[u8]) -> Result<()
 /// A label, by the numbers of its holder and of its place, or `none`.
 pub fn label(alloc: Global, journal: &Journal, place: &str) -> Result<String, AllocError> {
     let (holder, k) = place.split_once(" ").unwrap_or(("", ""));
-    match journal.label(number(holder) as u32, number(k)) {
+    let holder = u32::try_from(number(holder)).unwrap_or(u32::MAX);
+    match journal.label(holder, number(k)) {
         Some(label) => text_of(alloc, print_formula(alloc, label)?.as_slice()),
         None => String::from_str(alloc, "none"),
     }
