@@ -4,8 +4,6 @@
 
 mod key;
 mod sip;
-#[cfg(test)]
-mod tests;
 
 pub use key::{HashKey, KeyedHash};
 pub use sip::SipHasher;

@@ -1,5 +1,5 @@
-//! The language: terms, formulas, substitutions, lines of proofs and the texts of all of them, with values worked out by hand. It has
-//! tests alone.
+//! The language: terms, formulas, substitutions, lines of proofs and the texts of all of them, the lines of a text and the hashes of keys,
+//! with values worked out by hand. It has tests alone.
 #![tactic(auto)]
 
 #[cfg(test)]
@@ -8,6 +8,10 @@ mod formula_printing;
 mod formula_texts;
 #[cfg(test)]
 mod hashes;
+#[cfg(test)]
+mod keyed_hashes;
+#[cfg(test)]
+mod lines_of_text;
 #[cfg(test)]
 mod proof_printing;
 #[cfg(test)]

@@ -6,8 +6,6 @@ mod laws;
 mod line_frames;
 mod requests;
 mod talks;
-#[cfg(test)]
-mod tests;
 
 pub use ends::{Talk, TalkEnd};
 pub use laws::{bytes_spell_replies_in_one_way, talks_keep_their_order};

@@ -1,4 +1,5 @@
 pub mod Doors
+pub mod Duplexes
 pub mod Histories
 pub mod Inner
 pub mod Links

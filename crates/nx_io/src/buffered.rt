@@ -1,107 +1,96 @@
 // A stream both ways, which is read ahead and whose writes are gathered.
 ghost use Rattle.std.specs.Prelude.{◌<◌, ◌≡◌, ◌≢◌, ◌⊎◌, ◌++◌, List, [], false, length, true, ℕ};
-ghost use Rattle.nx_io.specs.Histories.{bytes_of};
-ghost use Rattle.nx_io.specs.Sockets.{InOrder, new_traffic};
-ghost use Rattle.nx_io.specs.Streams.{ReadsWithin, Writes, WritesWithin, given_after};
+ghost use Rattle.nx_io.specs.Duplexes.{AreSame};
+ghost use Rattle.nx_io.specs.Sockets.{InOrder};
+ghost use Rattle.nx_io.specs.Streams.{ReadsWithin, Writes, WritesWithin, faults_after_reach, faults_after_read, faults_after_write, given_after};
 
+use crate::duplex::Duplex;
 use crate::history::History;
 use crate::queues::Queue;
-use crate::standard::StdSink;
-use crate::streams::{Got, Put, Reach, Sink};
-use std::io::{Read, Write};
+use crate::streams::{Got, Put, Reach};
 use std::marker::Model;
 
-/// A stream, bytes that were read from it and not yet taken, and bytes that were sent and not yet written to it. Contracts see
-/// what was taken and read, what was sent and written, and whether it is closed.
+/// A stream, bytes that it gave and that were not yet taken, and bytes that were sent and not yet written to it. Contracts see the
+/// stream, what was taken and what was sent.
 #[derive(Drop)]
-pub(crate) struct Buffered<S: Read + Write> {
-    stream: Option<S>,
+pub(crate) struct Buffered<S: Duplex> {
+    stream: S,
     ahead: Queue,
     behind: Queue,
     taken: History,
-    read: History,
     sent: History,
-    written: History,
 }
 
-impl<S: Read + Write> Model for Buffered<S> {
-    ghost use Rattle.std.specs.Prelude.{◌≡◌, ◌++◌, is_none};
+impl<S: Duplex> Model for Buffered<S> {
+    ghost use Rattle.std.specs.Prelude.{◌≡◌, ◌++◌};
     ghost use Rattle.nx_io.specs.Histories.{bytes_of};
     ghost use Rattle.nx_io.specs.Sockets.{Traffic};
 
-    ghost Value = { Traffic };
+    ghost Value = { Traffic S };
 
-    ghost view = { λ w. record {
-      taken = bytes_of w.taken;
-      read = bytes_of w.read;
-      sent = bytes_of w.sent;
-      written = bytes_of w.written;
-      closed = is_none w.stream;
-    } };
+    ghost view = { λ w. record { stream = w.stream; taken = bytes_of w.taken; sent = bytes_of w.sent } };
 
-    ghost invariant = { λ w. (bytes_of w.read ≡ bytes_of w.taken ++ w.ahead.waiting) × (bytes_of w.sent ≡ bytes_of w.written ++ w.behind.waiting) };
+    ghost invariant = { λ w. (S.given w.stream ≡ bytes_of w.taken ++ w.ahead.waiting) × (bytes_of w.sent ≡ S.sent w.stream ++ w.behind.waiting) };
 }
 
-impl<S: Read + Write + Drop> Buffered<S> {
+impl<S: Duplex> Buffered<S> {
     /// A stream that was neither read nor written yet.
     pub(crate) fn new(stream: S) -> Buffered<S>
-        ensures { result ≡ new_traffic }
+        requires given { S.given stream ≡ [] }
+        requires sent { S.sent stream ≡ [] }
+        ensures { result ≡ record { stream = stream; taken = []; sent = [] } }
     {
         Buffered {
-            stream: Some(stream),
+            stream,
             ahead: Queue::new(),
             behind: Queue::new(),
             taken: History::Start,
-            read: History::Start,
             sent: History::Start,
-            written: History::Start,
         }
     }
 
     /// Takes bytes that were read ahead, and where there is none, writes what waits and reads once. It is `Failed` where that
-    /// fails or the stream is closed.
+    /// fails, and where the stream is shut.
     pub(crate) fn take(&mut self, into: &mut [u8]) -> Got
         requires { 0 < length into.old }
         ensures within { ReadsWithin result into.new }
         ensures taken { self.new.taken ≡ given_after result self.old.taken into.new }
-        ensures others { self.new ≡ record self.old { taken = self.new.taken; read = self.new.read; written = self.new.written } }
-        ensures order { InOrder self.new }
-        ensures end { result ≡ Got.End → self.new.taken ≡ self.new.read }
-        ensures first { (result ≡ Got.End ⊎ self.new.read ≢ self.old.read) → self.new.written ≡ self.new.sent }
+        ensures sent { self.new.sent ≡ self.old.sent }
+        ensures shut { S.shut self.new.stream ≡ S.shut self.old.stream }
+        ensures order { InOrder (S.given self.new.stream) (S.sent self.new.stream) self.new.taken self.new.sent }
+        ensures end { result ≡ Got.End → self.new.taken ≡ S.given self.new.stream }
+        ensures first { (result ≡ Got.End ⊎ S.given self.new.stream ≢ S.given self.old.stream) → S.sent self.new.stream ≡ self.new.sent }
+        ensures blame { S.shut self.old.stream ≡ false → S.faults self.new.stream ≡ faults_after_read result (S.faults self.old.stream) }
     {
-        let got = match &mut self.stream {
-            Some(stream) => fetch(
-                stream,
-                &mut self.ahead,
-                &mut self.behind,
-                &mut self.read,
-                &mut self.written,
-            ),
-            None => Got::Failed,
-        };
-        match got {
+        if self.stream.is_shut() {
+            return Got::Failed;
+        }
+        match fetch(&mut self.stream, &mut self.ahead, &mut self.behind) {
             Got::Bytes(_) => {
                 let count = self.ahead.pop_into(into);
                 self.taken.tell(&into[..count]);
                 Got::Bytes(count)
             }
-            Got::End | Got::Failed => got,
+            Got::End => Got::End,
+            Got::Failed => Got::Failed,
         }
     }
 
-    /// Gathers bytes, and writes those that wait first where there is no room. It is `Failed` where that fails or the stream is
-    /// closed.
+    /// Gathers bytes, and writes those that wait first where there is no room. It is `Failed` where that fails, and where the
+    /// stream is shut.
     pub(crate) fn send(&mut self, piece: &[u8]) -> Put
         requires { 0 < length piece.now }
         ensures within { WritesWithin result piece.now }
         ensures sent { Writes result self.old.sent self.new.sent piece.now }
-        ensures others { self.new ≡ record self.old { sent = self.new.sent; written = self.new.written } }
-        ensures order { InOrder self.new }
+        ensures taken { self.new.taken ≡ self.old.taken }
+        ensures others { AreSame (S.given self.old.stream) (S.given self.new.stream) (S.shut self.old.stream) (S.shut self.new.stream) }
+        ensures order { InOrder (S.given self.new.stream) (S.sent self.new.stream) self.new.taken self.new.sent }
+        ensures blame { S.shut self.old.stream ≡ false → S.faults self.new.stream ≡ faults_after_write result (S.faults self.old.stream) }
     {
-        let Some(stream) = &mut self.stream else {
+        if self.stream.is_shut() {
             return Put::Failed;
-        };
-        match make_room(stream, &mut self.behind, &mut self.written) {
+        }
+        match make_room(&mut self.stream, &mut self.behind) {
             Reach::Ready => {
                 let count = self.behind.push(piece);
                 self.sent.tell(&piece[..count]);
@@ -111,73 +100,69 @@ impl<S: Read + Write + Drop> Buffered<S> {
         }
     }
 
-    /// Writes what waits, and lets go of the stream. It is `Failed` where that could not be written.
+    /// Writes what waits, and shuts the stream. It is `Failed` where that could not be written.
     pub(crate) fn close(&mut self) -> Reach
-        ensures closed { self.new.closed ≡ true }
-        ensures others { self.new ≡ record self.old { closed = true; written = self.new.written } }
-        ensures order { InOrder self.new }
-        ensures ready { result ≡ Reach.Ready → self.old.closed ≡ false → self.new.written ≡ self.new.sent }
-        ensures again { self.old.closed ≡ true → result ≡ Reach.Ready }
+        ensures shut { S.shut self.new.stream ≡ true }
+        ensures same { (self.new.taken ≡ self.old.taken) × (self.new.sent ≡ self.old.sent) × (S.given self.new.stream ≡ S.given self.old.stream) }
+        ensures order { InOrder (S.given self.new.stream) (S.sent self.new.stream) self.new.taken self.new.sent }
+        ensures ready { result ≡ Reach.Ready → S.shut self.old.stream ≡ false → S.sent self.new.stream ≡ self.new.sent }
+        ensures blame { S.faults self.new.stream ≡ faults_after_reach result (S.faults self.old.stream) }
+        ensures again { S.shut self.old.stream ≡ true → (result ≡ Reach.Ready) × (S.sent self.new.stream ≡ S.sent self.old.stream) }
     {
-        let reach = match &mut self.stream {
-            Some(stream) => write_out(stream, &mut self.behind, &mut self.written),
-            None => Reach::Ready,
-        };
-        self.stream = None;
+        if self.stream.is_shut() {
+            return Reach::Ready;
+        }
+        let reach = write_out(&mut self.stream, &mut self.behind);
+        self.stream.shut();
         reach
     }
 }
 
 /// Makes bytes wait ahead: where there is none, writes what waits behind and reads once.
-fn fetch<S: Read + Write>(
-    stream: &mut S,
-    ahead: &mut Queue,
-    behind: &mut Queue,
-    read: &mut History,
-    written: &mut History,
-) -> Got
+fn fetch<S: Duplex>(stream: &mut S, ahead: &mut Queue, behind: &mut Queue) -> Got
+    requires { S.shut stream.old ≡ false }
     ensures waits { (count : ℕ) → result ≡ Got.Bytes count → ahead.new.waiting ≢ [] }
-    ensures read { (taken : List ℕ) → bytes_of read.old ≡ taken ++ ahead.old.waiting → bytes_of read.new ≡ taken ++ ahead.new.waiting }
-    ensures written { bytes_of written.new ++ behind.new.waiting ≡ bytes_of written.old ++ behind.old.waiting }
+    ensures read { (taken : List ℕ) → S.given stream.old ≡ taken ++ ahead.old.waiting → S.given stream.new ≡ taken ++ ahead.new.waiting }
+    ensures written { S.sent stream.new ++ behind.new.waiting ≡ S.sent stream.old ++ behind.old.waiting }
     ensures end { result ≡ Got.End → ahead.new.waiting ≡ [] }
-    ensures first { (result ≡ Got.End ⊎ bytes_of read.new ≢ bytes_of read.old) → behind.new.waiting ≡ [] }
+    ensures first { (result ≡ Got.End ⊎ S.given stream.new ≢ S.given stream.old) → behind.new.waiting ≡ [] }
+    ensures open { S.shut stream.new ≡ false }
+    ensures blame { S.faults stream.new ≡ faults_after_read result (S.faults stream.old) }
 {
     if !ahead.is_empty() {
         return Got::Bytes(ahead.waiting().len());
     }
-    match write_out(stream, behind, written) {
-        Reach::Ready => {
-            let got = ahead.fill(stream);
-            read.tell(ahead.waiting());
-            got
-        }
+    match write_out(stream, behind) {
+        Reach::Ready => ahead.fill(stream),
         Reach::Failed => Got::Failed,
     }
 }
 
 /// Makes room for a byte behind: where there is none, writes what waits there.
-fn make_room<S: Write>(stream: &mut S, behind: &mut Queue, written: &mut History) -> Reach
-    ensures written { bytes_of written.new ++ behind.new.waiting ≡ bytes_of written.old ++ behind.old.waiting }
+fn make_room<S: Duplex>(stream: &mut S, behind: &mut Queue) -> Reach
+    requires { S.shut stream.old ≡ false }
+    ensures written { S.sent stream.new ++ behind.new.waiting ≡ S.sent stream.old ++ behind.old.waiting }
     ensures ready { result ≡ Reach.Ready → 0 < behind.new.room }
+    ensures others { AreSame (S.given stream.old) (S.given stream.new) (S.shut stream.old) (S.shut stream.new) }
+    ensures blame { S.faults stream.new ≡ faults_after_reach result (S.faults stream.old) }
 {
     if behind.room() > 0 {
         return Reach::Ready;
     }
-    write_out(stream, behind, written)
+    write_out(stream, behind)
 }
 
 /// Writes what waits behind, in as many writes as it takes. After a failure the rest waits on.
-fn write_out<S: Write>(stream: &mut S, behind: &mut Queue, written: &mut History) -> Reach
-    ensures written { bytes_of written.new ++ behind.new.waiting ≡ bytes_of written.old ++ behind.old.waiting }
+fn write_out<S: Duplex>(stream: &mut S, behind: &mut Queue) -> Reach
+    requires { S.shut stream.old ≡ false }
+    ensures written { S.sent stream.new ++ behind.new.waiting ≡ S.sent stream.old ++ behind.old.waiting }
     ensures ready { result ≡ Reach.Ready → behind.new ≡ record { waiting = []; room = 4096 } }
+    ensures others { AreSame (S.given stream.old) (S.given stream.new) (S.shut stream.old) (S.shut stream.new) }
+    ensures blame { S.faults stream.new ≡ faults_after_reach result (S.faults stream.old) }
 {
     while !behind.is_empty() {
-        let mut sink = StdSink::new(&mut *stream);
-        match sink.write(behind.waiting()) {
-            Put::Bytes(count) => {
-                written.tell(&behind.waiting()[..count]);
-                behind.skip(count);
-            }
+        match stream.write(behind.waiting()) {
+            Put::Bytes(count) => behind.skip(count),
             Put::Failed => return Reach::Failed,
         }
     }

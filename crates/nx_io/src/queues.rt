@@ -1,10 +1,10 @@
 // Bytes that wait their turn.
-ghost use Rattle.std.specs.Prelude.{◌≡◌, ◌≢◌, ◌↔◌, ◌<◌, ◌≤◌, ◌++◌, ◌-◌, ◌⊎◌, [], IsTrue, ℕ, drop, length, min, take};
-ghost use Rattle.nx_io.specs.Streams.{Reads};
+ghost use Rattle.std.specs.Prelude.{false, ◌≡◌, ◌≢◌, ◌↔◌, ◌<◌, ◌≤◌, ◌++◌, ◌-◌, ◌⊎◌, [], IsTrue, ℕ, drop, length, min, take};
+ghost use Rattle.nx_io.specs.Duplexes.{AreSame};
+ghost use Rattle.nx_io.specs.Streams.{faults_after_read};
 
-use crate::standard::StdSource;
-use crate::streams::{Got, Source};
-use std::io::Read;
+use crate::duplex::Duplex;
+use crate::streams::Got;
 use std::marker::Model;
 
 /// How many bytes a queue holds.
@@ -107,13 +107,16 @@ impl Queue {
     }
 
     /// Reads into an empty queue, once.
-    pub(crate) fn fill<R: Read>(&mut self, reader: &mut R) -> Got
-        requires { self.old.waiting ≡ [] }
+    pub(crate) fn fill<S: Duplex>(&mut self, stream: &mut S) -> Got
+        requires empty { self.old.waiting ≡ [] }
+        requires open { S.shut stream.old ≡ false }
+        ensures read { S.given stream.new ≡ S.given stream.old ++ self.new.waiting }
         ensures empty { (result ≡ Got.End ⊎ result ≡ Got.Failed) → self.new.waiting ≡ [] }
         ensures filled { (count : ℕ) → result ≡ Got.Bytes count → (1 ≤ count) × (length self.new.waiting ≡ count) }
+        ensures others { AreSame (S.sent stream.old) (S.sent stream.new) (S.shut stream.old) (S.shut stream.new) }
+        ensures count { S.faults stream.new ≡ faults_after_read result (S.faults stream.old) }
     {
-        let mut source = StdSource::new(reader);
-        let got = source.read(&mut self.bytes);
+        let got = stream.read(&mut self.bytes);
         self.start = 0;
         self.end = 0;
         if let Got::Bytes(count) = got {

@@ -1,18 +1,16 @@
 // Links and doors over TCP. The calls of the network stand in this file alone.
-ghost use Rattle.std.specs.Prelude.{◌<◌, ◌≡◌, ◌≢◌, ◌⊎◌, ◌≤◌, [], IfErr, None, Some, false, length, true};
+ghost use Rattle.std.specs.Prelude.{◌≡◌, ◌≢◌, [], IfErr, None, Some, false, true};
 ghost use Rattle.std.specs.IoError.{error_kind};
 ghost use Rattle.std.specs.Option.{option_map};
-ghost use Rattle.nx_io.specs.Doors.{Gives, IfDialed, IfGiven, IfMade, IsFreshDoor, KeepsLinks, faults_after_dial, faults_after_next, faults_after_share, gave_after, listened_after, no_more_after};
 ghost use Rattle.nx_io.specs.Histories.{bytes_of};
-ghost use Rattle.nx_io.specs.Links.{IsFreshLink, KeepsComing, KeepsGoing, KeepsOrigin};
-ghost use Rattle.nx_io.specs.Sockets.{InOrder, new_traffic};
-ghost use Rattle.nx_io.specs.Streams.{MayRise, Reads, ReadsWithin, Writes, WritesWithin, faults_after_reach, faults_after_read, faults_after_write, given_after, one_more, over_after};
+ghost use Rattle.nx_io.specs.Links.{IsFreshLink};
 
-use crate::buffered::Buffered;
 use crate::doors::{Dial, Door, Next};
+use crate::duplex::StdDuplex;
 use crate::history::History;
 use crate::links::Link;
 use crate::listened::Listened;
+use crate::stream_links::StreamLink;
 use crate::streams::{Got, Put, Reach, Shared};
 use std::io::{self, ErrorKind};
 use std::marker::Model;
@@ -20,45 +18,30 @@ use std::net::{Net, TcpListener, TcpStream};
 use std::rt::Clock;
 use std::str;
 
-/// A link over a TCP connection, which counts its faults. It reads ahead, and gathers what it is sent until it would wait for
-/// bytes itself, has no more room or is closed. Bytes pass in order, and each once. What the peer has left is not known.
+/// A link over a TCP connection: each call is that of the link over its stream.
 #[derive(Drop)]
 pub struct TcpLink {
-    stream: Buffered<TcpStream>,
-    over: bool,
-    place: u64,
-    toward: Option<History>,
-    faults: u64,
+    link: StreamLink<StdDuplex<TcpStream>>,
 }
 
 impl Model for TcpLink {
-    ghost use Rattle.std.specs.Option.{option_map};
-    ghost use Rattle.nx_io.specs.Histories.{bytes_of};
+    ghost use Rattle.nx_io.specs.Duplexes.{Stream};
     ghost use Rattle.nx_io.specs.Sockets.{Socket};
 
-    ghost Value = { Socket };
+    ghost Value = { Socket Stream };
 
-    ghost view = { λ l. record {
-      traffic = l.stream;
-      over = l.over;
-      place = l.place;
-      toward = option_map bytes_of l.toward;
-      faults = l.faults;
-    } };
+    ghost view = { λ t. t.link };
 }
 
 impl TcpLink {
-    // A link over a stream. Small pieces go out at once where the system allows that.
+    // A link over a connection. Small pieces go out at once where the system allows that.
     fn over(stream: TcpStream, place: u64, toward: Option<History>) -> TcpLink
-        ensures { result ≡ record { traffic = new_traffic; over = false; place = place; toward = option_map bytes_of toward; faults = 0 } }
+        ensures fresh { IsFreshLink result.taken result.sent result.over result.stream.shut result.faults }
+        ensures origin { (result.place ≡ place) × (result.toward ≡ option_map bytes_of toward) }
     {
         let _ = stream.set_nodelay(true);
         TcpLink {
-            stream: Buffered::new(stream),
-            over: false,
-            place,
-            toward,
-            faults: 0,
+            link: StreamLink::over(StdDuplex::new(stream), place, toward),
         }
     }
 
@@ -66,89 +49,37 @@ impl TcpLink {
     pub fn faults(&self) -> u64
         ensures { result ≡ self.now.faults }
     {
-        self.faults
+        self.link.faults()
     }
 }
 
 impl Link for TcpLink {
     ghost left = { λ _. None };
 
-    ghost taken = { λ l. l.traffic.taken };
+    ghost taken = { λ t. t.taken };
 
-    ghost sent = { λ l. l.traffic.sent };
+    ghost sent = { λ t. t.sent };
 
-    ghost over = { λ l. l.over };
+    ghost over = { λ t. t.over };
 
-    ghost closed = { λ l. l.traffic.closed };
+    ghost closed = { λ t. t.stream.shut };
 
-    ghost place = { λ l. l.place };
+    ghost place = { λ t. t.place };
 
-    ghost toward = { λ l. l.toward };
+    ghost toward = { λ t. t.toward };
 
-    ghost faults = { λ l. l.faults };
+    ghost faults = { λ t. t.faults };
 
-    /// As of any link. Before it reads from the system, all that was sent is written to it. At `End` all that was read was
-    /// taken. A closed link fails.
-    fn take(&mut self, into: &mut [u8]) -> Got
-        requires { 0 < length into.old }
-        ensures within { ReadsWithin result into.new }
-        ensures bytes { Reads result None None into.new }
-        ensures taken { self.new.traffic.taken ≡ given_after result self.old.traffic.taken into.new }
-        ensures over { self.new.over ≡ over_after result self.old.over }
-        ensures going { KeepsGoing self.old.traffic.sent self.new.traffic.sent self.old.traffic.closed self.new.traffic.closed }
-        ensures origin { KeepsOrigin self.old.place self.new.place self.old.toward self.new.toward }
-        ensures later { self.old.faults ≤ self.new.faults }
-        ensures count { self.new.faults ≡ faults_after_read result self.old.faults }
-        ensures order { InOrder self.new.traffic }
-        ensures end { result ≡ Got.End → self.new.traffic.taken ≡ self.new.traffic.read }
-        ensures first { (result ≡ Got.End ⊎ self.new.traffic.read ≢ self.old.traffic.read) → self.new.traffic.written ≡ self.new.traffic.sent }
-    {
-        let got = self.stream.take(into);
-        match got {
-            Got::Bytes(_) => self.over = false,
-            Got::End => self.over = true,
-            Got::Failed => self.faults = self.faults.saturating_add(1),
-        }
-        got
+    fn take(&mut self, into: &mut [u8]) -> Got {
+        self.link.take(into)
     }
 
-    /// As of any link. A closed link fails.
-    fn send(&mut self, piece: &[u8]) -> Put
-        requires { 0 < length piece.now }
-        ensures within { WritesWithin result piece.now }
-        ensures bytes { Writes result self.old.traffic.sent self.new.traffic.sent piece.now }
-        ensures closed { self.new.traffic.closed ≡ self.old.traffic.closed }
-        ensures coming { KeepsComing None None self.old.traffic.taken self.new.traffic.taken self.old.over self.new.over }
-        ensures origin { KeepsOrigin self.old.place self.new.place self.old.toward self.new.toward }
-        ensures later { self.old.faults ≤ self.new.faults }
-        ensures count { self.new.faults ≡ faults_after_write result self.old.faults }
-        ensures order { InOrder self.new.traffic }
-        ensures reads_nothing { self.new.traffic.read ≡ self.old.traffic.read }
-    {
-        let put = self.stream.send(piece);
-        match put {
-            Put::Bytes(_) => {}
-            Put::Failed => self.faults = self.faults.saturating_add(1),
-        }
-        put
+    fn send(&mut self, piece: &[u8]) -> Put {
+        self.link.send(piece)
     }
 
-    /// As of any link. All that was sent is written to the system, or the count rises, and the connection is given back.
-    fn close(&mut self)
-        ensures closed { self.new.traffic.closed ≡ true }
-        ensures sent { self.new.traffic.sent ≡ self.old.traffic.sent }
-        ensures coming { KeepsComing None None self.old.traffic.taken self.new.traffic.taken self.old.over self.new.over }
-        ensures origin { KeepsOrigin self.old.place self.new.place self.old.toward self.new.toward }
-        ensures later { self.old.faults ≤ self.new.faults }
-        ensures count { MayRise self.old.faults self.new.faults }
-        ensures order { InOrder self.new.traffic }
-        ensures written { self.old.traffic.closed ≡ false → ((self.new.traffic.written ≡ self.new.traffic.sent) × (self.new.faults ≡ self.old.faults)) ⊎ (self.new.faults ≡ one_more self.old.faults) }
-        ensures again { self.old.traffic.closed ≡ true → self.new.faults ≡ self.old.faults }
-    {
-        match self.stream.close() {
-            Reach::Ready => {}
-            Reach::Failed => self.faults = self.faults.saturating_add(1),
-        }
+    fn close(&mut self) {
+        self.link.close();
     }
 }
 

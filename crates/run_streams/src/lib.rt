@@ -5,8 +5,6 @@
 mod input;
 mod outcomes;
 mod telling;
-#[cfg(test)]
-mod tests;
 mod unread;
 
 pub use input::{ReadError, read_whole};

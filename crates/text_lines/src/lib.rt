@@ -3,8 +3,6 @@
 
 mod lines;
 mod numbers;
-#[cfg(test)]
-mod tests;
 
 pub use lines::{after_word, first_line, line_count};
 pub use numbers::read_number;

@@ -1,4 +1,4 @@
-use crate::{HashKey, KeyedHash};
+use keyed_hash::{HashKey, KeyedHash};
 use std::hash::{BuildHasher, Hasher};
 
 // The test vectors of the SipHash reference implementation: the key is the bytes 0 to 15, and the k-th hash is that

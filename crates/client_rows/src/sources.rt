@@ -1,5 +1,5 @@
 // Reading over a source that fails or has too much.
-use crate::{ReadError, read_whole};
+use run_streams::{ReadError, read_whole};
 use nx_io::MemSource;
 use std::alloc::AllocError;
 

@@ -1,4 +1,4 @@
-use crate::{after_word, first_line, line_count, read_number};
+use text_lines::{after_word, first_line, line_count, read_number};
 
 #[test]
 fn numbers_have_no_other_spelling(rt: HostRuntime) {

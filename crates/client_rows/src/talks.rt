@@ -3,7 +3,7 @@
 ghost use Rattle.std.specs.Prelude.{◌≤◌};
 ghost use Rattle.nx_io.specs.MemoryDoors.{IsFreshWire};
 
-use crate::{RequestsError, TalkEnd, read_requests, request_of_line, talk};
+use nexus_client::{RequestsError, TalkEnd, read_requests, request_of_line, talk};
 use journal_text::LineError;
 use nx_io::{MemDoor, MemLink, MemSink};
 use std::alloc::{AllocError, Global};
