@@ -1,5 +1,6 @@
 pub mod AskLogs
 pub mod Clocks
+pub mod Exchanges
 pub mod Hosts
 pub mod Inner
 pub mod Memory

@@ -1,12 +1,9 @@
 // A connection to an authority over TCP.
-ghost use Rattle.std.specs.Prelude.{◌≡◌, ◌++◌, [], IfSome, IsNone};
-ghost use Rattle.nal_term.specs.Trees.{formula_tree};
-ghost use Rattle.authority_ask.specs.Inner.Conversations.{question_line};
-ghost use Rattle.authority_ask.specs.Inner.Connections.{IsKept, answer_of};
+ghost use Rattle.std.specs.Prelude.{◌≡◌, ◌≤◌, [], Bool, IfSome, length, take};
+ghost use Rattle.authority_ask.specs.Exchanges.{answer_line};
+ghost use Rattle.authority_ask.specs.Inner.Connections.{HasAnswered};
 
-use crate::conversations::{Reply, converse};
-use crate::panels::Ask;
-use nal_term::Formula;
+use crate::conversations::{Reply, converse, reply_in};
 use nx_io::{StdSink, StdSource};
 use std::marker::Model;
 use std::net::{Net, TcpListener, TcpStream, ToSocketAddrs};
@@ -68,27 +65,21 @@ impl Connection {
         })
     }
 
-    /// Asks whether a statement holds, in the line that asks it. The answer is Yes, No or Down. The connection comes back
-    /// where it can be used again, which it can't after Down and where bytes stand behind the answer's line.
-    pub fn ask(self, statement: &Formula, question: &[u8]) -> (Ask, Option<Connection>)
-        requires { question.now ≡ question_line (formula_tree statement.now) }
-        ensures { IsKept self (formula_tree statement.now) result.0 result.1 }
+    /// Sends a line, and reads what comes back for it into the front of the answer: so many bytes came. The connection comes back
+    /// where it can be used again: where one line with an answer came, and nothing behind it.
+    pub fn exchange(self, question: &[u8], answer: &mut [u8]) -> (usize, Option<Connection>)
+        requires { length answer.old ≡ 16 }
+        ensures within { result.0 ≤ 16 }
+        ensures kept { IfSome result.1 (λ now. (affirmed : Bool) × (take result.0 answer.new ≡ answer_line affirmed) × HasAnswered self now question.now affirmed) }
     {
         let Connection {
             mut source,
             mut sink,
         } = self;
-        match converse(&mut source, &mut sink, question) {
-            Reply::Line { yes } => (answer(yes), Some(Connection { source, sink })),
-            Reply::LineAndMore { yes } => (answer(yes), None),
-            Reply::Broken => (Ask::Down, None),
+        let count = converse(&mut source, &mut sink, question, answer);
+        match reply_in(&answer[..count]) {
+            Reply::Line { .. } => (count, Some(Connection { source, sink })),
+            Reply::LineAndMore { .. } | Reply::Broken => (count, None),
         }
     }
-}
-
-/// Yes or No.
-fn answer(yes: bool) -> Ask
-    ensures { result ≡ answer_of yes }
-{
-    if yes { Ask::Yes } else { Ask::No }
 }

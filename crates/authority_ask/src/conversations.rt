@@ -1,8 +1,9 @@
 // One question to an authority and the line that comes back, over any sink and source.
-ghost use Rattle.std.specs.Prelude.{◌≡◌, ◌≢◌, ◌⊎◌, ◌++◌, ◌≤◌, IfOk};
+ghost use Rattle.std.specs.Prelude.{◌≡◌, ◌⊎◌, ◌++◌, ◌<◌, ◌≤◌, IfOk, length, take};
 ghost use Rattle.nal_term.specs.Trees.{formula_tree};
-ghost use Rattle.nx_io.specs.Streams.{Grows, Rose, gained};
-ghost use Rattle.authority_ask.specs.Inner.Conversations.{HasStopped, IsReply, question_line};
+ghost use Rattle.nx_io.specs.Streams.{Rose};
+ghost use Rattle.authority_ask.specs.Exchanges.{question_line};
+ghost use Rattle.authority_ask.specs.Inner.Conversations.{HasStopped, IsReply};
 
 use nal_parse::print_formula;
 use nal_term::Formula;
@@ -10,7 +11,7 @@ use nx_io::{Bytes, Got, Reach, Sink, Source, send_all};
 use std::alloc::{AllocError, Global};
 
 /// How many bytes of an answer are looked at. No answer has more than four with its line feed.
-const ROOM: usize = 16;
+pub const ROOM: usize = 16;
 
 /// What came back.
 #[derive(Clone, Copy, Debug, PartialEq, Eq)]
@@ -34,46 +35,48 @@ pub fn question_line(alloc: Global, statement: &Formula) -> Result<Bytes, AllocE
     Ok(line)
 }
 
-/// Sends a question, and reads what comes back, up to a line feed, an end or a failure. It takes no memory.
+/// Sends a question, and reads what comes back into the front of the answer, up to a line feed, an end or a failure: so many
+/// bytes came. It takes no memory.
 ///
-/// The reply is the one of the bytes that the source gave in this call. Where it is not `Broken` the question was sent
-/// whole, and neither end has failed. `Broken` comes where a line was no answer or too long, the source has ended, or an
-/// end has failed.
-pub fn converse<S: Source, K: Sink>(source: &mut S, sink: &mut K, question: &[u8]) -> Reply
-    ensures given { Grows (S.given source.old) (S.given source.new) }
-    ensures reply { IsReply (gained (S.given source.old) (S.given source.new)) result }
-    ensures sent { result ≢ Reply.Broken → K.sent sink.new ≡ K.sent sink.old ++ question.now }
-    ensures source_stands { result ≢ Reply.Broken → S.faults source.new ≡ S.faults source.old }
-    ensures sink_stands { result ≢ Reply.Broken → K.faults sink.new ≡ K.faults sink.old }
-    ensures cause { result ≡ Reply.Broken → Rose (K.faults sink.old) (K.faults sink.new) ⊎ HasStopped (gained (S.given source.old) (S.given source.new)) (S.over source.new) (S.faults source.old) (S.faults source.new) }
+/// None came where the question was not sent whole. Nothing more was read where a line feed came or the answer is full, the source
+/// has ended, or an end has failed.
+pub fn converse<S: Source, K: Sink>(
+    source: &mut S,
+    sink: &mut K,
+    question: &[u8],
+    answer: &mut [u8],
+) -> usize
+    requires { length answer.old ≡ 16 }
+    ensures within { result ≤ 16 }
+    ensures given { S.given source.new ≡ S.given source.old ++ take result answer.new }
+    ensures sent { 0 < result → K.sent sink.new ≡ K.sent sink.old ++ question.now }
+    ensures cause { Rose (K.faults sink.old) (K.faults sink.new) ⊎ HasStopped (take result answer.new) (S.over source.new) (S.faults source.old) (S.faults source.new) }
 {
     match send_all(sink, question) {
-        Reach::Ready => read_reply(source),
-        Reach::Failed => Reply::Broken,
+        Reach::Ready => read_line(source, answer),
+        Reach::Failed => 0,
     }
 }
 
 /// Reads an answer's line, up to a line feed, an end or a failure.
-fn read_reply<S: Source>(source: &mut S) -> Reply
-    ensures given { Grows (S.given source.old) (S.given source.new) }
-    ensures reply { IsReply (gained (S.given source.old) (S.given source.new)) result }
-    ensures stands { result ≢ Reply.Broken → S.faults source.new ≡ S.faults source.old }
-    ensures later { S.faults source.old ≤ S.faults source.new }
-    ensures cause { result ≡ Reply.Broken → HasStopped (gained (S.given source.old) (S.given source.new)) (S.over source.new) (S.faults source.old) (S.faults source.new) }
+fn read_line<S: Source>(source: &mut S, answer: &mut [u8]) -> usize
+    requires { length answer.old ≡ 16 }
+    ensures within { result ≤ 16 }
+    ensures given { S.given source.new ≡ S.given source.old ++ take result answer.new }
+    ensures cause { HasStopped (take result answer.new) (S.over source.new) (S.faults source.old) (S.faults source.new) }
 {
-    let mut buffer = [0; ROOM];
     let mut filled = 0;
-    while filled < ROOM && !buffer[..filled].contains(&b'\n') {
-        match source.read(&mut buffer[filled..]) {
+    while filled < ROOM && !answer[..filled].contains(&b'\n') {
+        match source.read(&mut answer[filled..]) {
             Got::Bytes(count) => filled += count,
-            Got::End | Got::Failed => return reply_in(&buffer[..filled]),
+            Got::End | Got::Failed => return filled,
         }
     }
-    reply_in(&buffer[..filled])
+    filled
 }
 
-/// What these bytes are.
-fn reply_in(bytes: &[u8]) -> Reply
+/// What the bytes that came back are.
+pub fn reply_in(bytes: &[u8]) -> Reply
     ensures { IsReply bytes.now result }
 {
     match bytes {

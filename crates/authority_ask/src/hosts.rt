@@ -1,19 +1,21 @@
-// Authorities that are asked over TCP, and a clock that answers by itself.
+// Authorities that are asked over wires, and a clock that answers by itself.
 ghost use Rattle.std.specs.Prelude.{◌≡◌, ◌≢◌, ◌<◌, ◌≤◌, ◌++◌, ◌∷◌, [], length, map, replicate, slice_get, slice_set, IfNone, IfOk, IfSome, IsSome, Option, Some, None, ℕ, List, codes};
 ghost use Rattle.std.specs.Option.{option_copied};
 ghost use Rattle.nal_term.specs.Trees.{formula_tree};
 ghost use Rattle.authority_ask.specs.AskLogs.{all_told};
 ghost use Rattle.nx_io.specs.Streams.{Rose, faults_after_reach, one_more};
-ghost use Rattle.authority_ask.specs.Hosts.{Hosting, NeedsClock, address_at, address_bytes};
+ghost use Rattle.authority_ask.specs.Exchanges.{IsAnswerTo, IsAskedOver};
+ghost use Rattle.authority_ask.specs.Hosts.{IsAskedAt, NeedsClock, address_at, address_bytes};
 ghost use Rattle.authority_ask.specs.Panels.{IfMade, IsFresh, faults_after_ask, faults_after_share, reached_after};
 ghost use Rattle.authority_ask.specs.TimeTests.{clock_answer, time_test};
 
 use crate::ask_log::AskLog;
 use crate::clocks::Clock;
-use crate::connections::Connection;
-use crate::conversations::question_line;
+use crate::conversations::{ROOM, Reply, question_line, reply_in};
 use crate::panels::{Ask, Panel};
+use crate::tcp_wires::TcpWires;
 use crate::time_tests::TimeTest;
+use crate::wires::Wires;
 use arrayvec::ArrayVec;
 use nal_term::Formula;
 use nx_io::{Reach, Shared};
@@ -31,21 +33,21 @@ const CLOCK: &[u8] = b"clock";
 /// An address, of at most 64 bytes.
 type Address = ArrayVec<u8, 64>;
 
-/// The authorities of a host. At the address `clock` the panel's own clock answers; any other authority is asked over
-/// TCP. Contracts see what was asked, the addresses, the faults and the clock. `docs/FORMATS.md`, "Authorities", states
-/// the lines that go over a connection.
+/// Authorities over wires. At the address `clock` the panel's own clock answers; any other authority is asked over the wires.
+/// Contracts see what was asked, the addresses, the faults, the clock and the wires. `docs/FORMATS.md`, "Authorities", states
+/// the lines that go over them.
 #[derive(Drop)]
-pub struct HostPanel<C: Clock + Drop> {
+pub struct AuthorityPanel<C: Clock + Drop, W: Wires + Drop> {
     alloc: Global,
     clock: C,
+    wires: W,
     addresses: Vec<Option<Address>>,
-    connections: Vec<Option<Connection>>,
     said: AskLog,
     asks: u64,
     faults: u64,
 }
 
-impl<C: Clock + Drop> Model for HostPanel<C> {
+impl<C: Clock + Drop, W: Wires + Drop> Model for AuthorityPanel<C, W> {
     ghost use Rattle.std.specs.Prelude.{◌≡◌, length, map};
     ghost use Rattle.std.specs.Coded.{codes};
     ghost use Rattle.nal_term.specs.contracts.terms.Term as t;
@@ -53,54 +55,68 @@ impl<C: Clock + Drop> Model for HostPanel<C> {
     ghost use Rattle.authority_ask.specs.AskLogs.{made_in};
     ghost use Rattle.authority_ask.specs.Hosts.{Hosting, address_bytes};
 
-    ghost Value = { Hosting C };
+    ghost Value = { Hosting C W };
 
     ghost coded = { Prim.hlevel (codes, t.the_row.coded, f.the_row.coded) };
 
-    ghost view = { λ p. record { said = made_in p.said; asks = p.asks; reached = map address_bytes p.addresses.items; faults = p.faults; clock = p.clock } };
+    ghost view = { λ p. record { said = made_in p.said; asks = p.asks; reached = map address_bytes p.addresses.items; faults = p.faults; clock = p.clock; wires = p.wires } };
 
-    ghost invariant = { λ p. (length p.addresses.items ≡ 16) × (length p.connections.items ≡ 16) };
+    ghost invariant = { λ p. length p.addresses.items ≡ 16 };
 }
 
-impl<C: Clock + Drop> HostPanel<C> {
-    /// A panel with this clock, which has reached nobody. All that it will need to know addresses is taken here. An `Err`
-    /// is want of memory.
+/// The panel of a host: its authorities are asked over TCP.
+pub type HostPanel<C> = AuthorityPanel<C, TcpWires>;
+
+impl<C: Clock + Drop> AuthorityPanel<C, TcpWires> {
+    /// A panel with this clock, whose authorities are asked over TCP, and which has reached nobody. All that it will need to know
+    /// addresses is taken here. An `Err` is want of memory.
     pub fn new(alloc: Global, clock: C) -> Result<HostPanel<C>, AllocError>
-        ensures { IfOk result (λ panel. panel ≡ record { said = []; asks = 0; reached = replicate 16 None; faults = 0; clock = clock }) }
+        ensures { IfOk result (λ panel. panel ≡ record { said = []; asks = 0; reached = replicate 16 None; faults = 0; clock = clock; wires = [] }) }
+    {
+        AuthorityPanel::over(alloc, clock, TcpWires::new(alloc)?)
+    }
+}
+
+impl<C: Clock + Drop, W: Wires + Drop> AuthorityPanel<C, W> {
+    /// A panel with this clock over these wires, which has reached nobody. An `Err` is want of memory.
+    pub fn over(alloc: Global, clock: C, wires: W) -> Result<AuthorityPanel<C, W>, AllocError>
+        ensures { IfOk result (λ panel. panel ≡ record { said = []; asks = 0; reached = replicate 16 None; faults = 0; clock = clock; wires = wires }) }
     {
         let addresses = no_addresses(alloc)?;
-        HostPanel::over(alloc, clock, addresses)
+        Ok(AuthorityPanel::at(alloc, clock, wires, addresses))
     }
 
     // A panel of these addresses, which was asked nothing.
-    fn over(
+    fn at(
         alloc: Global,
         clock: C,
+        wires: W,
         addresses: Vec<Option<Address>>,
-    ) -> Result<HostPanel<C>, AllocError>
+    ) -> AuthorityPanel<C, W>
         requires { length addresses.items ≡ 16 }
-        ensures { IfOk result (λ panel. panel ≡ record { said = []; asks = 0; reached = map address_bytes addresses.items; faults = 0; clock = clock }) }
+        ensures { result ≡ record { said = []; asks = 0; reached = map address_bytes addresses.items; faults = 0; clock = clock; wires = wires } }
     {
-        Ok(HostPanel {
+        AuthorityPanel {
             alloc,
             clock,
+            wires,
             addresses,
-            connections: no_connections(alloc)?,
             said: AskLog::Start,
             asks: 0,
             faults: 0,
-        })
+        }
     }
 
     // Connects to an address and sets it. A failure leaves all as it was.
-    fn connect<R: Net<Listener = TcpListener, Stream = TcpStream>>(
+    fn connect<R: Net<Listener = TcpListener, Stream = TcpStream> + SystemClock>(
         &mut self,
         rt: &R,
         port: u64,
         address: &[u8],
     ) -> Reach
         ensures reached { Some self.new.reached ≡ reached_after result port address.now (Some self.old.reached) }
-        ensures others { self.new ≡ record self.old { reached = self.new.reached } }
+        ensures others { self.new ≡ record self.old { reached = self.new.reached; wires = self.new.wires } }
+        ensures nothing_asked { W.exchanged self.new.wires ≡ W.exchanged self.old.wires }
         ensures outside { 16 ≤ port → result ≡ Reach.Failed }
         ensures long { 64 < length address.now → result ≡ Reach.Failed }
         ensures clock { port < 16 → address.now ≡ codes "clock" → result ≡ Reach.Ready }
@@ -111,16 +127,11 @@ impl<C: Clock + Drop> HostPanel<C> {
         if port >= PORTS {
             return Reach::Failed;
         }
-        let connection = if address == CLOCK {
-            None
-        } else {
-            let Some(connection) = Connection::open(rt, address) else {
-                return Reach::Failed;
-            };
-            Some(connection)
-        };
+        match wired(rt, &mut self.wires, port, address) {
+            Reach::Ready => {}
+            Reach::Failed => return Reach::Failed,
+        }
         self.addresses[port as usize] = Some(place);
-        self.connections[port as usize] = connection;
         Reach::Ready
     }
 
@@ -131,7 +142,8 @@ impl<C: Clock + Drop> HostPanel<C> {
         port: u64,
         statement: &Formula,
     ) -> Ask
-        ensures others { self.new ≡ record self.old { clock = self.new.clock } }
+        ensures others { self.new ≡ record self.old { clock = self.new.clock; wires = self.new.wires } }
+        ensures over_wires { IsAskedAt self.old.reached port (formula_tree statement.now) (W.exchanged self.old.wires) (W.exchanged self.new.wires) result }
         ensures unreached { address_at self.old.reached port ≡ None → result ≡ Ask.Down }
         ensures by_clock { address_at self.old.reached port ≡ Some (codes "clock") → result ≡ clock_answer (C.given self.new.clock) (formula_tree statement.now) }
         ensures clock_down { address_at self.old.reached port ≡ Some (codes "clock") → result ≡ Ask.Down → Rose (C.faults self.old.clock) (C.faults self.new.clock) }
@@ -144,14 +156,11 @@ impl<C: Clock + Drop> HostPanel<C> {
         if address == CLOCK {
             return ask_clock(rt, &mut self.clock, statement);
         }
-        let connection = self.connections[port as usize].take();
-        let (answer, kept) = ask_over(rt, self.alloc, address, connection, statement);
-        self.connections[port as usize] = kept;
-        answer
+        ask_over(rt, self.alloc, &mut self.wires, port, address, statement)
     }
 }
 
-impl<C: Clock + Drop> Panel for HostPanel<C> {
+impl<C: Clock + Drop, W: Wires + Drop> Panel for AuthorityPanel<C, W> {
     ghost said = { λ p. all_told p.said };
 
     ghost asks = { λ p. p.asks };
@@ -174,6 +183,7 @@ impl<C: Clock + Drop> Panel for HostPanel<C> {
         ensures later { self.old.faults ≤ self.new.faults }
         ensures count { self.new.faults ≡ faults_after_reach result self.old.faults }
         ensures clock_rests { self.new.clock ≡ self.old.clock }
+        ensures nothing_asked { W.exchanged self.new.wires ≡ W.exchanged self.old.wires }
         ensures outside { 16 ≤ port → result ≡ Reach.Failed }
         ensures long { 64 < length address.now → result ≡ Reach.Failed }
         ensures by_clock { port < 16 → address.now ≡ codes "clock" → result ≡ Reach.Ready }
@@ -187,8 +197,9 @@ impl<C: Clock + Drop> Panel for HostPanel<C> {
     }
 
     /// As of any panel. At a port of the address `clock` the clock answers, and is called where the statement has one of
-    /// the six forms alone; it is Down there only where the clock failed in this call. At a port that was not reached it is
-    /// Down.
+    /// the six forms alone; it is Down there only where the clock failed in this call. At any other address exactly one line is
+    /// exchanged, which asks this statement there, and the answer is that of the bytes that came back for it. At a port that was
+    /// not reached it is Down, and nothing is exchanged.
     fn ask<R: Net<Listener = TcpListener, Stream = TcpStream> + SystemClock>(
         &mut self,
         rt: &R,
@@ -200,6 +211,7 @@ impl<C: Clock + Drop> Panel for HostPanel<C> {
         ensures reached { Some self.new.reached ≡ Some self.old.reached }
         ensures later { self.old.faults ≤ self.new.faults }
         ensures count { self.new.faults ≡ faults_after_ask result self.old.faults }
+        ensures over_wires { IsAskedAt self.old.reached port (formula_tree statement.now) (W.exchanged self.old.wires) (W.exchanged self.new.wires) result }
         ensures unreached { address_at self.old.reached port ≡ None → result ≡ Ask.Down }
         ensures by_clock { address_at self.old.reached port ≡ Some (codes "clock") → result ≡ clock_answer (C.given self.new.clock) (formula_tree statement.now) }
         ensures clock_down { address_at self.old.reached port ≡ Some (codes "clock") → result ≡ Ask.Down → Rose (C.faults self.old.clock) (C.faults self.new.clock) }
@@ -217,7 +229,7 @@ impl<C: Clock + Drop> Panel for HostPanel<C> {
     }
 
     /// As of any panel, with a share of the clock. It connects for itself at its first ask at each port. It never fails.
-    fn share(&mut self) -> Shared<HostPanel<C>>
+    fn share(&mut self) -> Shared<AuthorityPanel<C, W>>
         ensures fresh { IfMade result (λ share. IsFresh (all_told share.said) share.asks share.faults) }
         ensures shared { IfMade result (λ share. Some share.reached ≡ Some self.old.reached) }
         ensures said { all_told self.new.said ≡ all_told self.old.said }
@@ -227,15 +239,68 @@ impl<C: Clock + Drop> Panel for HostPanel<C> {
         ensures count { self.new.faults ≡ faults_after_share result self.old.faults }
         ensures clock { IfMade result (λ share. (C.given share.clock ≡ None) × (C.calls share.clock ≡ 0) × (C.faults share.clock ≡ 0)) }
         ensures clock_rests { self.new.clock ≡ self.old.clock }
+        ensures wires { IfMade result (λ share. W.exchanged share.wires ≡ []) }
+        ensures wires_rest { self.new.wires ≡ self.old.wires }
         ensures sound { result ≢ Shared.Failed }
     {
         let Ok(addresses) = copies(self.alloc, self.addresses.as_slice()) else {
             return Shared::NoMemory;
         };
-        match HostPanel::over(self.alloc, self.clock.share(), addresses) {
-            Ok(share) => Shared::Made(share),
-            Err(AllocError) => Shared::NoMemory,
-        }
+        let Ok(wires) = self.wires.share(self.alloc) else {
+            return Shared::NoMemory;
+        };
+        let clock = self.clock.share();
+        Shared::Made(AuthorityPanel::at(self.alloc, clock, wires, addresses))
+    }
+}
+
+/// Has wires reach an address: at `clock` there is nothing to connect to.
+fn wired<W: Wires, R: Net<Listener = TcpListener, Stream = TcpStream> + SystemClock>(
+    rt: &R,
+    wires: &mut W,
+    port: u64,
+    address: &[u8],
+) -> Reach
+    requires { port < 16 }
+    ensures nothing_asked { W.exchanged wires.new ≡ W.exchanged wires.old }
+    ensures clock { address.now ≡ codes "clock" → result ≡ Reach.Ready }
+{
+    if address == CLOCK {
+        wires.disconnect(port);
+        Reach::Ready
+    } else {
+        wires.connect(rt, port, address)
+    }
+}
+
+/// What the authority at an address answers over wires.
+fn ask_over<W: Wires, R: Net<Listener = TcpListener, Stream = TcpStream> + SystemClock>(
+    rt: &R,
+    alloc: Global,
+    wires: &mut W,
+    port: u64,
+    address: &[u8],
+    statement: &Formula,
+) -> Ask
+    requires { port < 16 }
+    ensures { IsAskedOver port address.now (formula_tree statement.now) (W.exchanged wires.old) (W.exchanged wires.new) result }
+{
+    let Ok(question) = question_line(alloc, statement) else {
+        return Ask::NoMemory;
+    };
+    let mut answer = [0; ROOM];
+    let count = wires.exchange(rt, port, address, question.as_slice(), &mut answer);
+    answer_in(&answer[..count])
+}
+
+/// The answer of the bytes that came back.
+fn answer_in(bytes: &[u8]) -> Ask
+    ensures { IsAnswerTo bytes.now result }
+{
+    match reply_in(bytes) {
+        Reply::Line { yes: true } | Reply::LineAndMore { yes: true } => Ask::Yes,
+        Reply::Line { yes: false } | Reply::LineAndMore { yes: false } => Ask::No,
+        Reply::Broken => Ask::Down,
     }
 }
 
@@ -263,30 +328,6 @@ fn ask_clock<C: Clock, R: Net<Listener = TcpListener, Stream = TcpStream> + Syst
             }
         }
     }
-}
-
-/// What an authority answers over TCP, and the connection to it that can be used again. Without a connection it connects
-/// first.
-fn ask_over<R: Net<Listener = TcpListener, Stream = TcpStream>>(
-    rt: &R,
-    alloc: Global,
-    address: &[u8],
-    connection: Option<Connection>,
-    statement: &Formula,
-) -> (Ask, Option<Connection>)
-    ensures { result.0 ≡ Ask.Down → result.1 ≡ None }
-{
-    let Ok(question) = question_line(alloc, statement) else {
-        return (Ask::NoMemory, connection);
-    };
-    let connection = match connection {
-        Some(connection) => connection,
-        None => match Connection::open(rt, address) {
-            Some(connection) => connection,
-            None => return (Ask::Down, None),
-        },
-    };
-    connection.ask(statement, question.as_slice())
 }
 
 /// A copy of an address. None exactly where it has over 64 bytes.
@@ -322,17 +363,6 @@ fn no_addresses(alloc: Global) -> Result<Vec<Option<Address>>, AllocError>
         addresses.push(None)?;
     }
     Ok(addresses)
-}
-
-/// No connection for each port.
-fn no_connections(alloc: Global) -> Result<Vec<Option<Connection>>, AllocError>
-    ensures { IfOk result (λ connections. length connections.items ≡ 16) }
-{
-    let mut connections = Vec::with_capacity(alloc, 16)?;
-    for _port in 0..PORTS {
-        connections.push(None)?;
-    }
-    Ok(connections)
 }
 
 /// A copy of the address of a port.

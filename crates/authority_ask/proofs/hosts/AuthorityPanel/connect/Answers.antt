@@ -2,7 +2,7 @@ use Rattle.std.proofs.Common.{ap, ◌∙◌, set, Some}
 use Rattle.std.proofs.lemmas.List.{map-set}
 use Rattle.authority_ask.specs.Hosts.{address_bytes}
 use Rattle.authority_ask.specs.Panels.{Places}
-use Rattle.authority_ask.proofs.hosts.HostPanel.connect.Goals as goal
+use Rattle.authority_ask.proofs.hosts.AuthorityPanel.connect.Goals as goal
 
 -- The address of this port is the new one.
 pub returns-clause-reached : goal.returns-clause-reached
