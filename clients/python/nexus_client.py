@@ -31,6 +31,7 @@ The bytes pass in the clear, the secret too: connect over loopback, or through a
 from __future__ import annotations
 
 import re
+import select
 import socket
 import struct
 import time
@@ -505,6 +506,16 @@ class Client:
     def waiting(self) -> int:
         """How many requests were sent whose replies have not been received."""
         return self._waiting
+
+    @property
+    def is_quiet(self) -> bool:
+        """Whether the connection stands and nothing waits to be received. Where every reply was received and it is not quiet, the service
+        has ended the session, or what came is the reply to nothing; whoever keeps sessions takes another one then."""
+        if self._ended is not None or self._ahead or self.socket.fileno() < 0:
+            return False
+        poll = select.poll()
+        poll.register(self.socket, select.POLLIN)
+        return not poll.poll(0)
 
     # One request after another
 

@@ -241,6 +241,20 @@ class Ends(unittest.TestCase):
             self.assertEqual([client.receive(), client.receive()], [Done(1, 0), Done(2, 1)])
             self.assertEqual(client.waiting, 0)
 
+    def test_quiet(self) -> None:
+        client, service = pair()
+        with client, service:
+            self.assertTrue(client.is_quiet)
+            service.sendall(encode_reply("nomemory") + encode_reply("done 1 0"))
+            self.assertFalse(client.is_quiet)
+            self.assertEqual(client.receive(), NoMemory())
+            self.assertFalse(client.is_quiet)
+            self.assertEqual(client.receive(), Done(1, 0))
+            self.assertTrue(client.is_quiet)
+            service.close()
+            self.assertFalse(client.is_quiet)
+        self.assertFalse(client.is_quiet)
+
     def test_window(self) -> None:
         client, service = pair()
         with client, service:

@@ -1,0 +1,48 @@
+# shellcheck shell=bash
+# For scripts that play an example against a program of Debian.
+
+# need COMMAND PACKAGE: whether there is the command. Where it is missing, root installs its package; nothing is started by that, now or
+# at the next start of the machine. What apt-get says is not shown.
+need() {
+    local policy=/usr/sbin/policy-rc.d ours=
+    command -v "$1" >/dev/null && return 0
+    [ "$(id -u)" -eq 0 ] && command -v apt-get >/dev/null || return 1
+    if [ ! -e "$policy" ]; then
+        printf '#!/bin/sh\nexit 101\n' >"$policy" && chmod 755 "$policy"
+        ours=1
+    fi
+    install_package "$2" || { apt_get update; install_package "$2"; }
+    [ -z "$ours" ] || rm -f "$policy"
+    if [ -d /run/systemd/system ]; then
+        systemctl disable "$2" 2>/dev/null
+    fi
+    command -v "$1" >/dev/null
+}
+
+apt_get() {
+    DEBIAN_FRONTEND=noninteractive timeout 300 apt-get -o Acquire::Retries=0 -o Acquire::http::Timeout=10 "$@" >/dev/null 2>&1
+}
+
+install_package() {
+    apt_get --yes --no-install-recommends install "$1"
+}
+
+# free_ports COUNT: prints so many ports of this machine on which nobody listens, each another one.
+free_ports() {
+    python3 - "$1" <<'PYTHON'
+import socket, sys
+doors = [socket.create_server(("127.0.0.1", 0)) for _ in range(int(sys.argv[1]))]
+print(*(it.getsockname()[1] for it in doors))
+PYTHON
+}
+
+# await_port PORT: waits until somebody listens there, at most ten seconds.
+await_port() {
+    local turn
+    for turn in $(seq 200); do
+        (exec 3<>"/dev/tcp/127.0.0.1/$1") 2>/dev/null && return 0
+        sleep 0.05
+    done
+    echo "nobody listens at port $1 after $turn turns" >&2
+    return 1
+}
