@@ -10,7 +10,6 @@ here=$(cd "$(dirname "$0")" && pwd) || exit 1
 # shellcheck source=service.sh
 . "$here/service.sh"
 
-top=$here/../..
 for it in nginx curl; do
     if ! need "$it" "$it"; then
         echo "examples/nginx: skipped, since there is no $it and it could not be installed"
@@ -19,10 +18,10 @@ for it in nginx curl; do
 done
 
 # The command of docs/OPERATING.md takes the place of the one of service.sh.
-shown=$(sed -n 's|^    \$ \(clients/python/nexus_http.py .*\) &$|\1|p' "$top/docs/OPERATING.md")
+gate_command=$(shown 'Beside nginx' | sed -n 's|^\$ \(clients/python/nexus_http.py .*\) &$|\1|p')
 
 start_gate() {
-    local command=${shown/127.0.0.1:4000/127.0.0.1:$nexus_port}
+    local command=${gate_command/127.0.0.1:4000/127.0.0.1:$nexus_port}
     command=${command/127.0.0.1:4180/127.0.0.1:$gate_port}
     # The words of the document, without quotes.
     # shellcheck disable=SC2086
@@ -199,7 +198,7 @@ play_document() {
         else
             differs 'docs/OPERATING.md' 'a line of the example' "$line"
         fi
-    done < <(sed -n '/^## Beside nginx$/,/^## Why/{/^    [^$]/s/^ *//p}' "$top/docs/OPERATING.md")
+    done < <(shown 'Beside nginx' | grep -v '^\$ ')
 }
 
 play_log() {

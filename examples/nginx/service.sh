@@ -7,9 +7,10 @@
 set -u
 
 here=$(cd "$(dirname "${BASH_SOURCE[0]}")" && pwd) || exit 1
-program=${1:-$here/../../nexus}
-# shellcheck source=../../tools/debian.sh
-. "$here/../../tools/debian.sh"
+top=$here/../..
+program=${1:-$top/nexus}
+# shellcheck source=../../tools/play.sh
+. "$top/tools/play.sh"
 
 # Makes the folder that all is in, and draws the ports.
 lay_out() {
@@ -42,7 +43,7 @@ stop() {
 }
 
 start_desk() {
-    start desk "$desk_port" python3 -B "$here/../operating/authority.py" "127.0.0.1:$desk_port" "$work/rota"
+    start desk "$desk_port" python3 -B "$top/examples/operating/authority.py" "127.0.0.1:$desk_port" "$work/rota"
 }
 
 start_nexus() {
@@ -51,7 +52,7 @@ start_nexus() {
 }
 
 start_gate() {
-    start gate "$gate_port" python3 -B "$here/../../clients/python/nexus_http.py" \
+    start gate "$gate_port" python3 -B "$top/clients/python/nexus_http.py" \
         --nexus "127.0.0.1:$nexus_port" --listen "127.0.0.1:$gate_port" --table "$here/table" --sessions 6 >"$work/gate.log"
 }
 

@@ -1,5 +1,5 @@
 # shellcheck shell=bash
-# For scripts that play an example against a program of Debian.
+# For scripts that play an example against a program of Debian, which have set `top` to the top of the repository.
 
 # need COMMAND PACKAGE: whether there is the command. Where it is missing, root installs its package; nothing is started by that, now or
 # at the next start of the machine. What apt-get says is not shown.
@@ -36,13 +36,20 @@ print(*(it.getsockname()[1] for it in doors))
 PYTHON
 }
 
-# await_port PORT: waits until somebody listens there, at most ten seconds.
+# await_port PORT: waits until somebody listens there, at most ten seconds. It makes no connection, as that would be a session of a service.
 await_port() {
-    local turn
-    for turn in $(seq 200); do
-        (exec 3<>"/dev/tcp/127.0.0.1/$1") 2>/dev/null && return 0
+    local row
+    row=$(printf ': 0100007F:%04X 00000000:0000 0A ' "$1")
+    for _ in $(seq 200); do
+        grep -qF "$row" /proc/net/tcp && return 0
         sleep 0.05
     done
-    echo "nobody listens at port $1 after $turn turns" >&2
+    echo "nobody listens at port $1" >&2
     return 1
+}
+
+# shown HEADING: the indented lines that docs/OPERATING.md shows in this section, without blanks in front. Commands begin with `$ `.
+shown() {
+    # shellcheck disable=SC2154
+    sed -n "/^## $1\$/,/^## [^${1:0:1}]/s/^    *//p" "$top/docs/OPERATING.md"
 }
