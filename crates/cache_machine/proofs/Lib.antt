@@ -1,8 +1,6 @@
 pub mod Plans
-pub mod Refusing
 pub mod Sameness
 pub mod Starting
-pub mod Judged
 pub mod Keeping
 pub mod Acts
 pub mod Stepping

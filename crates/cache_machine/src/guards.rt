@@ -12,7 +12,7 @@ use crate::looks::after_verdict;
 use crate::same::same_events;
 use crate::stages::{Actor, Kept, Move, Stage, World};
 use crate::steps::Told;
-use crate::verdicts::verdict;
+use case_verdict::verdict;
 use nal_rules::{Case, Cause, Verdict};
 use nal_term::Name;
 use policy_history::{Event, Found};

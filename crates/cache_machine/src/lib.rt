@@ -10,7 +10,6 @@ mod moves;
 mod same;
 mod stages;
 mod steps;
-mod verdicts;
 
 pub use drives::drive;
 pub use machine::Machine;

@@ -5,18 +5,16 @@ use Rattle.std.proofs.lemmas.Option.{slice_get_within}
 use Rattle.proof_lines.specs.declared.rules.Rule.{Rule}
 use Rattle.proof_lines.specs.declared.rules.Rule.TheVariants.{Ask}
 use Rattle.proof_lines.specs.Lines.{LineTree}
-use Rattle.nal_rules.specs.Faults.{is_ask, line_at}
+use Rattle.nal_rules.specs.Faults.{is_ask}
 use Rattle.nal_rules.specs.Verdicts.{IsAnsweredNo, IsLowest, ask_place}
 use Rattle.proof_check.proofs.ForCallers.{one_more}
+use Rattle.case_verdict.specs.OpenCases.{IsAskLine}
 
 -- the first lines were gone through: none of them is refused, and so many of them are ask lines
 pub record IsGoneThrough (ls : List LineTree) (answers : List Bool) (i asks : ℕ) : Type 0 where
   pub none : (j : ℕ) → j < i + 1 → ¬ IsAnsweredNo ls answers j
   pub count : asks ≡ length (filter is_ask (take i ls))
   pub few : asks ≤ i
-
-abbrev IsAskLine : List LineTree → ℕ → Type 0
-IsAskLine ls k = (l : LineTree) × (line_at ls k ≡ Some l) × (l.rule ≡ Ask)
 
 none_at_zero : (ls : List LineTree) (answers : List Bool) → ¬ IsAnsweredNo ls answers 0
 none_at_zero ls answers n = cc n.1

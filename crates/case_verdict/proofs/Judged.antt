@@ -9,6 +9,7 @@ use Rattle.nal_rules.specs.declared.verdicts.Fault.{Fault}
 use Rattle.nal_rules.specs.declared.verdicts.Cause.{Cause}
 use Rattle.nal_rules.specs.declared.verdicts.Cause.TheVariants.{GoalUnset, NoProof, Line, LabelMissing, NotBound, AuthorityNo}
 use Rattle.nal_rules.specs.declared.verdicts.Verdict.TheVariants.{Allowed, Denied}
+use Rattle.case_verdict.specs.OpenCases.{IsOpen}
 
 no_lines_stand : (k : ℕ) (l : LineTree) → line_at [] k ≡ Some l → ⊥
 no_lines_stand zero l e = cc e
@@ -20,6 +21,34 @@ no_lines (l ∷ ls) e = absurd (cc e)
 
 some_same : {A : Type 0} (p q : A) → Some p ≡ Some q → p ≡ q
 some_same p q s = cc
+
+-- no answer changes a cause but that of authorities
+pub unaffected : (c : CaseTree) (a b : List Bool) (cause : Cause) → cause_number cause < 6 → HasCause c a cause → HasCause c b cause
+unaffected c a b GoalUnset low has = has
+unaffected c a b NoProof low has = has
+unaffected c a b (Line k fault) low has = has
+unaffected c a b (LabelMissing k) low has = has
+unaffected c a b (NotBound k) low has = has
+unaffected c a b (AuthorityNo k) low has = absurd (omega (arith, low))
+
+-- of an open case no cause applies but that of authorities
+open_else : (c : CaseTree) (ls : List LineTree) (answers : List Bool) → IsOpen c ls → (cause : Cause) → cause_number cause < 6 → ¬ HasCause c answers cause
+open_else c ls answers o cause low has = o.undecided (cause, low, unaffected c answers [] cause low has)
+
+-- the first ask line that is not answered Yes denies an open case
+pub refused : (c : CaseTree) (ls : List LineTree) (answers : List Bool) (k : ℕ) → IsOpen c ls → IsLowest (IsAnsweredNo ls answers) k → IsVerdict c answers (Denied (AuthorityNo k))
+refused c ls answers k o lowest = ((ls, o.proof_is, lowest), open_else c ls answers o)
+
+-- and where each is answered Yes it is allowed
+pub affirmed : (c : CaseTree) (ls : List LineTree) (answers : List Bool) → IsOpen c ls → ((k : ℕ) → ¬ IsAnsweredNo ls answers k) → IsVerdict c answers Allowed
+affirmed c ls answers o none GoalUnset has = open_else c ls answers o GoalUnset (omega arith) has
+affirmed c ls answers o none NoProof has = open_else c ls answers o NoProof (omega arith) has
+affirmed c ls answers o none (Line j f) has = open_else c ls answers o (Line j f) (omega arith) has
+affirmed c ls answers o none (LabelMissing j) has = open_else c ls answers o (LabelMissing j) (omega arith) has
+affirmed c ls answers o none (NotBound j) has = open_else c ls answers o (NotBound j) (omega arith) has
+affirmed c ls answers o none (AuthorityNo k) has =
+    let same : has.0 ≡ ls = some_same has.0 ls (sym has.1 ∙ o.proof_is) in
+    none k (subst (λ (xs : List LineTree). IsAnsweredNo xs answers k) same has.2.0)
 
 module _ (c : CaseTree) (goal : FormulaTree) (ls : List LineTree) (answers : List Bool) (goal_is : c.goal ≡ Some goal) (proof_is : c.proof ≡ Some ls) where
   goal_set : ¬ HasCause c answers GoalUnset
@@ -93,13 +122,5 @@ module _ (c : CaseTree) (goal : FormulaTree) (ls : List LineTree) (answers : Lis
         left_open (NotBound j) h has = no_unbound j has
         left_open (AuthorityNo j) h has = omega (arith, h)
 
-        pub refused : (k : ℕ) → IsLowest (IsAnsweredNo ls answers) k → IsVerdict c answers (Denied (AuthorityNo k))
-        refused k lowest = ((ls, proof_is, lowest), left_open)
-
-        pub affirmed : ((k : ℕ) → ¬ IsAnsweredNo ls answers k) → IsVerdict c answers Allowed
-        affirmed none GoalUnset has = goal_set has
-        affirmed none NoProof has = proof_set some has
-        affirmed none (Line j f) has = no_fault j f has
-        affirmed none (LabelMissing j) has = no_label j has
-        affirmed none (NotBound j) has = no_unbound j has
-        affirmed none (AuthorityNo k) has = none k (subst (λ (xs : List LineTree). IsAnsweredNo xs answers k) (same_proof has.0 has.1) has.2.0)
+        pub open_case : answers ≡ [] → IsOpen c ls
+        open_case none = record { proof_is = proof_is; undecided = λ d. left_open d.0 d.1 (subst (λ (bs : List Bool). HasCause c bs d.0) (sym none) d.2) }

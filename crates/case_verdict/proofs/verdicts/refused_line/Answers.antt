@@ -1,9 +1,9 @@
 use Rattle.std.proofs.Common.{◌≤◌, length, arith, refl}
 use Rattle.std.proofs.lemmas.List.{length-map}
 use Rattle.proof_lines.specs.Lines.{line_tree, line_trees}
-use Rattle.cache_machine.proofs.Refusing.{none_refused, past_other, past_yes}
-use Rattle.cache_machine.proofs.verdicts.refused_line.Goals.{then-is_ask_line+else-not-is_yes, else-is_ask_line}
-use Rattle.cache_machine.proofs.verdicts.refused_line.Goals as goal
+use Rattle.case_verdict.proofs.Refusing.{none_refused, past_other, past_yes}
+use Rattle.case_verdict.proofs.verdicts.refused_line.Goals.{then-is_ask_line+else-not-is_yes, else-is_ask_line}
+use Rattle.case_verdict.proofs.verdicts.refused_line.Goals as goal
 
 pub loop-index-preserved : goal.loop-index-preserved
 loop-index-preserved c = elim c.if-is_ask_line.branch [

@@ -1,7 +1,7 @@
 use Rattle.std.proofs.Common.{◌≡◌, refl, ap, sym, ◌∙◌}
 use Rattle.proof_lines.specs.Lines.{LineTree, line_tree}
 use Rattle.proof_check.proofs.ForCallers.{no_line, read_line, same_line}
-use Rattle.cache_machine.proofs.verdicts.is_ask_line.Goals as goal
+use Rattle.case_verdict.proofs.verdicts.is_ask_line.Goals as goal
 
 pub returns-in-Ask : goal.returns-in-Ask
 returns-in-Ask c = ((λ _. (line_tree c.in-Some.line.now, read_line c.args.proof.now c.args.number c.in-Some.line.now c.in-Some.ensures.zero c.in-Some.ensures.value, c.in-Ask.is)), λ _. refl)

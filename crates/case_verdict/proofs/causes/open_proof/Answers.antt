@@ -1,4 +1,4 @@
-use Rattle.std.proofs.Common.{◌≡◌, ℕ, List, [], Option, Some, ap}
+use Rattle.std.proofs.Common.{◌≡◌, ℕ, List, [], Option, Some, ap, arith, refl}
 use Rattle.std.specs.Option.{option_map}
 use Rattle.nal_term.specs.declared.formulas.Formula.{Formula}
 use Rattle.nal_term.specs.Trees.{formula_tree}
@@ -6,41 +6,36 @@ use Rattle.proof_lines.specs.declared.lines.Line.{Line}
 use Rattle.proof_lines.specs.Lines.{line_trees}
 use Rattle.nal_rules.specs.Asking.{case_tree}
 use Rattle.nal_rules.specs.Verdicts.{IsMissingLabel, IsUnbound}
-use Rattle.cache_machine.proofs.Judged.{affirmed, faulty, missing, no_lines, not_bound, refused}
-use Rattle.cache_machine.proofs.verdicts.verdict.Goals as goal
+use Rattle.case_verdict.proofs.Judged.{faulty, missing, no_lines, not_bound, open_case}
+use Rattle.case_verdict.proofs.causes.open_proof.Goals as goal
 
-pub returns-in-Err-Line : goal.returns-in-Err-Line
-returns-in-Err-Line c =
+pub returns-in-Err-Line-clause-denied : goal.returns-in-Err-Line-clause-denied
+returns-in-Err-Line-clause-denied c =
     let tree = case_tree c.args.case.now in
     let goal = formula_tree c.in-Some.goal in
     let ls = line_trees c.in-Some-proof.proof in
     let goal_is : tree.goal ≡ Some goal = ap (λ (o : Option Formula). option_map formula_tree o) c.in-Some.is in
     let proof_is : tree.proof ≡ Some ls = ap (λ (o : Option (List Line)). option_map line_trees o) c.in-Some-proof.is in
-    rw (c.in-Err-Line.line-is, c.in-Err-Line.fault-is) (faulty tree goal ls c.args.answers.now goal_is proof_is c.in-Err-Line.line c.in-Err-Line.fault (rw c.in-Err-Line.field-0-is at c.in-Err-Line.ensures.line))
+    rw (c.in-Err-Line.line-is, c.in-Err-Line.fault-is) (record {
+      decides = omega arith;
+      verdict = λ answers. faulty tree goal ls answers goal_is proof_is c.in-Err-Line.line c.in-Err-Line.fault (rw c.in-Err-Line.field-0-is at c.in-Err-Line.ensures.line);
+    })
 
-pub returns-in-Some-missing_label : goal.returns-in-Some-missing_label
-returns-in-Some-missing_label c =
-    let tree = case_tree c.args.case.now in
-    let goal = formula_tree c.in-Some.goal in
-    let ls = line_trees c.in-Some-proof.proof in
-    let goal_is : tree.goal ≡ Some goal = ap (λ (o : Option Formula). option_map formula_tree o) c.in-Some.is in
-    let proof_is : tree.proof ≡ Some ls = ap (λ (o : Option (List Line)). option_map line_trees o) c.in-Some-proof.is in
-    let some : ls ≡ [] → ⊥ = λ none. let e = c.check.ensures.empty.1 (no_lines c.in-Some-proof.proof none) in let k = c.in-Ok.is in absurd (cc (e, k)) in
-    missing tree goal ls c.args.answers.now goal_is proof_is some c.in-Ok.ensures.faultless c.in-Some-missing_label.line (rw c.as_slice.ensures at c.in-Some-missing_label.ensures)
-
-pub returns-in-Some-unbound_line : goal.returns-in-Some-unbound_line
-returns-in-Some-unbound_line c =
+pub returns-in-Some-missing_label-clause-denied : goal.returns-in-Some-missing_label-clause-denied
+returns-in-Some-missing_label-clause-denied c =
     let tree = case_tree c.args.case.now in
     let goal = formula_tree c.in-Some.goal in
     let ls = line_trees c.in-Some-proof.proof in
     let goal_is : tree.goal ≡ Some goal = ap (λ (o : Option Formula). option_map formula_tree o) c.in-Some.is in
     let proof_is : tree.proof ≡ Some ls = ap (λ (o : Option (List Line)). option_map line_trees o) c.in-Some-proof.is in
     let some : ls ≡ [] → ⊥ = λ none. let e = c.check.ensures.empty.1 (no_lines c.in-Some-proof.proof none) in let k = c.in-Ok.is in absurd (cc (e, k)) in
-    let held : (k : ℕ) → ¬ IsMissingLabel ls tree.labels k = rw c.as_slice.ensures at c.in_default-missing_label.ensures in
-    not_bound tree goal ls c.args.answers.now goal_is proof_is some c.in-Ok.ensures.faultless held c.in-Some-unbound_line.line (rw c.as_slice-2.ensures at c.in-Some-unbound_line.ensures)
+    record {
+      decides = omega arith;
+      verdict = λ answers. missing tree goal ls answers goal_is proof_is some c.in-Ok.ensures.faultless c.in-Some-missing_label.line (rw c.as_slice.ensures at c.in-Some-missing_label.ensures);
+    }
 
-pub returns-in-Some-refused_line : goal.returns-in-Some-refused_line
-returns-in-Some-refused_line c =
+pub returns-in-Some-unbound_line-clause-denied : goal.returns-in-Some-unbound_line-clause-denied
+returns-in-Some-unbound_line-clause-denied c =
     let tree = case_tree c.args.case.now in
     let goal = formula_tree c.in-Some.goal in
     let ls = line_trees c.in-Some-proof.proof in
@@ -48,11 +43,13 @@ returns-in-Some-refused_line c =
     let proof_is : tree.proof ≡ Some ls = ap (λ (o : Option (List Line)). option_map line_trees o) c.in-Some-proof.is in
     let some : ls ≡ [] → ⊥ = λ none. let e = c.check.ensures.empty.1 (no_lines c.in-Some-proof.proof none) in let k = c.in-Ok.is in absurd (cc (e, k)) in
     let held : (k : ℕ) → ¬ IsMissingLabel ls tree.labels k = rw c.as_slice.ensures at c.in_default-missing_label.ensures in
-    let bound : (k : ℕ) → ¬ IsUnbound ls tree.bound k = rw c.as_slice-2.ensures at c.in_default-unbound_line.ensures in
-    refused tree goal ls c.args.answers.now goal_is proof_is some c.in-Ok.ensures.faultless held bound c.in-Some-refused_line.line c.in-Some-refused_line.ensures
+    record {
+      decides = omega arith;
+      verdict = λ answers. not_bound tree goal ls answers goal_is proof_is some c.in-Ok.ensures.faultless held c.in-Some-unbound_line.line (rw c.as_slice-2.ensures at c.in-Some-unbound_line.ensures);
+    }
 
-pub returns-in-None : goal.returns-in-None
-returns-in-None c =
+pub returns-clause-open : goal.returns-clause-open
+returns-clause-open c =
     let tree = case_tree c.args.case.now in
     let goal = formula_tree c.in-Some.goal in
     let ls = line_trees c.in-Some-proof.proof in
@@ -61,4 +58,4 @@ returns-in-None c =
     let some : ls ≡ [] → ⊥ = λ none. let e = c.check.ensures.empty.1 (no_lines c.in-Some-proof.proof none) in let k = c.in-Ok.is in absurd (cc (e, k)) in
     let held : (k : ℕ) → ¬ IsMissingLabel ls tree.labels k = rw c.as_slice.ensures at c.in_default-missing_label.ensures in
     let bound : (k : ℕ) → ¬ IsUnbound ls tree.bound k = rw c.as_slice-2.ensures at c.in_default-unbound_line.ensures in
-    affirmed tree goal ls c.args.answers.now goal_is proof_is some c.in-Ok.ensures.faultless held bound c.in-None.ensures
+    open_case tree goal ls [] goal_is proof_is some c.in-Ok.ensures.faultless held bound refl

@@ -1,0 +1,7 @@
+pub mod Counts
+pub mod AskLines
+pub mod Opened
+pub mod Settled
+pub mod Unknowns
+pub mod Replaying
+pub mod Ordered

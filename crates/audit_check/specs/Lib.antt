@@ -1,0 +1,4 @@
+pub mod Records
+pub mod Audits
+pub mod Laws
+pub mod Inner
