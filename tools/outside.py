@@ -32,6 +32,7 @@ OPENS = re.compile(rf"\b({CALLS})\s*(?:::\s*<[^;{{}}()]*>\s*)?\(|::\s*({CALLS})\
 # Functions of the sources that have the name of such a call and open nothing: the file, and how it is called or declared there.
 NAMESAKES = {
     ("authority_ask/src/hosts.rt", "self.connect("),
+    ("authority_ask/src/hosts.rt", "wires.connect("),
     ("goal_store/src/goals.rt", "pub fn bind("),
     ("journal_text/src/policy_printer.rt", "self.bind("),
     ("journal_text/src/policy_printer.rt", "fn bind("),
