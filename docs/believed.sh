@@ -4,6 +4,8 @@
 #
 #   docs/believed.sh            prints it
 #   docs/believed.sh --check    fails where the document has another one
+#   docs/believed.sh --theorem NAME
+#                               prints what one command, or one definition, makes a reader believe
 set -u
 
 cd "$(dirname "$0")/.." || exit 1
@@ -22,6 +24,9 @@ table() {
     done
 }
 
+if [ "${1:-}" = --theorem ]; then
+    exec docs/reading.py "${2:?}"
+fi
 if [ "${1:-}" != --check ]; then
     table
     exit
@@ -30,3 +35,4 @@ if ! diff <(table) <(sed -n '/^| Crate | Files of `specs\/`/,/^$/p' docs/GUARANT
     echo "docs/GUARANTEES.md has another table of what is to be believed than docs/believed.sh prints"
     exit 1
 fi
+docs/reading.py --check
