@@ -8,10 +8,12 @@ use Rattle.verdict_words.specs.Rule.{met_after, last_met}
 use Rattle.verdict_words.specs.Values.{PassValue, met_seen}
 use Rattle.verdict_words.specs.declared.views.Item.{Item}
 use Rattle.verdict_words.specs.declared.views.Item.TheVariants.{Met}
-use Rattle.verdict_words.proofs.Working.{filter_in, filter_out, filter_none}
+use Rattle.verdict_words.proofs.Ordering.{filter_in, filter_out, filter_none}
 -- what a trail meets, part by part; what holds of all, where another thing does
 pub use Rattle.verdict_words.proofs.Kept.{met_append}
-pub use Rattle.verdict_words.proofs.Working.{all_with}
+pub use Rattle.verdict_words.proofs.Ordering.{all_with}
+-- the atomic steps of a trail with more items
+pub use Rattle.verdict_words.proofs.Ordering.{trail_steps_append, trail_steps_snoc}
 -- prefixes: a list begins itself, a longer list, and what a list begins that it begins; their lengths; what `take` gives of them
 pub use Rattle.verdict_words.proofs.Growing.{prefix_whole, prefix_grows, prefix_through, prefix_length, prefix_take, take_whole}
 

@@ -12,7 +12,9 @@ use Rattle.atomic_table.specs.Table.{State}
 use Rattle.atomic_table.proofs.Lists.{at_set, set_here, set_else}
 use Rattle.verdict_words.specs.Histories.{IsPrefix, Untouched}
 use Rattle.verdict_words.specs.Words.{Sound, object_region, store_region}
-use Rattle.verdict_words.specs.Rule.{met_after, last_met, Stepped, IsLoaded, IsLoading, PassOk, RegionOk, WordsOk, ViewOk, HasPass, IsKept}
+use Rattle.verdict_words.specs.Orders.{leaves, IsDone}
+use Rattle.verdict_words.specs.Rule.{met_after, last_met, pass_steps, IsInOrder, IsLoaded, IsLoading, PassOk, RegionOk, WordsOk, ViewOk, HasPass, IsKept}
+use Rattle.verdict_words.specs.declared.views.AtomicStep.{AtomicStep}
 use Rattle.verdict_words.specs.declared.places.Held.{Held}
 use Rattle.verdict_words.specs.declared.views.Origin.{Origin}
 use Rattle.verdict_words.specs.declared.views.Item.{Item}
@@ -24,7 +26,7 @@ use Rattle.verdict_words.specs.declared.views.BookView.{BookView}
 use Rattle.verdict_words.specs.declared.views.View.{View}
 use Rattle.verdict_words.specs.declared.views.View.TheVariants.{Book, Pass, Spent}
 use Rattle.verdict_words.proofs.Growing.{prefix_whole, prefix_length, prefix_take}
-use Rattle.verdict_words.proofs.Working.{put, put_here, put_else, Works}
+use Rattle.verdict_words.proofs.Ordering.{put, put_else, as_told, in_order_waits, in_order_steps, book_waits, order_grows}
 
 pub met_append : (n : ℕ) (xs ys : List Item) → met_after n (xs ++ ys) ≡ met_after (met_after n xs) ys
 met_append n [] ys = refl
@@ -104,17 +106,17 @@ module _ {E H : Type 0} (session : E → ℕ) (right : List E → ℕ → Held �
   W = WordsOk right touches
 
   -- what is known of the pass of a seat
-  pub known_pass : (s : St) (k : K s) (id : ℕ) (p : PassView E H) → get_elem? s.views id ≡ some (Pass p) → (k.holder p.session ≡ id) × (k.trails p.session ≡ p.trail) × P k.book p
+  pub known_pass : (s : St) (k : K s) (id : ℕ) (p : PassView E H) → get_elem? s.views id ≡ some (Pass p) → (k.holder p.session ≡ id) × IsInOrder k.order p × P k.book p
   known_pass s k id p at = k.views_ok id (Pass p) at
 
-  abbrev V : BookView E H → ℕ → (ℕ → ℕ) → (ℕ → List Item) → ℕ → View E H → Type 0
+  abbrev V : BookView E H → ℕ → (ℕ → ℕ) → List AtomicStep → ℕ → View E H → Type 0
   V = ViewOk session right touches o
 
-  -- what is known of the view of another seat, where one session's trail changes
-  other_trail : (b : BookView E H) (seat : ℕ) (holder : ℕ → ℕ) (trails : ℕ → List Item) (n : ℕ) (trail : List Item) (j : ℕ) (v : View E H) → j ≢ holder n → V b seat holder trails j v → V b seat holder (put trails n trail) j v
-  other_trail b seat holder trails n trail j (Book d) ne ok = ok
-  other_trail b seat holder trails n trail j (Pass p) ne ok = (ok.0, put_else trails n trail p.session (λ e. ne (sym ok.0 ∙ ap holder e)) ∙ ok.1, ok.2)
-  other_trail b seat holder trails n trail j Spent ne ok = tt
+  -- what is known of the view of another seat, where one session makes a step
+  other_waits : (b : BookView E H) (seat : ℕ) (holder : ℕ → ℕ) (order : List AtomicStep) (x : AtomicStep) (j : ℕ) (v : View E H) → j ≢ holder x.session → V b seat holder order j v → V b seat holder (order ++ x ∷ []) j v
+  other_waits b seat holder order x j (Book d) ne ok = ok
+  other_waits b seat holder order x j (Pass p) ne ok = (ok.0, in_order_waits order x p (λ e. ne (sym ok.0 ∙ ap holder (sym e))) ok.1, ok.2)
+  other_waits b seat holder order x j Spent ne ok = tt
 
   -- a session has a pass, also where a pass makes a step
   stays_present : (views : List (View E H)) (held : List (PassView E H)) (j n id : ℕ) (p q : PassView E H) → get_elem? views id ≡ some (Pass p) → q.session ≡ p.session
@@ -126,32 +128,36 @@ module _ {E H : Type 0} (session : E → ℕ) (right : List E → ℕ → Held �
       (λ ne. (r, is, inl (set_else views id j (Pass q) ne ∙ there)))
 
   -- and where one session's pass moves
-  pub other_holder : (b : BookView E H) (seat : ℕ) (holder : ℕ → ℕ) (trails : ℕ → List Item) (n x : ℕ) (j : ℕ) (v : View E H) → j ≢ holder n → V b seat holder trails j v → V b seat (put holder n x) trails j v
-  other_holder b seat holder trails n x j (Book d) ne ok = ok
-  other_holder b seat holder trails n x j (Pass p) ne ok = (put_else holder n x p.session (λ e. ne (sym ok.0 ∙ ap holder e)) ∙ ok.0, ok.1, ok.2)
-  other_holder b seat holder trails n x j Spent ne ok = tt
+  pub other_holder : (b : BookView E H) (seat : ℕ) (holder : ℕ → ℕ) (order : List AtomicStep) (n x : ℕ) (j : ℕ) (v : View E H) → j ≢ holder n → V b seat holder order j v → V b seat (put holder n x) order j v
+  other_holder b seat holder order n x j (Book d) ne ok = ok
+  other_holder b seat holder order n x j (Pass p) ne ok = (put_else holder n x p.session (λ e. ne (sym ok.0 ∙ ap holder e)) ∙ ok.0, ok.1, ok.2)
+  other_holder b seat holder order n x j Spent ne ok = tt
 
   -- a step of a pass
-  pub pass_step : (s : St) (k : K s) (id : ℕ) (p q : PassView E H) → get_elem? s.views id ≡ some (Pass p) → q.session ≡ p.session → P k.book q
-      → (words : List ℕ) → W k.book words → (steps : ℕ → List Stepped) → Works o.first k.book.next (put k.trails p.session q.trail) words steps
-      → K record { words = words; homes = s.homes; views = set s.views id (Pass q) }
-  pass_step s k id p q at same ok words words_ok steps works =
+  pub pass_step : (s : St) (k : K s) (id : ℕ) (p q : PassView E H) (x : AtomicStep) → get_elem? s.views id ≡ some (Pass p) → q.session ≡ p.session → x.session ≡ p.session
+      → x.found ≡ get_or s.words x.word 0 → (x.session ≢ 0 → IsDone x.action x.session x.word) → IsPrefix q.known (k.order ++ x ∷ []) → pass_steps q ≡ pass_steps p ++ as_told x ∷ []
+      → P k.book q → W k.book (set s.words x.word (leaves x.action x.found))
+      → K record { words = set s.words x.word (leaves x.action x.found); homes = s.homes; views = set s.views id (Pass q) }
+  pass_step s k id p q x at same mine found done knows gains ok words_ok =
       let known = known_pass s k id p at in
+      let some : x.session ≢ 0 = λ e. let low = known.2.above in let one = k.book_ok.seated.counted in absurd (omega arith) in
+      let order : List AtomicStep = k.order ++ x ∷ [] in
+      let range : (o.first ≤ x.session) × (x.session < k.book.next) = subst (λ n. (o.first ≤ n) × (n < k.book.next)) (sym mine) (known.2.above, known.2.below) in
+      let far : (j : ℕ) → j ≢ id → j ≢ k.holder x.session = λ j ne z. ne (z ∙ (ap k.holder mine ∙ known.0)) in
       let seat_apart : k.seat ≢ id = λ e. apart (get_elem? s.views k.seat) k.book p k.place (ap (get_elem? s.views) e ∙ at) in record {
         seat = k.seat;
         book = k.book;
         holder = k.holder;
-        trails = put k.trails p.session q.trail;
-        steps = steps;
+        order = order;
         place = set_else s.views id k.seat (Pass q) seat_apart ∙ k.place;
         book_ok = k.book_ok;
         words_ok = words_ok;
-        works_ok = works;
-        views_ok = each_set (V k.book k.seat k.holder (put k.trails p.session q.trail)) s.views id (Pass q)
-            (ap k.holder same ∙ known.0, ap (put k.trails p.session q.trail) same ∙ put_here k.trails p.session q.trail, ok)
-            (λ j v ne e. other_trail k.book k.seat k.holder k.trails p.session q.trail j v (λ z. ne (z ∙ known.0)) (k.views_ok j v e));
-        held_ok = All-with (λ h. V k.book k.seat k.holder k.trails k.seat (Pass h)) (λ h. V k.book k.seat k.holder (put k.trails p.session q.trail) k.seat (Pass h)) k.book.held
-            (λ h. other_trail k.book k.seat k.holder k.trails p.session q.trail k.seat (Pass h) (λ z. seat_apart (z ∙ known.0))) k.held_ok;
+        order_ok = order_grows (length o.opening) o.first k.book.next k.order s.words x found (done some) (inr range) k.order_ok;
+        book_in = book_waits k.order x k.book some k.book_in;
+        views_ok = each_set (V k.book k.seat k.holder order) s.views id (Pass q) (ap k.holder same ∙ known.0, in_order_steps k.order x p q same mine knows gains known.1, ok)
+            (λ j v ne e. other_waits k.book k.seat k.holder k.order x j v (far j ne) (k.views_ok j v e));
+        held_ok = All-with (λ h. (h.loading ≡ Nothing) × V k.book k.seat k.holder k.order k.seat (Pass h)) (λ h. (h.loading ≡ Nothing) × V k.book k.seat k.holder order k.seat (Pass h)) k.book.held
+            (λ h u. (u.0, other_waits k.book k.seat k.holder k.order x k.seat (Pass h) (far k.seat seat_apart) u.1)) k.held_ok;
         apart = k.apart;
         present = λ n low high. stays_present s.views k.book.held (k.holder n) n id p q at same (k.present n low high);
       }
@@ -182,8 +188,8 @@ module _ {E H : Type 0} (session : E → ℕ) (right : List E → ℕ → Held �
 
   -- a pass whose trail gains an item that tells no meeting
   pub pass_gains : (b : BookView E H) (p : PassView E H) (item : Item) → ((n : ℕ) → met_after n (item ∷ []) ≡ n) → IsLoaded right touches p.seen item
-      → P b p → P b (record p { trail = p.trail ++ item ∷ []; loading = Nothing })
-  pass_gains b p item quiet loaded ok =
+      → (known : List AtomicStep) → P b p → P b (record p { trail = p.trail ++ item ∷ []; known = known; loading = Nothing })
+  pass_gains b p item quiet loaded known ok =
       let met : last_met (p.trail ++ item ∷ []) ≡ last_met p.trail = met_append 0 p.trail (item ∷ []) ∙ quiet (last_met p.trail) in record {
         same = ok.same;
         begins = ok.begins;
@@ -197,8 +203,8 @@ module _ {E H : Type 0} (session : E → ℕ) (right : List E → ℕ → Held �
       }
 
   -- a pass that loads
-  pub pass_loads : (b : BookView E H) (p : PassView E H) (loading : Loading) → IsLoading right touches b.history p.seen loading → P b p → P b (record p { loading = loading })
-  pass_loads b p loading new ok = record {
+  pub pass_loads : (b : BookView E H) (p : PassView E H) (loading : Loading) → IsLoading right touches b.history p.seen loading → (known : List AtomicStep) → P b p → P b (record p { loading = loading; known = known })
+  pass_loads b p loading new known ok = record {
     same = ok.same;
     begins = ok.begins;
     seen = ok.seen;
@@ -211,8 +217,8 @@ module _ {E H : Type 0} (session : E → ℕ) (right : List E → ℕ → Held �
   }
 
   -- a pass that sees the history
-  pub pass_sees : (b : BookView E H) (p : PassView E H) (loading : Loading) → IsPrefix o.opening b.history → IsLoading right touches b.history b.history loading → P b p → P b (record p { seen = b.history; loading = loading })
-  pass_sees b p loading begins new ok = record {
+  pub pass_sees : (b : BookView E H) (p : PassView E H) (loading : Loading) → IsPrefix o.opening b.history → IsLoading right touches b.history b.history loading → (known : List AtomicStep) → P b p → P b (record p { seen = b.history; loading = loading; known = known })
+  pass_sees b p loading begins new known ok = record {
     same = ok.same;
     begins = begins;
     seen = prefix_whole b.history;

@@ -1,4 +1,4 @@
-pub mod Working
+pub mod Ordering
 pub mod AtHome
 pub mod Answering
 pub mod Growing
@@ -11,4 +11,5 @@ pub mod Meetings
 pub mod Settled
 pub mod Together
 pub mod Opening
+pub mod Freshness
 pub mod ForCallers

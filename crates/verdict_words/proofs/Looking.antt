@@ -1,9 +1,11 @@
 -- What a look knows after each of its loads, and why a hit is right.
-use Rattle.std.proofs.Common.{◌≡◌, ℕ, ◌+◌, ◌-◌, ◌*◌, ◌<◌, ◌≤◌, List, [], ◌∷◌, ◌++◌, length, take, refl, sym, ◌∙◌, subst, inl, inr, arith, Option, Some}
+use Rattle.std.proofs.Common.{◌≡◌, ℕ, ◌+◌, ◌-◌, ◌*◌, ◌<◌, ◌≤◌, List, [], ◌∷◌, ◌++◌, length, take, refl, sym, ◌∙◌, subst, inl, inr, arith, Some}
 use Rattle.atomic_table.specs.Table.{Me, step}
 use mathlib.Core.Option.{none}
 use Rattle.verdict_words.specs.Histories.{IsPrefix, Untouched}
-use Rattle.verdict_words.specs.Words.{region_word, most_entries, Sound, Spells, IsSlot, object_region, store_region}
+use Rattle.verdict_words.specs.Orders.{Steps, loads, stores, item_steps}
+use Rattle.verdict_words.specs.declared.views.AtomicStep.{AtomicStep}
+use Rattle.verdict_words.specs.Words.{slot_word, register_word, spelling, region_word, most_entries, Sound, Spells, IsSlot, object_region, store_region}
 use Rattle.verdict_words.specs.Steps.{On, ForSlot, ForCount, ForObject, ran, loaded_slot, loaded_count, loaded_object, loaded_store}
 use Rattle.verdict_words.specs.declared.views.RegisterStep.{RegisterStep}
 use Rattle.verdict_words.specs.Answers.{IsAnswer, HitIsRight}
@@ -11,7 +13,6 @@ use Rattle.verdict_words.specs.declared.places.Held.{Held}
 use Rattle.verdict_words.specs.declared.places.CasePlace.{CasePlace}
 use Rattle.verdict_words.specs.declared.places.Look.{Look}
 use Rattle.verdict_words.specs.declared.places.Look.TheVariants.{Hit, Miss}
-use Rattle.verdict_words.specs.declared.views.Item.{Item}
 use Rattle.verdict_words.specs.declared.views.Item.TheVariants.{Loaded, Ran}
 use Rattle.verdict_words.specs.declared.views.Loading.TheVariants.{Nothing, Slot, Count, Object}
 use Rattle.verdict_words.specs.declared.views.PassView.{PassView}
@@ -21,49 +22,64 @@ use Rattle.verdict_words.specs.Steps.{stored_slot}
 use Rattle.verdict_words.specs.declared.views.Item.TheVariants.{Filled}
 use Rattle.verdict_words.proofs.Growing.{each_later}
 
+-- a step, and those behind it
+pub steps_then : (known : List AtomicStep) (x : AtomicStep) (mid : List AtomicStep) (xs : List AtomicStep) (last : List AtomicStep) → Steps known (x ∷ []) mid → Steps mid xs last → Steps known (x ∷ xs) last
+steps_then known x mid xs last first more = (first.0, first.1, subst (λ l. Steps l xs last) first.2 more)
+
 module _ {E H : Type 0} where
-  pub after_slot : (word operand : ℕ) (m m' : Me (Unit {0}) (View E H)) (p : PassView E H) (said : Option CasePlace) (place : CasePlace) (found : ℕ) → m ≡ (Pass p, []) → said ≡ Some place
-      → loaded_slot said (step 0 word operand 0 none) m found m' → m' ≡ (Pass (record p { loading = Slot place found }), [])
-  after_slot word operand m m' p said place found is told saw = (subst (λ (z : Me (Unit {0}) (View E H) × Option CasePlace). loaded_slot z.1 (step 0 word operand 0 none) z.0 found m') (λ i. (is i, told i)) saw).1
+  -- what a pass knows after a step: its view, and that the step is behind all that it knew
+  abbrev pub After : Me (Unit {0}) (View E H) → (List AtomicStep → PassView E H) → List AtomicStep → List AtomicStep → Type 0
+  After m' p known steps = (knows : List AtomicStep) × (m' ≡ (Pass (p knows), [])) × Steps known steps knows
 
-  pub after_store : (word operand : ℕ) (m m' : Me (Unit {0}) (View E H)) (p : PassView E H) (said : Option Item) (case at : ℕ) (held : Held) → m ≡ (Pass p, []) → said ≡ Some (Filled case at held)
-      → stored_slot said (step 0 word operand 0 none) m 0 m' → m' ≡ (Pass (record p { trail = p.trail ++ Filled case at held ∷ [] }), [])
-  after_store word operand m m' p said case at held is told saw = (subst (λ (z : Me (Unit {0}) (View E H) × Option Item). stored_slot z.1 (step 0 word operand 0 none) z.0 0 m') (λ i. (is i, told i)) saw).1
+  pub after_slot : (m m' : Me (Unit {0}) (View E H)) (p : PassView E H) (place : CasePlace) (found : ℕ) → m ≡ (Pass p, [])
+      → loaded_slot (Some place) (step 0 (slot_word place.case) 0 0 none) m found m' → After m' (λ knows. record p { loading = Slot place found; known = knows }) p.known (loads p.session (slot_word place.case) found ∷ [])
+  after_slot m m' p place found is saw = (subst (λ (z : Me (Unit {0}) (View E H)). loaded_slot (Some place) (step 0 (slot_word place.case) 0 0 none) z found m') is saw).1
 
-  pub after_run : (word operand : ℕ) (m m' : Me (Unit {0}) (View E H)) (p : PassView E H) (kind : RegisterStep) (object found : ℕ) → word ≡ 4097 + object → m ≡ (Pass p, [])
-      → ran kind (step 0 word operand 0 none) m found m' → m' ≡ (Pass (record p { trail = p.trail ++ Ran object kind found ∷ [] }), [])
-  after_run word operand m m' p kind object found at_word is saw = let same : word - 4097 ≡ object = omega (arith, at_word) in
-      (subst (λ (z : Me (Unit {0}) (View E H)). ran kind (step 0 word operand 0 none) z found m') is saw).3 ∙ (λ i. (Pass (record p { trail = p.trail ++ Ran (same i) kind found ∷ [] }), []))
+  pub after_store : (word : ℕ) (m m' : Me (Unit {0}) (View E H)) (p : PassView E H) (case at : ℕ) (held : Held) → m ≡ (Pass p, [])
+      → stored_slot (Some (Filled case at held)) (step 0 (slot_word case) word 0 none) m word m'
+      → (knows : List AtomicStep) × (found : ℕ) × (m' ≡ (Pass (record p { trail = p.trail ++ Filled case at held ∷ []; known = knows }), [])) × Steps p.known (stores p.session (slot_word case) (spelling case at held) found ∷ []) knows
+  after_store word m m' p case at held is saw = (subst (λ (z : Me (Unit {0}) (View E H)). stored_slot (Some (Filled case at held)) (step 0 (slot_word case) word 0 none) z word m') is saw).1
+
+  pub after_run : (operand : ℕ) (m m' : Me (Unit {0}) (View E H)) (p : PassView E H) (kind : RegisterStep) (object found : ℕ) → m ≡ (Pass p, [])
+      → ran kind (step 0 (register_word object) operand 0 none) m found m' → After m' (λ knows. record p { trail = p.trail ++ Ran object kind found ∷ []; known = knows }) p.known (item_steps p.session (Ran object kind found))
+  after_run operand m m' p kind object found is saw = let same : (4097 + object) - 4097 ≡ object = omega arith in
+      subst (λ n. After m' (λ knows. record p { trail = p.trail ++ Ran n kind found ∷ []; known = knows }) p.known (item_steps p.session (Ran n kind found))) same
+      (subst (λ (z : Me (Unit {0}) (View E H)). ran kind (step 0 (register_word object) operand 0 none) z found m') is saw).3
 
   module _ (right : H → List E → ℕ → Held → Type 0) (touches : H → List E → E → ℕ → Type 0) where
     pub record Counted (m' : Me (Unit {0}) (View E H)) (p : PassView E H) (place : CasePlace) (slot found : ℕ) : Type 0 where
       pub seen : List E
-      pub view : m' ≡ (Pass (record p { seen = seen; loading = Count place slot found }), [])
+      pub knows : List AtomicStep
+      pub view : m' ≡ (Pass (record p { seen = seen; loading = Count place slot found; known = knows }), [])
       pub grows : IsPrefix p.seen seen
       pub long : length seen ≡ found
       pub short : found ≤ most_entries
       pub sound : Sound (right p.origin.setting) seen slot
+      pub steps : Steps p.known (loads p.session 0 found ∷ []) knows
 
-    pub after_count : (word operand : ℕ) (m m' : Me (Unit {0}) (View E H)) (p : PassView E H) (place : CasePlace) (slot found : ℕ) → m ≡ (Pass p, []) → p.loading ≡ Slot place slot
-        → loaded_count right touches (step 0 word operand 0 none) m found m' → Counted m' p place slot found
-    after_count word operand m m' p place slot found is loads saw =
-        let t = subst (λ l. ForSlot l (λ x y. (seen : List E) × (m' ≡ (Pass (record p { seen = seen; loading = Count x y found }), [])) × IsPrefix p.seen seen × (length seen ≡ found) × (found ≤ most_entries) × Sound (right p.origin.setting) seen y)) loads
-        (subst (λ (z : Me (Unit {0}) (View E H)). loaded_count right touches (step 0 word operand 0 none) z found m') is saw).1 in
-        record { seen = t.0; view = t.1; grows = t.2; long = t.3; short = t.4; sound = t.5 }
+    pub after_count : (m m' : Me (Unit {0}) (View E H)) (p : PassView E H) (place : CasePlace) (slot found : ℕ) → m ≡ (Pass p, []) → p.loading ≡ Slot place slot
+        → loaded_count right touches (step 0 0 0 0 none) m found m' → Counted m' p place slot found
+    after_count m m' p place slot found is loads_it saw =
+        let t = subst (λ l. ForSlot l (λ x y. (seen : List E) × (known : List AtomicStep) × (m' ≡ (Pass (record p { seen = seen; loading = Count x y found; known = known }), [])) × IsPrefix p.seen seen × (length seen ≡ found) × (found ≤ most_entries) × Sound (right p.origin.setting) seen y × Steps p.known (loads p.session 0 found ∷ []) known)) loads_it
+        (subst (λ (z : Me (Unit {0}) (View E H)). loaded_count right touches (step 0 0 0 0 none) z found m') is saw).1 in
+        record { seen = t.0; knows = t.1; view = t.2; grows = t.3; long = t.4; short = t.5; sound = t.6; steps = t.7 }
 
-    pub after_object : (word operand : ℕ) (m m' : Me (Unit {0}) (View E H)) (p : PassView E H) (place : CasePlace) (slot count found : ℕ) → m ≡ (Pass p, []) → p.loading ≡ Count place slot count
-        → loaded_object right touches (step 0 word operand 0 none) m found m' → (m' ≡ (Pass (record p { loading = Object place slot count found }), [])) × Untouched (touches p.origin.setting) p.seen found (object_region place.object)
-    after_object word operand m m' p place slot count found is loads saw =
-        let t = subst (λ l. ForCount l (λ x y z. On (step 0 word operand 0 none) (region_word (object_region x.object)) 0 × (m' ≡ (Pass (record p { loading = Object x y z found }), [])) × Untouched (touches p.origin.setting) p.seen found (object_region x.object))) loads
-        (subst (λ (z : Me (Unit {0}) (View E H)). loaded_object right touches (step 0 word operand 0 none) z found m') is saw) in
+    pub after_object : (word : ℕ) (m m' : Me (Unit {0}) (View E H)) (p : PassView E H) (place : CasePlace) (slot count found : ℕ) → m ≡ (Pass p, []) → p.loading ≡ Count place slot count
+        → loaded_object right touches (step 0 word 0 0 none) m found m'
+        → After m' (λ knows. record p { loading = Object place slot count found; known = knows }) p.known (loads p.session (region_word (object_region place.object)) found ∷ []) × Untouched (touches p.origin.setting) p.seen found (object_region place.object)
+    after_object word m m' p place slot count found is loads_it saw =
+        let t = subst (λ l. ForCount l (λ x y z. On (step 0 word 0 0 none) (region_word (object_region x.object)) 0 × After m' (λ knows. record p { loading = Object x y z found; known = knows }) p.known (loads p.session (region_word (object_region x.object)) found ∷ [])
+        × Untouched (touches p.origin.setting) p.seen found (object_region x.object))) loads_it
+        (subst (λ (z : Me (Unit {0}) (View E H)). loaded_object right touches (step 0 word 0 0 none) z found m') is saw) in
         (t.1, t.2)
 
-    pub after_look : (word operand : ℕ) (m m' : Me (Unit {0}) (View E H)) (p : PassView E H) (place : CasePlace) (slot count object found : ℕ) → m ≡ (Pass p, []) → p.loading ≡ Object place slot count object
-        → loaded_store right touches (step 0 word operand 0 none) m found m'
-        → (m' ≡ (Pass (record p { trail = p.trail ++ Loaded place slot count object found ∷ []; loading = Nothing }), [])) × Untouched (touches p.origin.setting) p.seen found (store_region place.store)
-    after_look word operand m m' p place slot count object found is loads saw =
-        let t = subst (λ l. ForObject l (λ x y z u. On (step 0 word operand 0 none) (region_word (store_region x.store)) 0 × (m' ≡ (Pass (record p { trail = p.trail ++ Loaded x y z u found ∷ []; loading = Nothing }), [])) × Untouched (touches p.origin.setting) p.seen found (store_region x.store))) loads
-        (subst (λ (z : Me (Unit {0}) (View E H)). loaded_store right touches (step 0 word operand 0 none) z found m') is saw) in
+    pub after_look : (word : ℕ) (m m' : Me (Unit {0}) (View E H)) (p : PassView E H) (place : CasePlace) (slot count object found : ℕ) → m ≡ (Pass p, []) → p.loading ≡ Object place slot count object
+        → loaded_store right touches (step 0 word 0 0 none) m found m'
+        → After m' (λ knows. record p { trail = p.trail ++ Loaded place slot count object found ∷ []; known = knows; loading = Nothing }) p.known (loads p.session (region_word (store_region place.store)) found ∷ []) × Untouched (touches p.origin.setting) p.seen found (store_region place.store)
+    after_look word m m' p place slot count object found is loads_it saw =
+        let t = subst (λ l. ForObject l (λ x y z u. On (step 0 word 0 0 none) (region_word (store_region x.store)) 0 × After m' (λ knows. record p { trail = p.trail ++ Loaded x y z u found ∷ []; known = knows; loading = Nothing }) p.known (loads p.session (region_word (store_region x.store)) found ∷ [])
+        × Untouched (touches p.origin.setting) p.seen found (store_region x.store))) loads_it
+        (subst (λ (z : Me (Unit {0}) (View E H)). loaded_store right touches (step 0 word 0 0 none) z found m') is saw) in
         (t.1, t.2)
 
 -- a word spells one case, one point and one verdict

@@ -1,15 +1,17 @@
 -- The rule holds as the board is made.
-use Rattle.std.proofs.Common.{◌≡◌, ℕ, zero, suc, ◌+◌, ◌-◌, ◌<◌, ◌≤◌, List, [], ◌∷◌, ◌++◌, length, take, get_or, replicate, refl, sym, ap, ◌∙◌, subst, inl, arith, length-append, lt_of_not-le}
+use Rattle.std.proofs.Common.{◌≡◌, ◌⊎◌, ℕ, zero, suc, ◌+◌, ◌-◌, ◌<◌, ◌≤◌, List, [], ◌∷◌, ◌++◌, length, take, get_or, replicate, refl, sym, ap, ◌∙◌, subst, inl, arith, length-append}
 use Rattle.std.specs.Prelude.{All}
-use Rattle.std.proofs.lemmas.List.{take_all, ext_get_or, get_or-replicate, get_or_append_left, get_or-append_right}
+use Rattle.std.proofs.lemmas.List.{take_all, get_or-replicate, get_or_append_left, get_or-append_right}
 use Rattle.std.proofs.lemmas.List.Elements.{All-nil}
-use mathlib.Core.Logic.{dite}
-use native.Mathlib.Decide.{dec_le}
 use mathlib.Core.Option.{some, some-injective, some-ne-none}
 use lib.ListN.{get_elem?, length-replicate}
 use Rattle.atomic_table.specs.Table.{opening}
 use Rattle.verdict_words.specs.Words.{most_entries, first_words}
-use Rattle.verdict_words.specs.Rule.{origin_of, first_book, Stepped, Replays, AreOf, IsSeated, RegionOk, WordsOk, ViewOk, IsKept, StartsWith}
+use Rattle.verdict_words.specs.Histories.{own}
+use Rattle.verdict_words.specs.Orders.{Replays, IsDone}
+use Rattle.verdict_words.specs.Rule.{origin_of, first_book, IsSeated, RegionOk, WordsOk, ViewOk, IsKept, StartsWith}
+use Rattle.verdict_words.specs.declared.views.AtomicStep.{AtomicStep}
+use Rattle.verdict_words.specs.declared.views.Loading.TheVariants.{Nothing}
 use Rattle.verdict_words.specs.declared.places.Held.{Held}
 use Rattle.verdict_words.specs.declared.views.Key.{Key}
 use Rattle.verdict_words.specs.declared.views.Origin.{Origin}
@@ -17,7 +19,7 @@ use Rattle.verdict_words.specs.declared.views.View.{View}
 use Rattle.verdict_words.specs.declared.views.View.TheVariants.{Book, Pass}
 use Rattle.verdict_words.proofs.Growing.{prefix_whole, each_none, each_of_all}
 use Rattle.verdict_words.proofs.BookKept.{none_is_some}
-use Rattle.verdict_words.proofs.Working.{no_steps}
+use Rattle.verdict_words.proofs.Ordering.{no_steps}
 
 abbrev front : ℕ → List ℕ
 front count = count ∷ replicate 8192 0
@@ -68,8 +70,7 @@ module _ {E H : Type 0} (session : E → ℕ) (right : List E → ℕ → Held �
         seat = 0;
         book = first_book o;
         holder = λ s. 0;
-        trails = λ s. [];
-        steps = λ w. [];
+        order = [];
         place = refl;
         book_ok = record { same = refl; short = short; seated = seated_first session o numbered below };
         words_ok = subst (WordsOk right touches (first_book o)) (sym is) record {
@@ -84,41 +85,23 @@ module _ {E H : Type 0} (session : E → ℕ) (right : List E → ℕ → Held �
             set = λ _. inl refl;
           };
         };
-        works_ok = λ k lt. record { replays = ap (λ l. get_or l (1 + k) 0) is ∙ words_slot n k lt; parts = λ s. refl; within = All-nil (λ (x : Stepped). (o.first ≤ x.session) × (x.session < o.first)) };
+        order_ok = record { replays = is; done = All-nil (λ (x : AtomicStep). IsDone x.action x.session x.word); within = All-nil (λ (x : AtomicStep). (x.session ≡ 0) ⊎ ((o.first ≤ x.session) × (x.session < o.first))) };
+        book_in = record { known = prefix_whole []; own_steps = refl };
         views_ok = only o (first_book o);
-        held_ok = All-nil (λ p. ViewOk session right touches o (first_book o) 0 (λ s. 0) (λ s. []) 0 (Pass p));
+        held_ok = All-nil (λ p. (p.loading ≡ Nothing) × ViewOk session right touches o (first_book o) 0 (λ s. 0) [] 0 (Pass p));
         apart = tt;
         present = λ n low high. absurd (omega arith);
       }
     where
-      only : (o : Origin E H) (b : _) (j : ℕ) (v : View E H) → get_elem? (Book b ∷ []) j ≡ some v → ViewOk session right touches o b 0 (λ s. 0) (λ s. []) j v
-      only o b zero v e = subst (ViewOk session right touches o b 0 (λ s. 0) (λ s. []) 0) (some-injective (Book b) v e) (refl, refl)
+      only : (o : Origin E H) (b : _) (j : ℕ) (v : View E H) → get_elem? (Book b ∷ []) j ≡ some v → ViewOk session right touches o b 0 (λ s. 0) [] j v
+      only o b zero v e = subst (ViewOk session right touches o b 0 (λ s. 0) [] 0) (some-injective (Book b) v e) (refl, refl)
       only o b (suc j) v e = absurd (some-ne-none v (sym e))
 
   -- the rule pins the words at the start
   pub starts : (o : Origin E H) → StartsWith session right touches o (first_words (length o.opening))
   starts o words k =
-      let n : ℕ = length o.opening in
-      let book = k.views_ok 0 (Book (first_book o)) refl in
-      let is : k.book ≡ first_book o = sym book.1 in
-      let wide : length words ≡ 8705 = k.words_ok.wide in
-      ext_get_or 0 words (first_words n) (wide ∙ sym (words_length n)) (λ i lt. each o words k is i (omega arith))
-    where
-      slot : (o : Origin E H) (words : List ℕ) (k : IsKept session right touches o (opening words [] (Book (first_book o)))) → k.book ≡ first_book o → (i : ℕ) → i < 8192 → get_or words (1 + i) 0 ≡ 0
-      slot o words k is i low = let w = k.works_ok i low in
-          subst (λ l. Replays 0 l (get_or words (1 + i) 0)) (no_steps o.first (k.steps (1 + i)) (subst (λ n. AreOf o.first n (k.steps (1 + i))) (ap (λ b. b.next) is) w.within)) w.replays
-
-      region : (o : Origin E H) (words : List ℕ) (k : IsKept session right touches o (opening words [] (Book (first_book o)))) → k.book ≡ first_book o → (i : ℕ) → 8192 ≤ i → i < 8704 → get_or words (suc i) 0 ≡ get_or (first_words (length o.opening)) (suc i) 0
-      region o words k is i late low =
-          let r : ℕ = i - 8192 in
-          let e : 8193 + r ≡ suc i = omega arith in
-          let n : ℕ = length o.opening in
-          let ok : RegionOk touches (first_book o) r (get_or words (8193 + r) 0) = subst (λ b. RegionOk touches b r (get_or words (8193 + r) 0)) is (k.words_ok.regions r (omega arith)) in
-          let high = ok.else (none_is_some r) in
-          let least = ok.least in
-          subst (λ j. get_or words j 0 ≡ get_or (first_words n) j 0) e ((let same : get_or words (8193 + r) 0 ≡ n = omega arith in same) ∙ sym (words_region n r (omega arith)))
-
-      each : (o : Origin E H) (words : List ℕ) (k : IsKept session right touches o (opening words [] (Book (first_book o)))) → k.book ≡ first_book o → (i : ℕ) → i < 8705 → get_or words i 0 ≡ get_or (first_words (length o.opening)) i 0
-      each o words k is zero lt = k.words_ok.count ∙ ap (λ b. length b.history) is
-      each o words k is (suc i) lt = dite (dec_le 8192 i) (λ late. region o words k is i late (omega arith)) (λ early. let low : i < 8192 = lt_of_not-le early in let e : 1 + i ≡ suc i = omega arith in
-          subst (λ j. get_or words j 0 ≡ get_or (first_words (length o.opening)) j 0) e (slot o words k is i low ∙ sym (words_slot (length o.opening) i low)))
+      let is : k.book ≡ first_book o = sym (k.views_ok 0 (Book (first_book o)) refl).1 in
+      let none : own (λ (x : AtomicStep). x.session) k.order 0 ≡ [] = k.book_in.own_steps ∙ ap (λ b. own (λ (x : AtomicStep). x.session) b.known 0) is in
+      let within : All (λ (x : AtomicStep). (x.session ≡ 0) ⊎ ((o.first ≤ x.session) × (x.session < o.first))) k.order =
+      subst (λ n. All (λ (x : AtomicStep). (x.session ≡ 0) ⊎ ((o.first ≤ x.session) × (x.session < n))) k.order) (ap (λ b. b.next) is) k.order_ok.within in
+      subst (λ l. Replays (first_words (length o.opening)) l words) (no_steps o.first k.order k.book_ok.seated.counted within none) k.order_ok.replays

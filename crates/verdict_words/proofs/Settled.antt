@@ -9,10 +9,12 @@ use Rattle.atomic_table.specs.Table.{Me}
 use Rattle.atomic_table.specs.declared.shared.Seat.{Seat}
 use Rattle.verdict_words.specs.Rule.{IsSeated}
 use Rattle.verdict_words.specs.Steps.{receiving, releasing, released, returning, returned, without}
-use Rattle.verdict_words.specs.Values.{Identity, PassValue, IsPass, board_of, seen_of, trail_of, resting}
+use Rattle.verdict_words.specs.Values.{Identity, PassValue, IsPass, board_of, seen_of, trail_of, known_of, resting}
 use Rattle.verdict_words.specs.Settling.{met_of, last_turn, without_all}
 use Rattle.verdict_words.specs.Inner.Settling.{met_held, view_of, away, receiving_all, releasing_all, held_of, IsHolding}
 use Rattle.verdict_words.specs.declared.views.Origin.{Origin}
+use Rattle.verdict_words.specs.declared.views.AtomicStep.{AtomicStep}
+use Rattle.verdict_words.specs.declared.views.Item.{Item}
 use Rattle.verdict_words.specs.declared.views.Item.TheVariants.{Met}
 use Rattle.verdict_words.specs.declared.views.Loading.TheVariants.{Nothing}
 use Rattle.verdict_words.specs.declared.views.PassView.{PassView}
@@ -47,15 +49,15 @@ module _ {A : Type 0} where
 module _ {E H : Type 0} where
   -- what the seat of a pass knows that rests with it
   pub shown : (old : PassValue E H) (board : Identity E H) (session : ℕ) (m : Me (Unit {0}) (View E H)) → value board session m ≡ old
-      → m ≡ (resting board.origin session (seen_of m.0) (trail_of m.0), []) → m ≡ (view_of old, [])
+      → m ≡ (resting board.origin session (seen_of m.0) (trail_of m.0) (known_of m.0), []) → m ≡ (view_of old, [])
   shown old board session m view is =
       let here : board_of m.0 board ≡ board = ap (λ (z : Me (Unit {0}) (View E H)). board_of z.0 board) is in
-      is ∙ ((λ i. (resting (sym here i).origin session (seen_of m.0) (trail_of m.0), [])) ∙ ap (λ (v : PassValue E H). (view_of v, [])) view)
+      is ∙ ((λ i. (resting (sym here i).origin session (seen_of m.0) (trail_of m.0) (known_of m.0), [])) ∙ ap (λ (v : PassValue E H). (view_of v, [])) view)
 
   -- a pass without what it knows
-  pub away_value : (old : PassValue E H) (board : Identity E H) (session : ℕ) (m m' : Me (Unit {0}) (View E H)) (origin : Origin E H) (seen : List E) (trail : List _) → value board session m ≡ old
-      → m ≡ (resting origin session seen trail, []) → m' ≡ (Spent, []) → value board session m' ≡ away old
-  away_value old board session m m' origin seen trail view was is = ap (value board session) is ∙ ap away (sym (ap (value board session) was) ∙ view)
+  pub away_value : (old : PassValue E H) (board : Identity E H) (session : ℕ) (m m' : Me (Unit {0}) (View E H)) (origin : Origin E H) (seen : List E) (trail : List Item) (known : List AtomicStep) → value board session m ≡ old
+      → m ≡ (resting origin session seen trail known, []) → m' ≡ (Spent, []) → value board session m' ≡ away old
+  away_value old board session m m' origin seen trail known view was is = ap (value board session) is ∙ ap away (sym (ap (value board session) was) ∙ view)
 
   pub spent_ok : (board : Identity E H) (place : Seat (Unit {0}) (View E H)) (session : ℕ) → place.table_id ≡ board.table → place.me ≡ (Spent, []) → 1 ≤ session → board.origin.first ≤ session → IsPass board place session 0
   spent_ok board place session table is some first = record {
@@ -74,7 +76,7 @@ module _ {E H : Type 0} where
   receiving_next v (p ∷ ps) (suc i) d lt = receiving_next (receiving v (view_of p)) ps i d (omega arith)
 
   abbrev pub pass_view : PassValue E H → PassView E H
-  pass_view pass = record { origin = pass.board.origin; session = pass.session; seen = pass.seen; trail = pass.trail; loading = Nothing }
+  pass_view pass = record { origin = pass.board.origin; session = pass.session; seen = pass.seen; trail = pass.trail; known = pass.known; loading = Nothing }
 
   -- the book with all passes that were taken in
   abbrev pub holding : BookView E H → List (PassValue E H) → BookView E H
@@ -96,17 +98,19 @@ module _ {E H : Type 0} where
     pub book : BookView E H
     pub is : v ≡ Book book
     pub history : book.history ≡ b.history
+    pub known : book.known ≡ b.known
     pub held : book.held ≡ drop i b.held
 
   pub after_some : (ps : List (PassView E H)) (i : ℕ) (b : BookView E H) → b.held ≡ ps → After b i (releasing_all (take i ps) (Book b))
-  after_some ps zero b e = record { book = b; is = refl; history = refl; held = refl }
-  after_some [] (suc i) b e = record { book = b; is = refl; history = refl; held = e ∙ sym (ap (drop (suc i)) e) }
+  after_some ps zero b e = record { book = b; is = refl; history = refl; known = refl; held = refl }
+  after_some [] (suc i) b e = record { book = b; is = refl; history = refl; known = refl; held = e ∙ sym (ap (drop (suc i)) e) }
   after_some (p ∷ ps) (suc i) b e =
       let next : BookView E H = record b { lag = without p.session b.lag; held = ps } in
       let rest = after_some ps i next refl in record {
         book = rest.book;
         is = ap (λ h. releasing_all (take i ps) (Book (released b h))) e ∙ rest.is;
         history = rest.history;
+        known = rest.known;
         held = rest.held ∙ sym (ap (drop (suc i)) e);
       }
 
@@ -131,17 +135,17 @@ module _ {E H : Type 0} where
 
   -- what the seat knows that was given back
   pub gave_me : (board : Identity E H) (session : ℕ) (m m' : Me (Unit {0}) (View E H)) (b : BookView E H) (p : PassView E H) (ps : List (PassView E H)) → m ≡ (Book b, []) → b.held ≡ p ∷ ps → p.origin ≡ board.origin → session ≡ p.session
-      → m' ≡ (returning m.0, []) → m' ≡ (resting board.origin session b.history (p.trail ++ Met (length b.history) ∷ []), [])
+      → m' ≡ (returning m.0, []) → m' ≡ (resting board.origin session b.history (p.trail ++ Met (length b.history) ∷ []) b.known, [])
   gave_me board session m m' b p ps is holds origin same told =
-      told ∙ ((λ i. (returning (is i).0, [])) ∙ ((λ i. (returned b (holds i), [])) ∙ (λ i. (resting (origin i) (sym same i) b.history (p.trail ++ Met (length b.history) ∷ []), []))))
+      told ∙ ((λ i. (returning (is i).0, [])) ∙ ((λ i. (returned b (holds i), [])) ∙ (λ i. (resting (origin i) (sym same i) b.history (p.trail ++ Met (length b.history) ∷ []) b.known, []))))
 
   pub gave_value : (whose board : Identity E H) (session : ℕ) (m m' : Me (Unit {0}) (View E H)) (b : BookView E H) (p : PassView E H) (ps : List (PassView E H)) → board ≡ whose → m ≡ (Book b, []) → b.held ≡ p ∷ ps → session ≡ p.session
-      → m' ≡ (resting board.origin session b.history (p.trail ++ Met (length b.history) ∷ []), [])
-      → value board session m' ∷ [] ≡ map (met_held whose (seen_of m.0)) (take 1 (held_of m.0))
+      → m' ≡ (resting board.origin session b.history (p.trail ++ Met (length b.history) ∷ []) b.known, [])
+      → value board session m' ∷ [] ≡ map (met_held whose (seen_of m.0) (known_of m.0)) (take 1 (held_of m.0))
   gave_value whose board session m m' b p ps of is holds same now =
-      let one : value board session m' ≡ met_of whose b.history p.session p.trail = ap (value board session) now ∙ (λ i. met_of (of i) b.history (same i) p.trail) in
-      ap (λ v. v ∷ []) one ∙ ((λ i. map (met_held whose b.history) (take 1 (sym holds i)))
-      ∙ (λ i. map (met_held whose (seen_of (sym is i).0)) (take 1 (held_of (sym is i).0))))
+      let one : value board session m' ≡ met_of whose b.history b.known p.session p.trail = ap (value board session) now ∙ (λ i. met_of (of i) b.history b.known (same i) p.trail) in
+      ap (λ v. v ∷ []) one ∙ ((λ i. map (met_held whose b.history b.known) (take 1 (sym holds i)))
+      ∙ (λ i. map (met_held whose (seen_of (sym is i).0) (known_of (sym is i).0)) (take 1 (held_of (sym is i).0))))
 
 module _ {E H : Type 0} (whose : Identity E H) (count i : ℕ) (items : List (PassValue E H)) (d : PassValue E H) where
   abbrev sessions_of : List ℕ
@@ -151,8 +155,8 @@ module _ {E H : Type 0} (whose : Identity E H) (count i : ℕ) (items : List (Pa
   pub record Next (me now : Me (Unit {0}) (View E H)) : Type 0 where
     pub rest : List ℕ
     pub holds : IsHolding whose count (d.session ∷ rest) now
-    pub pass : (new : PassValue E H) → new ∷ [] ≡ map (met_held whose (seen_of now.0)) (take 1 (held_of now.0))
-        → new ≡ get_or (map (met_held whose (seen_of me.0)) (held_of me.0)) i d
+    pub pass : (new : PassValue E H) → new ∷ [] ≡ map (met_held whose (seen_of now.0) (known_of now.0)) (take 1 (held_of now.0))
+        → new ≡ get_or (map (met_held whose (seen_of me.0) (known_of me.0)) (held_of me.0)) i d
 
   many_book : (b : BookView E H) → sessions_of ≡ map (λ (p : PassView E H). p.session) b.held → length b.held ≡ length items
   many_book b sessions = sym (length-map b.held (λ (p : PassView E H). p.session)) ∙ (sym (ap length sessions) ∙ length-map items (λ (pass : PassValue E H). pass.session))
@@ -181,9 +185,9 @@ module _ {E H : Type 0} (whose : Identity E H) (count i : ℕ) (items : List (Pa
           sessions_are = (λ k. session k ∷ map (λ (p : PassView E H). p.session) (drop (suc i) b.held)) ∙ sym (ap (map (λ (p : PassView E H). p.session)) held);
         };
         pass = λ new told.
-            ap (λ l. get_or l 0 d) (told ∙ ((λ k. map (met_held whose (seen_of (here k).0)) (take 1 (held_of (here k).0)))
-            ∙ (λ k. map (met_held whose (after.history k)) (take 1 (held k)))))
-            ∙ sym (get_or-map (met_held whose b.history) b.held i e d low);
+            ap (λ l. get_or l 0 d) (told ∙ ((λ k. map (met_held whose (seen_of (here k).0) (known_of (here k).0)) (take 1 (held_of (here k).0)))
+            ∙ (λ k. map (met_held whose (after.history k) (after.known k)) (take 1 (held k)))))
+            ∙ sym (get_or-map (met_held whose b.history b.known) b.held i e d low);
       }
 
   pub next : (me now : Me (Unit {0}) (View E H)) → IsHolding whose count sessions_of me → now ≡ (releasing_all (take i (held_of me.0)) me.0, []) → i < length items → d ≡ get_or items i d → Next me now

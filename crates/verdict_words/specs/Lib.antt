@@ -1,8 +1,10 @@
 pub mod Histories
 pub mod Words
+pub mod Orders
 pub mod Values
 pub mod Rule
 pub mod Steps
 pub mod Settling
 pub mod Answers
+pub mod Laws
 pub mod Inner

@@ -1,17 +1,17 @@
 -- The rule of the table: what holds of its words and of what its seats know, between any two atomic steps.
-use Rattle.std.specs.Prelude.{◌≡◌, ◌≢◌, ◌⊎◌, ℕ, ◌+◌, ◌%◌, ◌^◌, ◌<◌, ◌≤◌, ◌==◌, Bool, false, List, [], ◌∷◌, ◌++◌, length, take, map, filter, All, slice_index, Some, None}
+use Rattle.std.specs.Prelude.{◌≡◌, ◌≢◌, ◌⊎◌, ℕ, ◌+◌, ◌<◌, ◌≤◌, List, [], ◌∷◌, ◌++◌, length, take, All, slice_index, Some, None}
 use mathlib.Core.Option.{some}
 use lib.ListN.{get_elem?}
 use Rattle.atomic_table.specs.Table.{State, opening}
 use Rattle.verdict_words.specs.Histories.{IsPrefix, EachFrom, Untouched, own}
-use Rattle.verdict_words.specs.Words.{word_count, most_entries, slot_word, register_word, object_region, store_region, region_word, spelling, Sound}
+use Rattle.verdict_words.specs.Words.{word_count, most_entries, object_region, store_region, region_word, Sound}
+use Rattle.verdict_words.specs.Orders.{IsOrder, trail_steps, loading_steps, told_of}
+use Rattle.verdict_words.specs.declared.views.AtomicStep.{AtomicStep}
 use Rattle.verdict_words.specs.declared.places.Held.{Held}
 use Rattle.verdict_words.specs.declared.views.Origin.{Origin}
 use Rattle.verdict_words.specs.declared.views.Key.{Key}
 use Rattle.verdict_words.specs.declared.views.Item.{Item}
 use Rattle.verdict_words.specs.declared.views.Item.TheVariants.{Loaded, Met, Filled, Ran}
-use Rattle.verdict_words.specs.declared.views.RegisterStep.{RegisterStep}
-use Rattle.verdict_words.specs.declared.views.RegisterStep.TheVariants.{Read, Write, Add}
 use Rattle.verdict_words.specs.declared.views.Loading.{Loading}
 use Rattle.verdict_words.specs.declared.views.Loading.TheVariants.{Nothing, Slot, Count, Object}
 use Rattle.verdict_words.specs.declared.views.PassView.{PassView}
@@ -30,64 +30,27 @@ met_after n (Ran object step value ∷ items) = met_after n items
 abbrev pub last_met : List Item → ℕ
 last_met = met_after 0
 
--- what a register holds after a step that found this word
-abbrev pub after : RegisterStep → ℕ → ℕ
-after Read word = word
-after (Write x) word = x
-after (Add x) word = (word + x) % 2 ^ 64
-
--- the word is the one that the item's step is on: a Filled is on the slot of its case, and a Ran on the register of its object
-abbrev pub is_on : ℕ → Item → Bool
-is_on word (Filled case at held) = slot_word case == word
-is_on word (Ran object step value) = register_word object == word
-is_on word (Loaded place slot count object store) = false
-is_on word (Met n) = false
-
--- what the item says of the word that its step found
-abbrev pub Found : ℕ → Item → Type 0
-Found word (Ran object step value) = value ≡ word
-Found word (Filled case at held) = Unit {0}
-Found word (Loaded place slot count object store) = Unit {0}
-Found word (Met n) = Unit {0}
-
--- the word after the item's step
-abbrev pub word_after : ℕ → Item → ℕ
-word_after word (Ran object step value) = after step word
-word_after word (Filled case at held) = spelling case at held
-word_after word (Loaded place slot count object store) = word
-word_after word (Met n) = word
-
--- a step on a slot or on a register, and the session that made it
-pub record Stepped : Type 0 where
-  pub session : ℕ
-  pub item : Item
-
--- the steps, one after another, lead from the one word to the other, and each found what it says
-abbrev pub Replays : ℕ → List Stepped → ℕ → Type 0
-Replays word [] end = end ≡ word
-Replays word (x ∷ xs) end = Found word x.item × Replays (word_after word x.item) xs end
-
--- of the steps on a word those of one session are, in order, the items of its trail that are on this word
-abbrev pub IsPart : ℕ → List Stepped → ℕ → List Item → Type 0
-IsPart word steps session trail = map (λ (x : Stepped). x.item) (own (λ (x : Stepped). x.session) steps session) ≡ filter (is_on word) trail
-
--- the sessions of all steps are numbered from the first one on, and below the next one
-abbrev pub AreOf : ℕ → ℕ → List Stepped → Type 0
-AreOf first next steps = All (λ (x : Stepped). (first ≤ x.session) × (x.session < next)) steps
-
--- A slot or a register holds what a list of steps makes of 0, and each session's part of the list is what its trail says
-pub record IsWorked (trails : ℕ → List Item) (first next word value : ℕ) (steps : List Stepped) : Type 0 where
-  pub replays : Replays 0 steps value
-  pub parts : (s : ℕ) → IsPart word steps s (trails s)
-  pub within : AreOf first next steps
-
 module _ {E H : Type 0} where
   abbrev pub origin_of : Key E H → Origin E H
   origin_of key = record { setting = key.setting.value; opening = key.opening.value.items; first = key.first }
 
   -- what the seat of the book knows at the start
   abbrev pub first_book : Origin E H → BookView E H
-  first_book origin = record { origin = origin; history = origin.opening; next = origin.first; turn = 0; lag = []; raised = None; held = [] }
+  first_book origin = record { origin = origin; history = origin.opening; next = origin.first; turn = 0; lag = []; raised = None; known = []; held = [] }
+
+  -- the steps that a pass tells: those of its trail, and of a look under way
+  abbrev pub pass_steps : PassView E H → List AtomicStep
+  pass_steps pass = trail_steps pass.session pass.trail ++ loading_steps pass.session pass.loading
+
+  -- Of the order of all steps a pass knows a beginning, and its session's steps in it are those that the pass tells
+  pub record IsInOrder (order : List AtomicStep) (pass : PassView E H) : Type 0 where
+    pub known : IsPrefix pass.known order
+    pub own_steps : told_of order pass.session ≡ pass_steps pass
+
+  -- The book knows a beginning too, in which all steps of the owner are
+  pub record IsBookInOrder (order : List AtomicStep) (book : BookView E H) : Type 0 where
+    pub known : IsPrefix book.known order
+    pub own_steps : own (λ (step : AtomicStep). step.session) order 0 ≡ own (λ (step : AtomicStep). step.session) book.known 0
 
   -- the session has a pass, which is the view of this seat or held by the book
   abbrev pub HasPass : List (View E H) → List (PassView E H) → ℕ → ℕ → Type 0
@@ -165,24 +128,25 @@ module _ {E H : Type 0} (session : E → ℕ) (right : List E → ℕ → Held �
     pub trail : All (IsLoaded right touches pass.seen) pass.trail
     pub loading : IsLoading right touches book.history pass.seen pass.loading
 
-  -- One seat is the book's. Each session has one pass, which is a seat's or held by the book, and what the rule says of the session's trail is said of this pass
-  abbrev pub ViewOk : Origin E H → BookView E H → ℕ → (ℕ → ℕ) → (ℕ → List Item) → ℕ → View E H → Type 0
-  ViewOk origin book seat holder trails j (Book b) = (j ≡ seat) × (b ≡ book)
-  ViewOk origin book seat holder trails j (Pass p) = (holder p.session ≡ j) × (trails p.session ≡ p.trail) × PassOk origin book p
-  ViewOk origin book seat holder trails j Spent = Unit {0}
+  -- One seat is the book's. Each session has one pass, which is a seat's or held by the book
+  abbrev pub ViewOk : Origin E H → BookView E H → ℕ → (ℕ → ℕ) → List AtomicStep → ℕ → View E H → Type 0
+  ViewOk origin book seat holder order j (Book b) = (j ≡ seat) × (b ≡ book)
+  ViewOk origin book seat holder order j (Pass p) = (holder p.session ≡ j) × IsInOrder order p × PassOk origin book p
+  ViewOk origin book seat holder order j Spent = Unit {0}
 
+  -- There is one order of all steps. A pass that is held is between two calls
   pub record IsKept (origin : Origin E H) (s : State (Unit {0}) (View E H)) : Type 0 where
     pub seat : ℕ
     pub book : BookView E H
     pub holder : ℕ → ℕ
-    pub trails : ℕ → List Item
-    pub steps : ℕ → List Stepped
+    pub order : List AtomicStep
     pub place : get_elem? s.views seat ≡ some (Book book)
     pub book_ok : BookOk session origin book
     pub words_ok : WordsOk right touches book s.words
-    pub works_ok : (k : ℕ) → k < 8192 → IsWorked trails origin.first book.next (1 + k) (slice_index s.words (1 + k)) (steps (1 + k))
-    pub views_ok : (j : ℕ) (v : View E H) → get_elem? s.views j ≡ some v → ViewOk origin book seat holder trails j v
-    pub held_ok : All (λ p. ViewOk origin book seat holder trails seat (Pass p)) book.held
+    pub order_ok : IsOrder (length origin.opening) origin.first book.next order s.words
+    pub book_in : IsBookInOrder order book
+    pub views_ok : (j : ℕ) (v : View E H) → get_elem? s.views j ≡ some v → ViewOk origin book seat holder order j v
+    pub held_ok : All (λ p. (p.loading ≡ Nothing) × ViewOk origin book seat holder order seat (Pass p)) book.held
     pub apart : Apart book.held
     pub present : (n : ℕ) → origin.first ≤ n → n < book.next → HasPass s.views book.held (holder n) n
 

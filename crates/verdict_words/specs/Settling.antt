@@ -1,24 +1,21 @@
 -- Passes that are met together.
 use Rattle.std.specs.Prelude.{◌≡◌, ◌≢◌, ℕ, ◌<◌, ◌≤◌, List, [], ◌∷◌, ◌++◌, length, map, All}
-use Rattle.atomic_table.specs.Table.{Me}
 use Rattle.verdict_words.specs.Histories.{IsPrefix, own}
-use Rattle.verdict_words.specs.Steps.{receiving, releasing, without}
-use Rattle.verdict_words.specs.Values.{Identity, SeatValue, PassValue, met_seen, board_of, resting}
+use Rattle.verdict_words.specs.Orders.{Gathers, IsOrder, told_of, trail_steps}
+use Rattle.verdict_words.specs.declared.views.AtomicStep.{AtomicStep}
+use Rattle.verdict_words.specs.Steps.{without}
+use Rattle.verdict_words.specs.Values.{Identity, SeatValue, PassValue, met_seen}
 use Rattle.verdict_words.specs.declared.views.Item.{Item}
 use Rattle.verdict_words.specs.declared.views.Item.TheVariants.{Met}
-use Rattle.verdict_words.specs.declared.views.PassView.{PassView}
-use Rattle.verdict_words.specs.declared.views.BookView.{BookView}
-use Rattle.verdict_words.specs.declared.views.View.{View}
-use Rattle.verdict_words.specs.declared.views.View.TheVariants.{Book, Pass, Spent}
 
 module _ {E H : Type 0} where
   -- a pass with this session and trail, once it was met
-  abbrev pub met_of : Identity E H → List E → ℕ → List Item → PassValue E H
-  met_of board entries session trail = record { board = board; session = session; seen = entries; trail = trail ++ Met (length entries) ∷ [] }
+  abbrev pub met_of : Identity E H → List E → List AtomicStep → ℕ → List Item → PassValue E H
+  met_of board entries known session trail = record { board = board; session = session; seen = entries; trail = trail ++ Met (length entries) ∷ []; known = known }
 
   -- the passes once they were met
-  abbrev pub all_met : Identity E H → List E → List (PassValue E H) → List (PassValue E H)
-  all_met board entries passes = map (λ (pass : PassValue E H). met_of board entries pass.session pass.trail) passes
+  abbrev pub all_met : Identity E H → List E → List AtomicStep → List (PassValue E H) → List (PassValue E H)
+  all_met board entries known passes = map (λ (pass : PassValue E H). met_of board entries known pass.session pass.trail) passes
 
   -- the session that was met last
   abbrev pub last_turn : ℕ → List (PassValue E H) → ℕ
@@ -37,3 +34,10 @@ module _ {E H : Type 0} where
     pub below : pass.session < seat.next
     pub own_entries : All (λ s. s ≢ pass.session) seat.lag
         → (own session seat.entries pass.session ≡ own session pass.seen pass.session) × (own session seat.entries pass.session ≡ own session (met_seen pass) pass.session)
+
+-- What is known once the owner of this history met these passes. Its load of the count stands behind all that it and they knew; up to there it is the order of the board, in which the steps of each pass's session are those that its trail tells
+pub record AreGathered {E H : Type 0} (board : Identity E H) (next : ℕ) (entries : List E) (known : List AtomicStep) (passes : List (PassValue E H)) (known_then : List AtomicStep) : Type 0 where
+  pub behind : Gathers known (map (λ (pass : PassValue E H). pass.known) passes) (length entries) known_then
+  pub words : List ℕ
+  pub order : IsOrder (length board.origin.opening) board.origin.first next known_then words
+  pub own_steps : All (λ (pass : PassValue E H). told_of known_then pass.session ≡ trail_steps pass.session pass.trail) passes

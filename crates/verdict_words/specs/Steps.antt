@@ -1,9 +1,11 @@
 -- What each atomic step is, and what it does to what a seat knows.
-use Rattle.std.specs.Prelude.{◌≡◌, ◌≢◌, ℕ, ◌+◌, ◌-◌, ◌<◌, ◌≤◌, ◌==◌, not, List, [], ◌∷◌, ◌++◌, length, filter, All, Option, Some, None}
+use Rattle.std.specs.Prelude.{◌≡◌, ◌≢◌, ℕ, ◌+◌, ◌-◌, ◌<◌, ◌≤◌, ◌==◌, not, List, [], ◌∷◌, ◌++◌, length, map, filter, All, Option, Some, None}
 use Rattle.atomic_table.specs.Table.{Me, Step}
 use Rattle.verdict_words.specs.Histories.{IsPrefix, Untouched}
 use Rattle.verdict_words.specs.Words.{slot_word, register_word, region_word, most_entries, object_region, store_region, spelling, Sound}
-use Rattle.verdict_words.specs.Rule.{Stepped, Replays, IsPart, AreOf, PassOk}
+use Rattle.verdict_words.specs.Orders.{Steps, Gathers, IsOrder, loads, stores, publishes, item_steps, told_of}
+use Rattle.verdict_words.specs.Rule.{PassOk, pass_steps}
+use Rattle.verdict_words.specs.declared.views.AtomicStep.{AtomicStep}
 use Rattle.verdict_words.specs.declared.places.Held.{Held}
 use Rattle.verdict_words.specs.declared.places.CasePlace.{CasePlace}
 use Rattle.verdict_words.specs.declared.views.Item.{Item}
@@ -81,16 +83,16 @@ Told E H = Step (Unit {0}) → Me (Unit {0}) (View E H) → ℕ → Me (Unit {0}
 
 module _ {E H : Type 0} where
   -- the pass at its next step: the item stands last in its trail
-  abbrev pub gained : Item → PassView E H → PassView E H
-  gained item p = record p { trail = p.trail ++ item ∷ [] }
+  abbrev pub gained : Item → List AtomicStep → PassView E H → PassView E H
+  gained item known p = record p { trail = p.trail ++ item ∷ []; known = known }
 
   -- a new pass: it has seen all that the book knows
   abbrev pub new_pass : BookView E H → PassView E H
-  new_pass b = record { origin = b.origin; session = b.next; seen = b.history; trail = []; loading = Nothing }
+  new_pass b = record { origin = b.origin; session = b.next; seen = b.history; trail = []; known = b.known; loading = Nothing }
 
   -- the pass once it was met: it has seen all that the book knows
   abbrev pub met_pass : BookView E H → PassView E H → PassView E H
-  met_pass b p = record { origin = p.origin; session = p.session; seen = b.history; trail = p.trail ++ Met (length b.history) ∷ []; loading = Nothing }
+  met_pass b p = record { origin = p.origin; session = p.session; seen = b.history; trail = p.trail ++ Met (length b.history) ∷ []; known = b.known; loading = Nothing }
 
   -- the book with one session more
   abbrev pub admitting : View E H → View E H
@@ -144,7 +146,8 @@ module _ {E H : Type 0} where
   -- a step on a register
   abbrev pub ran : RegisterStep → Told E H
   ran kind st m value m' = On st st.word (operand kind) × (register_word 0 ≤ st.word) × (st.word < register_word 4096)
-      × ForPass m.0 (λ p. m' ≡ (Pass (gained (Ran (st.word - register_word 0) kind value) p), m.1))
+      × ForPass m.0 (λ p. (known : List AtomicStep) × (m' ≡ (Pass (gained (Ran (st.word - register_word 0) kind value) known p), m.1))
+      × Steps p.known (item_steps p.session (Ran (st.word - register_word 0) kind value)) known)
 
   abbrev pub has_read : Told E H
   has_read st = ran Read st
@@ -157,46 +160,48 @@ module _ {E H : Type 0} where
 
   -- the slot of the place that is said was loaded
   abbrev pub loaded_slot : Option CasePlace → Told E H
-  loaded_slot said st m found m' = ForSaid said (λ place. On st (slot_word place.case) 0 × ForPass m.0 (λ p. m' ≡ (Pass (record p { loading = Slot place found }), m.1)))
+  loaded_slot said st m found m' = ForSaid said (λ place. On st (slot_word place.case) 0 × ForPass m.0 (λ p. (known : List AtomicStep)
+      × (m' ≡ (Pass (record p { loading = Slot place found; known = known }), m.1)) × Steps p.known (loads p.session (slot_word place.case) found ∷ []) known))
 
   -- the slot of the case was stored, with what the item that is said spells
   abbrev pub stored_slot : Option Item → Told E H
-  stored_slot said st m found m' = ForSaid said (λ item. ForFilled item (λ case at held. On st (slot_word case) (spelling case at held) × ForPass m.0 (λ p. m' ≡ (Pass (gained (Filled case at held) p), m.1))))
+  stored_slot said st m stored m' = ForSaid said (λ item. ForFilled item (λ case at held. On st (slot_word case) (spelling case at held) × ForPass m.0 (λ p. (known : List AtomicStep) × (found : ℕ)
+      × (m' ≡ (Pass (gained (Filled case at held) known p), m.1)) × Steps p.known (stores p.session (slot_word case) (spelling case at held) found ∷ []) known)))
 
   -- the region of the word was raised
   abbrev pub raised_region : Told E H
-  raised_region st m found m' = ForBook m.0 (λ b. On st st.word (length b.history + 1) × (region_word 0 ≤ st.word) × (st.word < region_word 512) × (b.raised ≡ None)
-      × (m' ≡ (Book (record b { raised = Some (st.word - region_word 0) }), m.1)))
+  raised_region st m stored m' = ForBook m.0 (λ b. On st st.word (length b.history + 1) × (region_word 0 ≤ st.word) × (st.word < region_word 512) × (b.raised ≡ None)
+      × ((known : List AtomicStep) × (found : ℕ) × (m' ≡ (Book (record b { raised = Some (st.word - region_word 0); known = known }), m.1)) × Steps b.known (stores 0 st.word (length b.history + 1) found ∷ []) known))
 
   -- an entry was published: its session lags
-  abbrev pub after_entry : (E → ℕ) → E → BookView E H → BookView E H
-  after_entry session entry b = record b { history = b.history ++ entry ∷ []; lag = session entry ∷ b.lag; raised = None }
+  abbrev pub after_entry : (E → ℕ) → E → List AtomicStep → BookView E H → BookView E H
+  after_entry session entry known b = record b { history = b.history ++ entry ∷ []; lag = session entry ∷ b.lag; raised = None; known = known }
 
   abbrev pub published : (E → ℕ) → Option E → Told E H
-  published session said st m found m' = ForSaid said (λ entry. On st 0 1 × ForBook m.0 (λ b. (b.turn ≢ 0) × (session entry ≡ b.turn) × (m' ≡ (Book (after_entry session entry b), m.1))))
+  published session said st m found m' = ForSaid said (λ entry. On st 0 1 × ForBook m.0 (λ b. (b.turn ≢ 0) × (session entry ≡ b.turn)
+      × ((known : List AtomicStep) × (m' ≡ (Book (after_entry session entry known b), m.1)) × Steps b.known (publishes (length b.history) ∷ []) known)))
 
 module _ {E H : Type 0} (right : H → List E → ℕ → Held → Type 0) (touches : H → List E → E → ℕ → Type 0) where
   -- The count was loaded: the pass sees the history, which begins with what it had seen, and for which the slot's word is sound
   abbrev pub loaded_count : Told E H
-  loaded_count st m found m' = On st 0 0 × ForPass m.0 (λ p. ForSlot p.loading (λ place slot. (seen : List E) × (m' ≡ (Pass (record p { seen = seen; loading = Count place slot found }), m.1))
-      × IsPrefix p.seen seen × (length seen ≡ found) × (found ≤ most_entries) × Sound (right p.origin.setting) seen slot))
+  loaded_count st m found m' = On st 0 0 × ForPass m.0 (λ p. ForSlot p.loading (λ place slot. (seen : List E) × (known : List AtomicStep) × (m' ≡ (Pass (record p { seen = seen; loading = Count place slot found; known = known }), m.1))
+      × IsPrefix p.seen seen × (length seen ≡ found) × (found ≤ most_entries) × Sound (right p.origin.setting) seen slot × Steps p.known (loads p.session 0 found ∷ []) known))
 
   -- The region of the object was loaded: no entry that was seen touches it behind its word
   abbrev pub loaded_object : Told E H
-  loaded_object st m found m' = ForPass m.0 (λ p. ForCount p.loading (λ place slot count. On st (region_word (object_region place.object)) 0
-      × (m' ≡ (Pass (record p { loading = Object place slot count found }), m.1)) × Untouched (touches p.origin.setting) p.seen found (object_region place.object)))
+  loaded_object st m found m' = ForPass m.0 (λ p. ForCount p.loading (λ place slot count. On st (region_word (object_region place.object)) 0 × ((known : List AtomicStep)
+      × (m' ≡ (Pass (record p { loading = Object place slot count found; known = known }), m.1)) × Steps p.known (loads p.session (region_word (object_region place.object)) found ∷ []) known) × Untouched (touches p.origin.setting) p.seen found (object_region place.object)))
 
   -- The same of the region of the store, which ends a look
   abbrev pub loaded_store : Told E H
-  loaded_store st m found m' = ForPass m.0 (λ p. ForObject p.loading (λ place slot count object. On st (region_word (store_region place.store)) 0
-      × (m' ≡ (Pass (record p { trail = p.trail ++ Loaded place slot count object found ∷ []; loading = Nothing }), m.1)) × Untouched (touches p.origin.setting) p.seen found (store_region place.store)))
-
--- There is one list of steps by sessions of the board which leads from 0 to some word, and F holds of it
-abbrev pub OneList : ℕ → ℕ → (List Stepped → Type 0) → Type 0
-OneList first next F = (steps : List Stepped) × (word : ℕ) × Replays 0 steps word × AreOf first next steps × F steps
+  loaded_store st m found m' = ForPass m.0 (λ p. ForObject p.loading (λ place slot count object. On st (region_word (store_region place.store)) 0 × ((known : List AtomicStep)
+      × (m' ≡ (Pass (record p { trail = p.trail ++ Loaded place slot count object found ∷ []; known = known; loading = Nothing }), m.1)) × Steps p.known (loads p.session (region_word (store_region place.store)) found ∷ []) known) × Untouched (touches p.origin.setting) p.seen found (store_region place.store)))
 
 module _ {E H : Type 0} (session : E → ℕ) (right : H → List E → ℕ → Held → Type 0) (touches : H → List E → E → ℕ → Type 0) where
-  -- The count was loaded by the book: the rule holds of the passes that it holds, and for each register there is one list whose part of each of their sessions is what its trail says
+  -- The count was loaded by the book. All steps are known then: they are the order of the board, and begin with what the passes knew that the book holds. The rule holds of these, and tells their steps
   abbrev pub checked : Told E H
-  checked st m found m' = On st 0 0 × (m' ≡ m) × ForBook m.0 (λ b. All (PassOk session (right b.origin.setting) (touches b.origin.setting) b.origin b) b.held
-      × ((object : ℕ) → object < 4096 → OneList b.origin.first b.next (λ steps. All (λ p. IsPart (register_word object) steps p.session p.trail) b.held)))
+  checked st m found m' = On st 0 0 × ForBook m.0 (λ b. (known : List AtomicStep) × (m' ≡ (Book (record b { known = known }), m.1))
+      × All (PassOk session (right b.origin.setting) (touches b.origin.setting) b.origin b) b.held
+      × Gathers b.known (map (λ (p : PassView E H). p.known) b.held) (length b.history) known
+      × ((words : List ℕ) × IsOrder (length b.origin.opening) b.origin.first b.next known words)
+      × All (λ (p : PassView E H). told_of known p.session ≡ pass_steps p) b.held)

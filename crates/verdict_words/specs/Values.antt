@@ -7,6 +7,7 @@ use Rattle.verdict_words.specs.Words.{most_entries}
 use Rattle.verdict_words.specs.Rule.{last_met, IsSeated}
 use Rattle.verdict_words.specs.declared.views.Origin.{Origin}
 use Rattle.verdict_words.specs.declared.views.Item.{Item}
+use Rattle.verdict_words.specs.declared.views.AtomicStep.{AtomicStep}
 use Rattle.verdict_words.specs.declared.views.Loading.TheVariants.{Nothing}
 use Rattle.verdict_words.specs.declared.views.View.{View}
 use Rattle.verdict_words.specs.declared.views.View.TheVariants.{Book, Pass, Spent}
@@ -16,7 +17,7 @@ pub record Identity (E H : Type 0) : Type 0 where
   pub table : TableId
   pub origin : Origin E H
 
--- What contracts see of the seat: its board, the history, the number of the next session, the session that was met last or 0, the sessions that have published since they were met, and the region that is raised
+-- What contracts see of the seat: its board, the history, the number of the next session, the session that was met last or 0, the sessions that have published since they were met, the region that is raised, and a beginning of the order of all atomic steps
 pub record SeatValue (E H : Type 0) : Type 0 where
   pub board : Identity E H
   pub entries : List E
@@ -24,13 +25,15 @@ pub record SeatValue (E H : Type 0) : Type 0 where
   pub turn : ℕ
   pub lag : List ℕ
   pub raised : Option ℕ
+  pub known : List AtomicStep
 
--- What contracts see of a pass: its board, its session, the history that it has seen, and its steps so far
+-- What contracts see of a pass: its board, its session, the history that it has seen, its steps so far, and a beginning of the order of all atomic steps
 pub record PassValue (E H : Type 0) : Type 0 where
   pub board : Identity E H
   pub session : ℕ
   pub seen : List E
   pub trail : List Item
+  pub known : List AtomicStep
 
 module _ {E H : Type 0} where
   -- what a pass had seen when it was last met
@@ -53,6 +56,11 @@ module _ {E H : Type 0} where
   trail_of (Book b) = []
   trail_of Spent = []
 
+  abbrev pub known_of : View E H → List AtomicStep
+  known_of (Pass p) = p.known
+  known_of (Book b) = b.known
+  known_of Spent = []
+
   abbrev pub turn_of : View E H → ℕ
   turn_of (Book b) = b.turn
   turn_of (Pass p) = 0
@@ -69,17 +77,17 @@ module _ {E H : Type 0} where
   raised_of Spent = None
 
   -- what the seat of a resting pass knows
-  abbrev pub resting : Origin E H → ℕ → List E → List Item → View E H
-  resting origin session seen trail = Pass record { origin = origin; session = session; seen = seen; trail = trail; loading = Nothing }
+  abbrev pub resting : Origin E H → ℕ → List E → List Item → List AtomicStep → View E H
+  resting origin session seen trail known = Pass record { origin = origin; session = session; seen = seen; trail = trail; known = known; loading = Nothing }
 
   -- what the seat of a resting book knows
-  abbrev pub presiding : Origin E H → List E → ℕ → ℕ → List ℕ → Option ℕ → View E H
-  presiding origin entries next turn lag raised = Book record { origin = origin; history = entries; next = next; turn = turn; lag = lag; raised = raised; held = [] }
+  abbrev pub presiding : Origin E H → List E → ℕ → ℕ → List ℕ → Option ℕ → List AtomicStep → View E H
+  presiding origin entries next turn lag raised known = Book record { origin = origin; history = entries; next = next; turn = turn; lag = lag; raised = raised; known = known; held = [] }
 
 -- what holds of every pass: its seat is of its board, and rests or is spent
 pub record IsPass {E H : Type 0} (board : Identity E H) (place : Seat (Unit {0}) (View E H)) (session at : ℕ) : Type 0 where
   pub table : place.table_id ≡ board.table
-  pub view : (place.me ≡ (resting board.origin session (seen_of place.me.0) (trail_of place.me.0), [])) ⊎ (place.me ≡ (Spent, []))
+  pub view : (place.me ≡ (resting board.origin session (seen_of place.me.0) (trail_of place.me.0) (known_of place.me.0), [])) ⊎ (place.me ≡ (Spent, []))
   pub count : at ≡ length (seen_of place.me.0)
   pub short : at ≤ most_entries
   pub numbered : (1 ≤ session) × ((board_of place.me.0 board).origin.first ≤ session)
@@ -88,7 +96,7 @@ pub record IsPass {E H : Type 0} (board : Identity E H) (place : Seat (Unit {0})
 -- what holds of every seat of a book: it is of its board, and rests
 pub record IsBookSeat {E H : Type 0} (session : E → ℕ) (board : Identity E H) (place : Seat (Unit {0}) (View E H)) (next count : ℕ) : Type 0 where
   pub table : place.table_id ≡ board.table
-  pub view : place.me ≡ (presiding board.origin (seen_of place.me.0) next (turn_of place.me.0) (lag_of place.me.0) (raised_of place.me.0), [])
+  pub view : place.me ≡ (presiding board.origin (seen_of place.me.0) next (turn_of place.me.0) (lag_of place.me.0) (raised_of place.me.0) (known_of place.me.0), [])
   pub long : count ≡ length (seen_of place.me.0)
   pub short : count ≤ most_entries
   pub seated : IsSeated session board.origin (seen_of place.me.0) next (turn_of place.me.0)

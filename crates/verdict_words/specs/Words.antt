@@ -15,6 +15,15 @@ first_words entries = (entries ∷ replicate 8192 0) ++ replicate 512 entries
 abbrev pub most_entries : ℕ
 most_entries = 262144
 
+abbrev pub IsSlotWord : ℕ → Type 0
+IsSlotWord word = (1 ≤ word) × (word < 4097)
+
+abbrev pub IsRegisterWord : ℕ → Type 0
+IsRegisterWord word = (4097 ≤ word) × (word < 8193)
+
+abbrev pub IsRegionWord : ℕ → Type 0
+IsRegionWord word = (8193 ≤ word) × (word < word_count)
+
 -- the slot of a case
 abbrev pub slot_word : ℕ → ℕ
 slot_word case = 1 + case % 4096

@@ -5,10 +5,9 @@ ghost use Rattle.verdict_words.specs.Rule.{StartsWith};
 
 use crate::mark::Mark;
 use crate::matter::Matter;
-use crate::rule::Words;
 use crate::seat::BookSeat;
+use crate::steps::{Words, make_table};
 use crate::views::Key;
-use atomic_table::Table;
 use std::alloc::{AllocError, Global};
 use std::marker::Model;
 use std::snapshot::Snapshot;
@@ -59,7 +58,7 @@ impl<M: Matter> Board<M> {
         requires short { length entries.now.items ≤ most_entries }
         ensures board { IfOk result (λ r. r.0.origin ≡ record { setting = setting.now; opening = entries.now.items; first = next }) }
         ensures words { IfOk result (λ r. StartsWith M.session (M.right r.0.origin.setting) (M.touches r.0.origin.setting) r.0.origin (first_words (length entries.now.items))) }
-        ensures seat { IfOk result (λ r. r.1 ≡ record { board = r.0; entries = entries.now.items; next = next; turn = 0; lag = []; raised = None }) }
+        ensures seat { IfOk result (λ r. r.1 ≡ record { board = r.0; entries = entries.now.items; next = next; turn = 0; lag = []; raised = None; known = [] }) }
     {
         let count = entries.len() as u64;
         let words = first_words(alloc, count)?;
@@ -68,7 +67,7 @@ impl<M: Matter> Board<M> {
             opening: Snapshot::of(entries),
             first: next,
         };
-        let (words, place) = Table::of_words(alloc, words.as_slice(), &key)?;
+        let (words, place) = make_table::<M>(alloc, words.as_slice(), &key)?;
         let board = Board { words };
         let seat = BookSeat {
             place,
@@ -83,6 +82,6 @@ impl<M: Matter> Board<M> {
     pub fn word(&self, k: u64) -> u64
         requires { k < word_count }
     {
-        self.words.shared.peek(k as usize)
+        self.peek(k)
     }
 }

@@ -9,6 +9,7 @@
 
 mod board;
 mod book;
+mod laws;
 mod look;
 mod mark;
 mod matter;
@@ -17,18 +18,19 @@ mod padded;
 mod pass;
 mod places;
 mod registers;
-mod rule;
 mod seat;
 mod settle;
+mod steps;
 #[cfg(test)]
 mod tests;
 mod views;
 
 pub use board::Board;
+pub use laws::what_is_found_is_fresh;
 pub use mark::Mark;
 pub use matter::Matter;
 pub use naming::Naming;
 pub use pass::Pass;
 pub use places::{CasePlace, Held, Look};
 pub use seat::BookSeat;
-pub use views::{Item, Origin, RegisterStep};
+pub use views::{Action, AtomicStep, Item, Origin, RegisterStep};

@@ -1,7 +1,8 @@
 //! Kept verdicts: how a session looks for one, and keeps one.
 ghost use Rattle.std.specs.Prelude.{◌≡◌, ◌↔◌, ℕ, ◌<◌, ◌≤◌, [], ◌∷◌, ◌++◌, length, take, Some};
 ghost use Rattle.verdict_words.specs.Histories.{IsPrefix};
-ghost use Rattle.verdict_words.specs.Words.{IsHeld, IsPlace, IsSlot, Spells, spelling};
+ghost use Rattle.verdict_words.specs.Words.{IsHeld, IsPlace, IsSlot, Spells, slot_word, spelling};
+ghost use Rattle.verdict_words.specs.Orders.{Steps, item_steps, stores};
 ghost use Rattle.verdict_words.specs.Answers.{IsAnswer, HitIsRight};
 ghost use Rattle.verdict_words.specs.declared.places.Held.{Held};
 ghost use Rattle.verdict_words.specs.declared.views.Item.TheVariants.{Loaded, Filled};
@@ -10,8 +11,6 @@ use crate::board::Board;
 use crate::matter::Matter;
 use crate::pass::Pass;
 use crate::places::{CasePlace, Held, Look};
-use crate::rule::{LoadCount, LoadObject, LoadSlot, LoadStore, Said, StoreSlot};
-use crate::views::Item;
 use std::marker::Brand;
 
 const LOW_20: u64 = 0xf_ffff;
@@ -66,33 +65,14 @@ impl<M: Matter> Board<M> {
         requires place { IsPlace place.now }
         requires home { M.home self.now.origin.setting pass.old.seen place.now }
         ensures seen { IsPrefix pass.old.seen pass.new.seen }
-        ensures loaded { (slot object store : ℕ) × (pass.new ≡ record pass.old { seen = pass.new.seen; trail = pass.old.trail ++ Loaded place.now slot (length pass.new.seen) object store ∷ [] }) × IsAnswer place.now.case slot (length pass.new.seen) object store result }
+        ensures loaded { (slot object store : ℕ) × (pass.new ≡ record pass.old { seen = pass.new.seen; trail = pass.old.trail ++ Loaded place.now slot (length pass.new.seen) object store ∷ []; known = pass.new.known }) × IsAnswer place.now.case slot (length pass.new.seen) object store result × Steps pass.old.known (item_steps pass.old.session (Loaded place.now slot (length pass.new.seen) object store)) pass.new.known }
         ensures right { HitIsRight (M.right self.now.origin.setting pass.new.seen place.now.case) result }
     {
-        self.look_said::<Brand>(pass, place)
-    }
-
-    #[inline(always)]
-    fn look_said<W: Said<CasePlace>>(&self, pass: &mut Pass<M>, place: &CasePlace) -> Look
-        requires said { W.said ≡ Some place.now }
-        requires board { pass.old.board ≡ self.now }
-        requires place { IsPlace place.now }
-        requires home { M.home self.now.origin.setting pass.old.seen place.now }
-        ensures seen { IsPrefix pass.old.seen pass.new.seen }
-        ensures loaded { (slot object store : ℕ) × (pass.new ≡ record pass.old { seen = pass.new.seen; trail = pass.old.trail ++ Loaded place.now slot (length pass.new.seen) object store ∷ [] }) × IsAnswer place.now.case slot (length pass.new.seen) object store result }
-        ensures right { HitIsRight (M.right self.now.origin.setting pass.new.seen place.now.case) result }
-    {
-        let shared = &self.words.shared;
-        let slot = shared.load::<LoadSlot<W>>(&mut pass.place, 1 + (place.case % 4096) as usize);
-        let count = shared.load::<LoadCount<M>>(&mut pass.place, 0);
-        let object = shared.load::<LoadObject<M>>(
-            &mut pass.place,
-            8193 + (place.object % 256) as usize,
-        );
-        let store = shared.load::<LoadStore<M>>(
-            &mut pass.place,
-            8193 + (256 + place.store as usize),
-        );
+        let _words = &self.words;
+        let slot = self.load_slot::<Brand>(&mut pass.place, place);
+        let count = self.load_count(&mut pass.place);
+        let object = self.load_object(&mut pass.place, place);
+        let store = self.load_store(&mut pass.place, place);
         let found = answer(place.case, slot, count, object, store);
         pass.at.value = count;
         found
@@ -105,37 +85,15 @@ impl<M: Matter> Board<M> {
         requires at { at ≤ length pass.old.seen }
         requires held { IsHeld held.now }
         requires right { M.right self.now.origin.setting (take at pass.old.seen) place.now.case held.now }
-        ensures { pass.new ≡ record pass.old { trail = pass.old.trail ++ Filled place.now.case at held.now ∷ [] } }
+        ensures pass { pass.new ≡ record pass.old { trail = pass.old.trail ++ Filled place.now.case at held.now ∷ []; known = pass.new.known } }
+        ensures step { (found : ℕ) × Steps pass.old.known (stores pass.old.session (slot_word place.now.case) (spelling place.now.case at held.now) found ∷ []) pass.new.known }
     {
-        let item = Item::Filled {
-            case: place.case,
-            at,
-            held: *held,
-        };
-        self.fill_said::<Brand>(pass, place, at, held, &item);
-    }
-
-    fn fill_said<W: Said<Item>>(
-        &self,
-        pass: &mut Pass<M>,
-        place: &CasePlace,
-        at: u64,
-        held: &Held,
-        item: &Item,
-    )
-        requires said { (W.said ≡ Some item.now) × (item.now ≡ Filled place.now.case at held.now) }
-        requires board { pass.old.board ≡ self.now }
-        requires place { IsPlace place.now }
-        requires at { at ≤ length pass.old.seen }
-        requires held { IsHeld held.now }
-        requires right { M.right self.now.origin.setting (take at pass.old.seen) place.now.case held.now }
-        ensures { pass.new ≡ record pass.old { trail = pass.old.trail ++ Filled place.now.case at held.now ∷ [] } }
-    {
-        let _ = item;
-        let shared = &self.words.shared;
-        shared.store::<StoreSlot<W>>(
+        let _words = &self.words;
+        self.store_slot::<Brand>(
             &mut pass.place,
-            1 + (place.case % 4096) as usize,
+            place,
+            at,
+            held,
             spelled(place.case, at, held),
         );
     }

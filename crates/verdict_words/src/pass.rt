@@ -7,10 +7,11 @@ use crate::board::Board;
 use crate::mark::Mark;
 use crate::matter::Matter;
 use crate::padded::Padded;
-use crate::rule::Place;
+use crate::steps::Place;
 use std::marker::Model;
 
-/// A session's right to step on a board. Contracts see its session, the history that it has seen, and its steps so far.
+/// A session's right to step on a board. Contracts see its session, the history that it has seen, its steps so far, and
+/// the order of all atomic steps as far as it knows it.
 #[derive(Drop)]
 pub struct Pass<M: Matter> {
     pub(crate) place: Place<M>,
@@ -20,11 +21,11 @@ pub struct Pass<M: Matter> {
 }
 
 impl<M: Matter> Model for Pass<M> {
-    ghost use Rattle.verdict_words.specs.Values.{PassValue, IsPass, board_of, seen_of, trail_of};
+    ghost use Rattle.verdict_words.specs.Values.{PassValue, IsPass, board_of, seen_of, trail_of, known_of};
 
     ghost Value = { PassValue M.Entry M.Setting };
 
-    ghost view = { λ p. record { board = board_of p.place.me.0 p.board.value; session = p.session; seen = seen_of p.place.me.0; trail = trail_of p.place.me.0 } };
+    ghost view = { λ p. record { board = board_of p.place.me.0 p.board.value; session = p.session; seen = seen_of p.place.me.0; trail = trail_of p.place.me.0; known = known_of p.place.me.0 } };
 
     ghost invariant = { λ p. IsPass p.board.value p.place p.session p.at.value };
 }

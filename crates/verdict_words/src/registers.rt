@@ -1,44 +1,44 @@
 //! The steps on registers. Each is one atomic step, and answers what the register held before it.
 ghost use Rattle.std.specs.Prelude.{◌≡◌, ◌<◌, [], ◌∷◌, ◌++◌};
+ghost use Rattle.verdict_words.specs.Orders.{Steps, item_steps};
 ghost use Rattle.verdict_words.specs.declared.views.Item.TheVariants.{Ran};
 ghost use Rattle.verdict_words.specs.declared.views.RegisterStep.TheVariants.{Read, Write, Add};
 
 use crate::board::Board;
 use crate::matter::Matter;
 use crate::pass::Pass;
-use crate::rule::{AddRegister, ReadRegister, WriteRegister};
 
 impl<M: Matter> Board<M> {
     /// Loads the register of the object.
     pub fn run_read(&self, pass: &mut Pass<M>, object: u64) -> u64
         requires board { pass.old.board ≡ self.now }
         requires object { object < 4096 }
-        ensures { pass.new ≡ record pass.old { trail = pass.old.trail ++ Ran object Read result ∷ [] } }
+        ensures pass { pass.new ≡ record pass.old { trail = pass.old.trail ++ Ran object Read result ∷ []; known = pass.new.known } }
+        ensures step { Steps pass.old.known (item_steps pass.old.session (Ran object Read result)) pass.new.known }
     {
-        self.words
-            .shared
-            .load::<ReadRegister>(&mut pass.place, 4097 + object as usize)
+        let _words = &self.words;
+        self.read_register(&mut pass.place, object)
     }
 
     /// Sets the register of the object, and returns what it held.
     pub fn run_write(&self, pass: &mut Pass<M>, object: u64, value: u64) -> u64
         requires board { pass.old.board ≡ self.now }
         requires object { object < 4096 }
-        ensures { pass.new ≡ record pass.old { trail = pass.old.trail ++ Ran object (Write value) result ∷ [] } }
+        ensures pass { pass.new ≡ record pass.old { trail = pass.old.trail ++ Ran object (Write value) result ∷ []; known = pass.new.known } }
+        ensures step { Steps pass.old.known (item_steps pass.old.session (Ran object (Write value) result)) pass.new.known }
     {
-        self.words
-            .shared
-            .swap::<WriteRegister>(&mut pass.place, 4097 + object as usize, value)
+        let _words = &self.words;
+        self.swap_register(&mut pass.place, object, value)
     }
 
     /// Adds to the register of the object, modulo 2^64, and returns what it held.
     pub fn run_add(&self, pass: &mut Pass<M>, object: u64, value: u64) -> u64
         requires board { pass.old.board ≡ self.now }
         requires object { object < 4096 }
-        ensures { pass.new ≡ record pass.old { trail = pass.old.trail ++ Ran object (Add value) result ∷ [] } }
+        ensures pass { pass.new ≡ record pass.old { trail = pass.old.trail ++ Ran object (Add value) result ∷ []; known = pass.new.known } }
+        ensures step { Steps pass.old.known (item_steps pass.old.session (Ran object (Add value) result)) pass.new.known }
     {
-        self.words
-            .shared
-            .fetch_add::<AddRegister>(&mut pass.place, 4097 + object as usize, value)
+        let _words = &self.words;
+        self.add_to_register(&mut pass.place, object, value)
     }
 }

@@ -5,11 +5,11 @@ ghost use Rattle.verdict_words.specs.Rule.{IsSeated};
 use crate::board::Board;
 use crate::mark::Mark;
 use crate::matter::Matter;
-use crate::rule::Place;
+use crate::steps::Place;
 use std::marker::Model;
 
-/// The right to let the history of a board grow. Contracts see the history, the number of the next session, and which
-/// session may publish.
+/// The right to let the history of a board grow. Contracts see the history, the number of the next session, which
+/// session may publish, and the order of all atomic steps as far as the owner knows it.
 #[derive(Drop)]
 pub struct BookSeat<M: Matter> {
     pub(crate) place: Place<M>,
@@ -19,11 +19,11 @@ pub struct BookSeat<M: Matter> {
 }
 
 impl<M: Matter> Model for BookSeat<M> {
-    ghost use Rattle.verdict_words.specs.Values.{SeatValue, IsBookSeat, seen_of, turn_of, lag_of, raised_of};
+    ghost use Rattle.verdict_words.specs.Values.{SeatValue, IsBookSeat, seen_of, turn_of, lag_of, raised_of, known_of};
 
     ghost Value = { SeatValue M.Entry M.Setting };
 
-    ghost view = { λ s. record { board = s.board.value; entries = seen_of s.place.me.0; next = s.next; turn = turn_of s.place.me.0; lag = lag_of s.place.me.0; raised = raised_of s.place.me.0 } };
+    ghost view = { λ s. record { board = s.board.value; entries = seen_of s.place.me.0; next = s.next; turn = turn_of s.place.me.0; lag = lag_of s.place.me.0; raised = raised_of s.place.me.0; known = known_of s.place.me.0 } };
 
     ghost invariant = { λ s. IsBookSeat M.session s.board.value s.place s.next s.count };
 }

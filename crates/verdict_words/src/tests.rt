@@ -123,6 +123,46 @@ fn a_register_step_answers_what_the_register_held(rt: HostRuntime) -> Result<(),
     Ok(())
 }
 
+// A kept verdict is not told behind a change of another session, although the one that looks was not met since.
+#[test]
+fn a_look_misses_behind_a_change_of_another_session(rt: HostRuntime) -> Result<(), Fail> {
+    let entries = Vec::new(rt.alloc());
+    let (board, mut seat) = Board::<Flags>::make(rt.alloc(), &(), &entries, 1)?;
+    let mut one = board.enter(&mut seat);
+    let two = board.enter(&mut seat);
+    board.fill(&mut one, &case_place(5), 0, &ALLOWED);
+    let hit = board.look(&mut one, &case_place(5));
+    assert_eq!(rt;
+        hit,
+        Look::Hit {
+            at: 0,
+            held: ALLOWED
+        }
+    );
+    let two = board.meet(&mut seat, two);
+    board.raise(&mut seat, 5);
+    let flag = Flag {
+        session: two.session(),
+        flag: 5,
+    };
+    board.publish(&mut seat, &flag);
+    assert_eq!(rt; board.look(&mut one, &case_place(5)), Look::Miss);
+    Ok(())
+}
+
+// A session reads what another one wrote behind its own step.
+#[test]
+fn a_read_is_of_the_last_step_of_any_session(rt: HostRuntime) -> Result<(), Fail> {
+    let entries = Vec::new(rt.alloc());
+    let (board, mut seat) = Board::<Flags>::make(rt.alloc(), &(), &entries, 1)?;
+    let mut one = board.enter(&mut seat);
+    let mut two = board.enter(&mut seat);
+    assert_eq!(rt; board.run_write(&mut one, 3, 5), 0);
+    assert_eq!(rt; board.run_write(&mut two, 3, 9), 5);
+    assert_eq!(rt; board.run_read(&mut one, 3), 9);
+    Ok(())
+}
+
 #[test]
 fn passes_are_met_together(rt: HostRuntime) -> Result<(), Fail> {
     let entries = Vec::new(rt.alloc());

@@ -65,6 +65,26 @@ pub enum Item {
     },
 }
 
+/// What an atomic step does to its word.
+#[derive(Drop)]
+pub enum Action {
+    Load,
+    Store(u64),
+    Swap(u64),
+    FetchAdd(u64),
+}
+
+/// An atomic step on a word of a board.
+#[derive(Drop)]
+pub struct AtomicStep {
+    /// The session that made it, or 0 where the owner of the history did.
+    pub session: u64,
+    pub word: u64,
+    pub action: Action,
+    /// What the word held before it.
+    pub found: u64,
+}
+
 /// The words that a look has loaded so far.
 pub enum Loading {
     Nothing,
@@ -93,6 +113,8 @@ pub struct PassView<E, H> {
     pub seen: LinkedList<E>,
     /// The steps so far.
     pub trail: LinkedList<Item>,
+    /// A beginning of the order of all atomic steps.
+    pub known: LinkedList<AtomicStep>,
     pub loading: Loading,
 }
 
@@ -108,6 +130,8 @@ pub struct BookView<E, H> {
     pub lag: LinkedList<u64>,
     /// The region that an entry to come touches.
     pub raised: Option<u64>,
+    /// A beginning of the order of all atomic steps.
+    pub known: LinkedList<AtomicStep>,
     /// The passes that are being met, in the order in which they were taken in.
     pub held: LinkedList<PassView<E, H>>,
 }

@@ -1,11 +1,10 @@
 -- What the calls of a settlement do to what a seat knows, one after another.
-use Rattle.std.specs.Prelude.{◌≡◌, ◌≢◌, ℕ, ◌<◌, ◌≤◌, List, [], ◌∷◌, ◌++◌, length, map, All}
+use Rattle.std.specs.Prelude.{◌≡◌, ℕ, ◌≤◌, List, [], ◌∷◌, length, map, All}
 use Rattle.atomic_table.specs.Table.{Me}
-use Rattle.verdict_words.specs.Histories.{IsPrefix, own}
-use Rattle.verdict_words.specs.Steps.{receiving, releasing, without}
-use Rattle.verdict_words.specs.Values.{Identity, SeatValue, PassValue, met_seen, board_of, resting}
-use Rattle.verdict_words.specs.declared.views.Item.{Item}
-use Rattle.verdict_words.specs.declared.views.Item.TheVariants.{Met}
+use Rattle.verdict_words.specs.Histories.{IsPrefix}
+use Rattle.verdict_words.specs.Steps.{receiving, releasing}
+use Rattle.verdict_words.specs.Values.{Identity, PassValue, board_of, resting}
+use Rattle.verdict_words.specs.declared.views.AtomicStep.{AtomicStep}
 use Rattle.verdict_words.specs.declared.views.PassView.{PassView}
 use Rattle.verdict_words.specs.declared.views.BookView.{BookView}
 use Rattle.verdict_words.specs.declared.views.View.{View}
@@ -14,16 +13,16 @@ use Rattle.verdict_words.specs.Settling.{met_of}
 
 module _ {E H : Type 0} where
   -- a pass that the book holds, once it was met
-  abbrev pub met_held : Identity E H → List E → PassView E H → PassValue E H
-  met_held board entries p = met_of board entries p.session p.trail
+  abbrev pub met_held : Identity E H → List E → List AtomicStep → PassView E H → PassValue E H
+  met_held board entries known p = met_of board entries known p.session p.trail
 
   -- what the seat of a pass knows
   abbrev pub view_of : PassValue E H → View E H
-  view_of pass = resting pass.board.origin pass.session pass.seen pass.trail
+  view_of pass = resting pass.board.origin pass.session pass.seen pass.trail pass.known
 
   -- a pass whose view the book holds
   abbrev pub away : PassValue E H → PassValue E H
-  away pass = record { board = board_of {E = E} {H = H} Spent pass.board; session = pass.session; seen = []; trail = [] }
+  away pass = record { board = board_of {E = E} {H = H} Spent pass.board; session = pass.session; seen = []; trail = []; known = [] }
 
   -- the book takes passes in, one after another
   abbrev pub receiving_all : View E H → List (PassValue E H) → View E H
@@ -39,10 +38,6 @@ module _ {E H : Type 0} where
   held_of (Book b) = b.held
   held_of (Pass p) = []
   held_of Spent = []
-
-  -- the seat is the book's
-  abbrev pub IsBooks : Me (Unit {0}) (View E H) → Type 0
-  IsBooks me = (b : BookView E H) × (me ≡ (Book b, []))
 
   -- The book's seat holds passes of this board that can be given back: the history is of this length, and the sessions are numbered from the first one on
   pub record IsHolding (board : Identity E H) (count : ℕ) (sessions : List ℕ) (me : Me (Unit {0}) (View E H)) : Type 0 where

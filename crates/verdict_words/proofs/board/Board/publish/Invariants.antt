@@ -1,5 +1,5 @@
 use Rattle.std.specs.Prelude.{Some}
 use Rattle.verdict_words.proofs.board.Board.publish.Given as goal
 
-abbrev pub ghosts-publish_said : goal.ghosts-publish_said
-ghosts-publish_said g a = record { said = Some a.entry.now }
+abbrev pub ghosts-add_to_count : goal.ghosts-add_to_count
+ghosts-add_to_count g a = record { said = Some a.entry.now }

@@ -1,25 +1,27 @@
-use Rattle.std.proofs.Common.{rules, ◌≡◌, ℕ, ◌+◌, ◌<◌, sym, ap, ◌∙◌, subst, length, None}
-use mathlib.Core.Option.{none}
-use Rattle.atomic_table.specs.Table.{step, Allows}
-use Rattle.verdict_words.specs.Words.{most_entries}
-use Rattle.verdict_words.specs.Rule.{IsKept, origin_of}
-use Rattle.verdict_words.specs.Steps.{raised_region}
-use Rattle.verdict_words.specs.Values.{seen_of, raised_of}
-use Rattle.verdict_words.proofs.PassSteps.{asked}
-use Rattle.verdict_words.proofs.BookKept.{raises}
+use Rattle.std.proofs.Common.{rules, ◌≡◌, ◌+◌, ◌<◌, sym, ap, ◌∙◌, subst, length, None, [], ◌∷◌}
+use Rattle.verdict_words.specs.Words.{most_entries, region_word}
+use Rattle.verdict_words.specs.Orders.{stores}
+use Rattle.verdict_words.specs.Values.{seen_of, raised_of, known_of}
+use Rattle.verdict_words.proofs.Seated.{rests, rests_seated, after_raise, book_steps_shown}
 use Rattle.verdict_words.proofs.board.Board.raise.Goals as goal
 
-pub store-requires : goal.store-requires
-store-requires g c = (
-  search rules,
-  search rules,
-  let key = c.self.inside.words.shared.key in
-      let entries = seen_of c.seat.inside.place.me.0 in
-      let free : raised_of c.seat.inside.place.me.0 ≡ None = ap (λ v. v.raised) c.seat.view_is ∙ c.requires.free in
-      let room : length entries < most_entries = subst (λ l. length l < most_entries) (sym (ap (λ v. v.entries) c.seat.view_is)) c.requires.room in
-      let slots = c.self.inside.words.shared.table_id.slots in
-      subst (λ (n : ℕ). Allows (IsKept g.M.Matter.session (g.M.Matter.right key.setting.value) (g.M.Matter.touches key.setting.value) (origin_of key)) slots c.seat.inside.place.id c.seat.inside.place.me (8193 + c.args.region) (λ _. n + 1)
-      (λ _. raised_region (step slots (8193 + c.args.region) (n + 1) 0 none) c.seat.inside.place.me (n + 1))) (sym c.seat.invariant.long)
-      (asked g.M.Matter.session g.M.Matter.right g.M.Matter.touches (origin_of key) _ _ _ _ _ (λ _. length entries + 1) (λ n m _. raised_region (step n (8193 + c.args.region) (length entries + 1) 0 none) m (length entries + 1)) c.self.invariant.1 c.seat.invariant.view
-      (raises g.M.Matter.session (g.M.Matter.right key.setting.value) (g.M.Matter.touches key.setting.value) (origin_of key) _ _ c.args.region c.requires.region free room)),
-)
+pub store_region-requires-clause-book : goal.store_region-requires-clause-book
+store_region-requires-clause-book g c =
+    let free : raised_of c.seat.inside.place.me.0 ≡ None = ap (λ v. v.raised) c.seat.view_is ∙ c.requires.free in
+    let room : length (seen_of c.seat.inside.place.me.0) < most_entries = subst (λ l. length l < most_entries) (sym (ap (λ v. v.entries) c.seat.view_is)) c.requires.room in
+    (_, c.seat.invariant.view, free, room, ap (λ n. n + 1) c.seat.invariant.long)
+
+pub invariant_of-seat : goal.invariant_of-seat
+invariant_of-seat g c =
+    let now = after_raise _ _ _ _ _ c.seat.invariant.view c.store_region.ensures.told in record {
+      table = search rules;
+      view = rests c.seat.inside.board.value.origin _ _ _ _ _ _ _ now.2;
+      long = c.seat.invariant.long ∙ sym (ap (λ m. length (seen_of m.0)) now.2);
+      short = c.seat.invariant.short;
+      seated = rests_seated g.M.Matter.session c.seat.inside.board.value.origin _ _ _ _ _ _ _ now.2 c.seat.invariant.seated;
+    }
+
+pub returns-clause-step : goal.returns-clause-step
+returns-clause-step g c =
+    let now = after_raise _ _ _ _ _ c.seat.invariant.view c.store_region.ensures.told in
+    (now.1, book_steps_shown _ c.seat.inside.board.value c.seat.inside.next c.seat.inside.place.me c.store_region.new.seat.me now.0 (λ l. stores 0 (region_word c.args.region) (length l + 1) now.1 ∷ []) c.seat.view_is (ap (λ m. known_of m.0) now.2) now.3)

@@ -1,30 +1,32 @@
-use Rattle.std.proofs.Common.{rules, refl, sym, ap, ◌∙◌, ◌+◌}
-use mathlib.Core.Option.{none}
-use Rattle.atomic_table.specs.Table.{step}
-use Rattle.verdict_words.specs.Steps.{has_written}
+use Rattle.std.proofs.Common.{refl, sym, ap, ◌∙◌}
+use Rattle.verdict_words.specs.Orders.{item_steps}
+use Rattle.verdict_words.specs.Values.{known_of}
+use Rattle.verdict_words.specs.declared.views.Item.TheVariants.{Ran}
 use Rattle.verdict_words.specs.declared.views.RegisterStep.TheVariants.{Write}
-use Rattle.verdict_words.proofs.AtHome.{at_home, pass_ok, item_value}
+use Rattle.verdict_words.proofs.AtHome.{at_home, pass_ok, item_value, steps_shown}
 use Rattle.verdict_words.proofs.Looking.{after_run}
-use Rattle.verdict_words.proofs.PassSteps.{asked, runs}
 use Rattle.verdict_words.proofs.board.Board.run_write.Goals as goal
 
-pub swap-requires : goal.swap-requires
-swap-requires g c = let home = at_home c.args.self.now c.pass.inside.board.value c.pass.inside.place c.pass.inside.session c.pass.inside.at.value c.pass.invariant (ap (λ v. v.board) c.pass.view_is ∙ c.requires.board) (ap (λ b. b.table.words) (sym c.self.view_is) ∙ c.self.invariant.0) in (
-  home.table ∙ ap (λ b. b.table) (sym c.self.view_is),
-  search rules,
-  asked g.M.Matter.session g.M.Matter.right g.M.Matter.touches _ _ _ _ _ _ (λ _. c.args.value) (λ n. has_written (step n (4097 + c.args.object) c.args.value 0 none)) c.self.invariant.1 home.me
-      (runs g.M.Matter.session g.M.Matter.right g.M.Matter.touches _ _ _ c.args.object (Write c.args.value) (λ _. c.args.value) c.requires.object refl (λ n. refl)),
-)
+pub swap_register-requires-clause-table : goal.swap_register-requires-clause-table
+swap_register-requires-clause-table g c = (at_home c.args.self.now c.pass.inside.board.value c.pass.inside.place c.pass.inside.session c.pass.inside.at.value c.pass.invariant (ap (λ v. v.board) c.pass.view_is ∙ c.requires.board) (ap (λ b. b.table.words) (sym c.self.view_is) ∙ c.self.invariant.0)).table
+
+pub swap_register-requires-clause-pass : goal.swap_register-requires-clause-pass
+swap_register-requires-clause-pass g c = (_, (at_home c.args.self.now c.pass.inside.board.value c.pass.inside.place c.pass.inside.session c.pass.inside.at.value c.pass.invariant (ap (λ v. v.board) c.pass.view_is ∙ c.requires.board) (ap (λ b. b.table.words) (sym c.self.view_is) ∙ c.self.invariant.0)).me, refl)
 
 pub invariant_of-pass : goal.invariant_of-pass
 invariant_of-pass g c =
-    let did = c.swap in
     let home = at_home c.args.self.now c.pass.inside.board.value c.pass.inside.place c.pass.inside.session c.pass.inside.at.value c.pass.invariant (ap (λ v. v.board) c.pass.view_is ∙ c.requires.board) (ap (λ b. b.table.words) (sym c.self.view_is) ∙ c.self.invariant.0) in
-    let now = after_run _ _ _ _ _ (Write c.args.value) c.args.object _ refl home.me did.ensures.2 in
-    pass_ok _ _ _ _ _ _ (did.ensures.0 ∙ c.pass.invariant.table) now c.pass.invariant.count c.pass.invariant.short c.pass.invariant.numbered.0 home.first home.begins
+    let now = after_run c.args.value _ _ _ (Write c.args.value) c.args.object _ home.me c.swap_register.ensures.told in
+    pass_ok _ _ _ _ _ _ now.0 (c.swap_register.ensures.table ∙ sym (ap (λ b. b.table) home.same)) now.1 c.pass.invariant.count c.pass.invariant.short c.pass.invariant.numbered.0 home.first home.begins
 
-pub returns : goal.returns
-returns g c =
-    let done = c.swap in
+pub returns-clause-pass : goal.returns-clause-pass
+returns-clause-pass g c =
     let home = at_home c.args.self.now c.pass.inside.board.value c.pass.inside.place c.pass.inside.session c.pass.inside.at.value c.pass.invariant (ap (λ v. v.board) c.pass.view_is ∙ c.requires.board) (ap (λ b. b.table.words) (sym c.self.view_is) ∙ c.self.invariant.0) in
-    item_value _ _ _ _ _ _ _ _ _ c.pass.view_is home.me (after_run _ _ _ _ _ (Write c.args.value) c.args.object _ refl home.me done.ensures.2)
+    let now = after_run c.args.value _ _ _ (Write c.args.value) c.args.object _ home.me c.swap_register.ensures.told in
+    item_value _ _ _ _ _ _ _ _ _ now.0 _ c.pass.view_is home.me now.1
+
+pub returns-clause-step : goal.returns-clause-step
+returns-clause-step g c =
+    let home = at_home c.args.self.now c.pass.inside.board.value c.pass.inside.place c.pass.inside.session c.pass.inside.at.value c.pass.invariant (ap (λ v. v.board) c.pass.view_is ∙ c.requires.board) (ap (λ b. b.table.words) (sym c.self.view_is) ∙ c.self.invariant.0) in
+    let now = after_run c.args.value _ _ _ (Write c.args.value) c.args.object _ home.me c.swap_register.ensures.told in
+    steps_shown _ _ _ c.pass.inside.place.me c.swap_register.new.seat.me now.0 (λ s. item_steps s (Ran c.args.object (Write c.args.value) c.swap_register.result)) c.pass.view_is (ap (λ m. known_of m.0) now.1) now.2

@@ -1,0 +1,19 @@
+use Rattle.std.proofs.Common.{rules, refl, sym, ap, ◌∙◌, ◌+◌, ◌%◌, ◌^◌}
+use mathlib.Core.Option.{none}
+use Rattle.atomic_table.specs.Table.{step}
+use Rattle.verdict_words.specs.Words.{register_word}
+use Rattle.verdict_words.specs.Steps.{has_added}
+use Rattle.verdict_words.specs.declared.views.RegisterStep.TheVariants.{Add}
+use Rattle.verdict_words.proofs.PassSteps.{asked, runs}
+use Rattle.verdict_words.proofs.board.Board.add_to_register.Goals as goal
+
+pub fetch_add-requires : goal.fetch_add-requires
+fetch_add-requires g c = (
+  c.requires.table ∙ ap (λ b. b.table) (sym c.self.view_is),
+  search rules,
+  asked g.M.Matter.session g.M.Matter.right g.M.Matter.touches _ _ _ _ _ _ (λ n. (n + c.args.value) % 2 ^ 64) (λ n. has_added (step n (register_word c.args.object) c.args.value 0 none)) c.self.invariant.1 c.requires.pass.1
+      (runs g.M.Matter.session g.M.Matter.right g.M.Matter.touches _ _ _ c.args.object (Add c.args.value) (λ n. (n + c.args.value) % 2 ^ 64) c.requires.object c.requires.pass.2 (λ n. refl)),
+)
+
+pub returns-clause-told : goal.returns-clause-told
+returns-clause-told g c = c.fetch_add.ensures.2
