@@ -1,9 +1,14 @@
 -- What a book learns of a pass, from what its seat does.
-use Rattle.std.proofs.Common.{◌≡◌, ◌≢◌, ℕ, List, [], ◌∷◌, refl, sym, subst}
+use Rattle.std.proofs.Common.{◌≡◌, ◌≢◌, ℕ, List, [], ◌∷◌, ◌++◌, refl, sym, ap, ◌∙◌, subst, append_assoc}
 use Rattle.std.specs.List.{All}
 use Rattle.std.proofs.lemmas.List.Elements.{All-nil}
 use Rattle.policy_history.specs.declared.events.Entry.{Entry}
 use Rattle.policy_history.specs.declared.heads.Head.{Head}
+use Rattle.verdict_words.specs.Histories.{IsPrefix}
+use Rattle.verdict_words.specs.Orders.{Steps, publishes}
+use Rattle.verdict_words.specs.declared.views.AtomicStep.{AtomicStep}
+use Rattle.verdict_words.proofs.ForCallers.{prefix_through}
+use Rattle.policy_book.specs.Writes.{IsPublished}
 use Rattle.verdict_words.specs.Settling.{IsMet, without_all}
 use Rattle.verdict_words.specs.Steps.{without}
 use Rattle.verdict_words.specs.Values.{PassValue, SeatValue}
@@ -26,4 +31,17 @@ met_by_seat seat book pass board entries next lag met =
       below = rw (← next) met.below;
       own_seen = rw (← entries) own_is.0;
       own_met = rw (← entries) own_is.1;
+    }
+
+-- an entry that was published between two meetings
+pub published_there : (known mine met raised published last : List AtomicStep) (count here : ℕ) → IsPrefix known met → IsPrefix mine met → IsPrefix met raised → Steps raised (publishes count ∷ []) published → IsPrefix published last → count ≡ here
+    → IsPublished known mine here last
+published_there known mine met raised published last count here of_book of_pass rose (before, behind, is) (more, whole) same =
+    let there : IsPrefix met before = prefix_through met raised before rose behind in
+    record {
+      before = before;
+      after = more;
+      behind_book = prefix_through known met before of_book there;
+      behind_pass = prefix_through mine met before of_pass there;
+      is = whole ∙ ap (λ (l : List AtomicStep). l ++ more) is ∙ append_assoc before (publishes count ∷ []) more ∙ ap (λ (n : ℕ). before ++ publishes n ∷ more) same;
     }

@@ -15,11 +15,14 @@ use Rattle.policy_history.specs.States.{State}
 use Rattle.policy_history.specs.Values.{decision, entry_trees}
 use Rattle.verdict_words.specs.Histories.{IsPrefix, own}
 use Rattle.verdict_words.specs.Rule.{IsSeated}
+use Rattle.verdict_words.specs.Settling.{AreGathered}
 use Rattle.verdict_words.specs.Values.{Identity, PassValue, met_seen}
+use Rattle.verdict_words.specs.declared.views.AtomicStep.{AtomicStep}
 use Rattle.verdict_words.specs.declared.views.Item.TheVariants.{Met}
 
 -- A book: its board, the accepted changes, the number of the next session, what its sink had sent and how often it had failed
--- when the book was made, the sink, whether the front of the text was written, and whether a write of it has failed
+-- when the book was made, the sink, whether the front of the text was written, whether a write of it has failed, and a beginning
+-- of the order of all atomic steps on the board
 pub record BookValue (K : Type 0) : Type 0 where
   pub board : Identity Entry Head
   pub entries : List Entry
@@ -29,6 +32,7 @@ pub record BookValue (K : Type 0) : Type 0 where
   pub sink : K
   pub is_open : Bool
   pub is_broken : Bool
+  pub known : List AtomicStep
 
 -- the session that made an entry
 abbrev pub session_of : Entry → ℕ
@@ -68,6 +72,7 @@ module _ {K : Type 0} where
     sink = sink;
     is_open = false;
     is_broken = false;
+    known = [];
   }
 
   -- the book has this board, this number of the next session, and this that its sink had sent, and how often it had failed, when the book was made
@@ -100,9 +105,13 @@ module _ {K : Type 0} where
     pub failed : book.is_broken ≡ true → Rose book.start_faults (faults book.sink)
     pub later : book.start_faults ≤ faults book.sink
 
-  -- the pass once it was met: it has seen all entries
-  abbrev pub met_in : BookValue K → PassValue Entry Head → PassValue Entry Head
-  met_in book pass = record pass { board = book.board; seen = book.entries; trail = pass.trail ++ Met (length book.entries) ∷ [] }
+  -- the pass once it was met: it has seen all entries, and knows these steps
+  abbrev pub met_in : BookValue K → List AtomicStep → PassValue Entry Head → PassValue Entry Head
+  met_in book known pass = record pass { board = book.board; seen = book.entries; trail = pass.trail ++ Met (length book.entries) ∷ []; known = known }
+
+  -- what is known once the book met these passes
+  abbrev pub AreGatheredIn : BookValue K → List (PassValue Entry Head) → List AtomicStep → Type 0
+  AreGatheredIn book passes known = AreGathered book.board book.next book.entries book.known passes known
 
   -- What is learnt of a pass that is met. What it had seen begins the journal, its session is one of the board's, and the journal has no entry of it beside those that it had seen, and those that it had seen when it was last met
   pub record IsMetIn (book : BookValue K) (pass : PassValue Entry Head) : Type 0 where

@@ -1,14 +1,11 @@
 //! The book: how it is made, opened and given up, and how sessions get their passes.
-ghost use Rattle.std.specs.Prelude.{◌≡◌, ◌≢◌, ℕ, ◌+◌, ◌-◌, ◌^◌, ◌<◌, ◌≤◌, List, [], false, true, length, All, IfErr, IfOk, IfSome, MatchResult};
+ghost use Rattle.std.specs.Prelude.{◌≡◌, ◌≢◌, ℕ, ◌+◌, ◌-◌, ◌^◌, ◌<◌, ◌≤◌, List, [], ◌∷◌, false, true, length, All, IfErr, IfOk, IfSome, MatchResult};
 ghost use Rattle.nx_io.specs.Streams.{SendsAll, faults_after_reach};
 ghost use Rattle.policy_history.specs.Events.{admitted};
 ghost use Rattle.policy_history.specs.PolicyTexts.{front};
 ghost use Rattle.policy_history.specs.Values.{entry_trees, greatest_of};
-ghost use Rattle.verdict_words.specs.Rule.{IsPart};
 ghost use Rattle.verdict_words.specs.Settling.{all_met};
-ghost use Rattle.verdict_words.specs.Steps.{OneList};
-ghost use Rattle.verdict_words.specs.Words.{register_word};
-ghost use Rattle.policy_book.specs.Books.{IsLegalBook, IsMetIn, IsNumbered, IsWritten, head_of, is_failed, is_ready, met_in, new_book, trees_of};
+ghost use Rattle.policy_book.specs.Books.{AreGatheredIn, IsLegalBook, IsMetIn, IsNumbered, IsWritten, head_of, is_failed, is_ready, met_in, new_book, trees_of};
 
 use crate::matter::NalMatter;
 use nal_term::{Name, Secret};
@@ -120,7 +117,7 @@ impl<K: Sink> Book<K> {
         requires opened { self.old.is_open ≡ true }
         requires board { self.old.board ≡ board.now }
         requires room { self.old.next < 2 ^ 64 - 1 }
-        ensures pass { result ≡ record { board = board.now; session = self.old.next; seen = self.old.entries; trail = [] } }
+        ensures pass { result ≡ record { board = board.now; session = self.old.next; seen = self.old.entries; trail = []; known = self.old.known } }
         ensures unused { All (λ entry. entry.session ≢ self.old.next) self.old.entries }
         ensures book { self.new ≡ record self.old { next = self.old.next + 1 } }
     {
@@ -140,16 +137,17 @@ impl<K: Sink> Book<K> {
         requires opened { self.old.is_open ≡ true }
         requires board { self.old.board ≡ board.now }
         requires pass { pass.board ≡ board.now }
-        ensures pass { result ≡ met_in self.old pass }
+        ensures pass { result ≡ met_in self.old self.new.known pass }
         ensures met { IsMetIn self.old pass }
-        ensures book { self.new ≡ self.old }
+        ensures known { AreGatheredIn self.old (pass ∷ []) self.new.known }
+        ensures book { self.new ≡ record self.old { known = self.new.known } }
     {
         board.meet(&mut self.seat, pass)
     }
 
-    /// Meets each of the passes, in order; but all are held before the first is given back. So for each register there is one
-    /// list of steps, by sessions of the board alone, of which each pass's trail has the steps of its session. It takes no
-    /// memory.
+    /// Meets each of the passes, in order; but all are held before the first is given back. So there is one order of all
+    /// atomic steps that were made on the board, which then all know: it begins with what each knew before, and of each session
+    /// it has the steps that its pass's trail tells. It takes no memory.
     pub fn settle(
         &mut self,
         board: &Board<NalMatter>,
@@ -158,10 +156,10 @@ impl<K: Sink> Book<K> {
         requires opened { self.old.is_open ≡ true }
         requires board { self.old.board ≡ board.now }
         requires passes { All (λ pass. pass.board ≡ board.now) passes.items }
-        ensures passes { result.items ≡ all_met board.now self.old.entries passes.items }
+        ensures passes { result.items ≡ all_met board.now self.old.entries self.new.known passes.items }
         ensures met { All (IsMetIn self.old) passes.items }
-        ensures registers { (object : ℕ) → object < 4096 → OneList self.old.board.origin.first self.old.next (λ steps. All (λ pass. IsPart (register_word object) steps pass.session pass.trail) result.items) }
-        ensures book { self.new ≡ self.old }
+        ensures known { AreGatheredIn self.old passes.items self.new.known }
+        ensures book { self.new ≡ record self.old { known = self.new.known } }
     {
         board.settle(&mut self.seat, passes)
     }

@@ -1,7 +1,7 @@
 //! What stands under the lock.
-ghost use Rattle.std.specs.Prelude.{◌≡◌, ◌<◌, true, length, IfSome, Some};
+ghost use Rattle.std.specs.Prelude.{◌≡◌, ◌<◌, [], ◌∷◌, true, length, IfSome, Some};
 ghost use Rattle.policy_history.specs.Events.{admitted};
-ghost use Rattle.policy_book.specs.Books.{IsMetIn, IsNamed, entry_of, met_in, trees_of};
+ghost use Rattle.policy_book.specs.Books.{AreGatheredIn, IsMetIn, IsNamed, entry_of, met_in, trees_of};
 ghost use Rattle.policy_book.specs.Snaps.{IsSnap};
 ghost use Rattle.policy_book.specs.Writes.{IsAnsweredBy, IsLineFor};
 
@@ -107,9 +107,10 @@ impl<K: Sink, N: BookNaming> Shelf<K, N> {
         requires pass { pass.board ≡ board.now }
         requires principal { principal < length board.now.origin.setting.principals }
         ensures snapped { IsSnap board.now.origin.setting (trees_of self.old) principal op.now object.now result.1 }
-        ensures pass { result.0 ≡ met_in self.old pass }
+        ensures pass { result.0 ≡ met_in self.old self.new.known pass }
         ensures met { IsMetIn self.old pass }
-        ensures book { self.new ≡ self.old }
+        ensures known { AreGatheredIn self.old (pass ∷ []) self.new.known }
+        ensures book { self.new ≡ record self.old { known = self.new.known } }
         ensures board { self.old.board ≡ board.now }
         ensures named { IsNamed N.board N.next N.start N.start_faults self.old }
     {
@@ -120,9 +121,10 @@ impl<K: Sink, N: BookNaming> Shelf<K, N> {
     pub fn meet(&mut self, board: &Board<NalMatter>, pass: Pass<NalMatter>) -> Pass<NalMatter>
         requires board { N.board ≡ Some board.now }
         requires pass { pass.board ≡ board.now }
-        ensures pass { result ≡ met_in self.old pass }
+        ensures pass { result ≡ met_in self.old self.new.known pass }
         ensures met { IsMetIn self.old pass }
-        ensures book { self.new ≡ self.old }
+        ensures known { AreGatheredIn self.old (pass ∷ []) self.new.known }
+        ensures book { self.new ≡ record self.old { known = self.new.known } }
         ensures board { self.old.board ≡ board.now }
         ensures named { IsNamed N.board N.next N.start N.start_faults self.old }
     {

@@ -1,6 +1,6 @@
 //! How a case is copied from the book.
-ghost use Rattle.std.specs.Prelude.{◌≡◌, ◌<◌, length, true, option_map};
-ghost use Rattle.policy_book.specs.Books.{IsMetIn, head_of, met_in, trees_of};
+ghost use Rattle.std.specs.Prelude.{◌≡◌, ◌<◌, [], ◌∷◌, length, true, option_map};
+ghost use Rattle.policy_book.specs.Books.{AreGatheredIn, IsMetIn, head_of, met_in, trees_of};
 ghost use Rattle.policy_book.specs.Snaps.{IsSnap};
 
 use crate::book::Book;
@@ -47,9 +47,10 @@ impl<K: Sink> Book<K> {
         requires pass { pass.board ≡ board.now }
         requires principal { principal < length (head_of self.old).principals }
         ensures snapped { IsSnap (head_of self.old) (trees_of self.old) principal op.now object.now result.1 }
-        ensures pass { result.0 ≡ met_in self.old pass }
+        ensures pass { result.0 ≡ met_in self.old self.new.known pass }
         ensures met { IsMetIn self.old pass }
-        ensures book { self.new ≡ self.old }
+        ensures known { AreGatheredIn self.old (pass ∷ []) self.new.known }
+        ensures book { self.new ≡ record self.old { known = self.new.known } }
     {
         let pass = self.meet(board, pass);
         (pass, self.case_of(alloc, principal, op, object))

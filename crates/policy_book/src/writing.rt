@@ -4,9 +4,10 @@ ghost use Rattle.policy_history.specs.Events.{event_tree};
 ghost use Rattle.policy_history.specs.Judged.{region_in};
 ghost use Rattle.policy_history.specs.PolicyTexts.{line_of};
 ghost use Rattle.policy_history.specs.Values.{decision, state_after};
-ghost use Rattle.policy_book.specs.Books.{IsMetIn, decided, entry_of, head_of, met_in};
+ghost use Rattle.verdict_words.specs.Histories.{IsPrefix};
+ghost use Rattle.policy_book.specs.Books.{AreGatheredIn, IsMetIn, decided, entry_of, head_of, met_in};
 ghost use Rattle.policy_book.specs.Inner.Adding.{IsAdded, met_twice};
-ghost use Rattle.policy_book.specs.Writes.{IsAnsweredBy, IsLineFor};
+ghost use Rattle.policy_book.specs.Writes.{IsAnsweredBy, IsLineFor, IsPublished};
 ghost use Rattle.policy_book.specs.declared.writing.Written.TheVariants.{Refused};
 
 use crate::book::Book;
@@ -68,7 +69,7 @@ impl<K: Sink> Book<K> {
         }
     }
 
-    // Answers a change that is refused. The book stays as it is.
+    // Answers a change that is refused. The book stays as it is, but for the steps that it knows.
     fn refuse(
         &mut self,
         board: &Board<NalMatter>,
@@ -79,9 +80,10 @@ impl<K: Sink> Book<K> {
         requires board { self.old.board ≡ board.now }
         requires pass { pass.board ≡ board.now }
         ensures refused { result.1 ≡ Refused (length self.old.entries) refusal }
-        ensures pass { result.0 ≡ met_in self.old pass }
+        ensures pass { result.0 ≡ met_in self.old self.new.known pass }
         ensures met { IsMetIn self.old pass }
-        ensures book { self.new ≡ self.old }
+        ensures known { AreGatheredIn self.old (pass ∷ []) self.new.known }
+        ensures book { self.new ≡ record self.old { known = self.new.known } }
     {
         let at = self.journal.count();
         (self.meet(board, pass), Written::Refused { at, refusal })
@@ -158,7 +160,8 @@ fn add(
     ensures head { journal.new.head ≡ journal.old.head }
     ensures entries { journal.new.entries ≡ journal.old.entries ++ record { session = pass.session; principal = principal; event = event } ∷ [] }
     ensures added { IsAdded seat.old seat.new pass (record { session = pass.session; principal = principal; event = event }) }
-    ensures pass { result ≡ met_twice seat.old.board seat.old.entries seat.new.entries pass }
+    ensures published { IsPublished seat.old.known pass.known (length seat.old.entries) seat.new.known }
+    ensures pass { result ≡ met_twice seat.old.board seat.old.entries seat.new.entries seat.new.known pass }
 {
     let pass = board.meet(seat, pass);
     raise(journal, seat, board, principal, &event);
@@ -189,7 +192,8 @@ fn raise(
     requires free { seat.old.raised ≡ None }
     requires principal { principal < length journal.now.head.principals }
     requires fewer { length seat.old.entries < 262144 }
-    ensures { seat.new ≡ record seat.old { raised = region_in (state_after journal.now) principal (event_tree event.now) } }
+    ensures seat { seat.new ≡ record seat.old { raised = region_in (state_after journal.now) principal (event_tree event.now); known = seat.new.known } }
+    ensures known { IsPrefix seat.old.known seat.new.known }
 {
     if let Some(region) = journal.region_of(principal, event) {
         board.raise(seat, region);

@@ -1,11 +1,13 @@
 -- Lemmas for crates that use a board: histories that grow, a session's own entries in them, and what a pass had seen when it was last met.
-use Rattle.std.proofs.Common.{◌≡◌, ◌≢◌, ℕ, ◌≤◌, List, [], ◌∷◌, ◌++◌, length, take, ap, ◌∙◌, false}
+use Rattle.std.proofs.Common.{◌≡◌, ◌≢◌, ℕ, ◌≤◌, List, [], ◌∷◌, ◌++◌, length, take, refl, sym, ap, ◌∙◌, subst, false}
 use Rattle.std.specs.Prelude.{All, ◌==◌}
 use Rattle.std.proofs.lemmas.List.Elements.{filter-append}
 use Rattle.std.proofs.lemmas.Bool.{ne_eqb, eq-eqb}
 use Rattle.verdict_words.specs.Histories.{IsPrefix, own}
 use Rattle.verdict_words.specs.Rule.{met_after, last_met}
+use Rattle.verdict_words.specs.Orders.{Steps, Gathers, loads}
 use Rattle.verdict_words.specs.Values.{PassValue, met_seen}
+use Rattle.verdict_words.specs.declared.views.AtomicStep.{AtomicStep}
 use Rattle.verdict_words.specs.declared.views.Item.{Item}
 use Rattle.verdict_words.specs.declared.views.Item.TheVariants.{Met}
 use Rattle.verdict_words.proofs.Ordering.{filter_in, filter_out, filter_none}
@@ -50,3 +52,24 @@ module _ {E H : Type 0} where
   -- a pass that was just met
   pub met_seen_now : (pass : PassValue E H) (before : List Item) → pass.trail ≡ before ++ Met (length pass.seen) ∷ [] → met_seen pass ≡ pass.seen
   met_seen_now pass before is = take_whole pass.seen (last_met pass.trail) (ap last_met is ∙ last_met_now before (length pass.seen))
+
+-- what is known behind the steps of a call begins with what was known
+pub steps_grow : (known : List AtomicStep) (steps : List AtomicStep) (known_then : List AtomicStep) → Steps known steps known_then → IsPrefix known known_then
+steps_grow known [] known_then is = subst (IsPrefix known) (sym is) (prefix_whole known)
+steps_grow known (x ∷ xs) known_then (before, first, rest) =
+    prefix_through known before known_then first (prefix_through before (before ++ x ∷ []) known_then (x ∷ [], refl) (steps_grow (before ++ x ∷ []) xs known_then rest))
+
+-- the same of a call of one step, and of a look
+pub step_grows : (known : List AtomicStep) (x : AtomicStep) (known_then : List AtomicStep) → Steps known (x ∷ []) known_then → IsPrefix known known_then
+step_grows known x known_then made = steps_grow known (x ∷ []) known_then made
+
+pub look_grows : (known : List AtomicStep) (a b c d : AtomicStep) (known_then : List AtomicStep) → Steps known (a ∷ b ∷ c ∷ d ∷ []) known_then → IsPrefix known known_then
+look_grows known a b c d known_then made = steps_grow known (a ∷ b ∷ c ∷ d ∷ []) known_then made
+
+-- and so it does once passes were met, both for the owner and for each of them
+pub gathers_grow : (known : List AtomicStep) (others : List (List AtomicStep)) (count : ℕ) (known_then : List AtomicStep) → Gathers known others count known_then → IsPrefix known known_then × All (λ other. IsPrefix other known_then) others
+gathers_grow known others count known_then (before, mine, each, is) =
+    let whole : IsPrefix before known_then = (loads 0 0 count ∷ [], is) in (
+      prefix_through known before known_then mine whole,
+      all_with (λ other. IsPrefix other before) (λ other. IsPrefix other known_then) others (λ other p. prefix_through other before known_then p whole) each,
+    )

@@ -17,6 +17,7 @@ value_of sent faults seat sink start is_open is_broken = record {
   sink = sink;
   is_open = is_open;
   is_broken = is_broken;
+  known = seat.known;
 }
 
 -- the seat's history is the journal, of the board's head; no session lags and no region is raised; and the text was written
