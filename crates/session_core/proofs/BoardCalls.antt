@@ -29,7 +29,7 @@ use Rattle.verdict_words.specs.Rule.{last_met, met_after}
 use Rattle.verdict_words.specs.Words.{IsPlace}
 use Rattle.verdict_words.specs.Histories.{IsPrefix}
 use Rattle.verdict_words.specs.Values.{Identity, PassValue}
-use Rattle.verdict_words.proofs.ForCallers.{prefix_length, prefix_whole}
+use Rattle.verdict_words.proofs.ForCallers.{prefix_length, prefix_through, prefix_whole}
 use Rattle.policy_book.specs.Matter.{IsHeldRight, StandsFor}
 use Rattle.policy_book.specs.Snaps.{IsSnapOf}
 use Rattle.policy_book.proofs.ForCallers.{held_right}
@@ -51,10 +51,11 @@ right_kept h es p op object at case place n asks finding snap judged q held plac
     held_right h es p op object at case q n (subst (λ (x : Option CasePlace). IsSnapOf h es p op object at case x n) place_is snap) (answers_in asks) (verdict_of finding) held judged.verdict lasting stands
 
 module _ (p : ℕ) (op given object : List ℕ) (arg k at : ℕ) (place : Option CasePlace) (c : CaseTree) (s t : BoardSession) (asks : List Ask) where
-  joined_as : (steps : List Item) → given ≡ op → t.pass ≡ stepped_by s.pass steps → t.admitted ≡ s.admitted → t.known.rows ≡ joined_rows s.known.rows given object place
+  joined_as : (steps : List Item) → given ≡ op → t.pass ≡ stepped_by s.pass steps t.pass.known → IsPrefix s.pass.known t.pass.known → t.admitted ≡ s.admitted → t.known.rows ≡ joined_rows s.known.rows given object place
       → HasJoined op object place s t steps
-  joined_as steps same pass_is admitted_is rows = record {
+  joined_as steps same pass_is knows admitted_is rows = record {
     pass_is = pass_is;
+    knows = knows;
     admitted_is = admitted_is;
     known_is = rows ∙ ap (λ (x : List ℕ). joined_rows s.known.rows x object place) same;
   }
@@ -65,18 +66,18 @@ module _ (p : ℕ) (op given object : List ℕ) (arg k at : ℕ) (place : Option
       → IsChecked p op object arg k place c s t asks reply
   found_checked finding reply mid is_known same at_is judged rows known kept run admitted =
       let known_is : is_known ≡ knows_row t.known.rows op object = known ∙ ap (λ (x : List ℕ). knows_row t.known.rows x object) same in
-      let pass_is : t.pass ≡ stepped_by s.pass (kept.steps ++ run.run.steps) =
-      run.run.pass_is ∙ ap (λ (q : PassValue Entry Head). stepped_by q run.run.steps) kept.pass_is ∙ ap (λ (xs : List Item). record s.pass { trail = xs }) (append_assoc s.pass.trail kept.steps run.run.steps) in
+      let pass_is : t.pass ≡ stepped_by s.pass (kept.steps ++ run.run.steps) t.pass.known =
+      run.run.pass_is ∙ ap (λ (q : PassValue Entry Head). stepped_by q run.run.steps t.pass.known) kept.pass_is ∙ ap (λ (xs : List Item). record s.pass { trail = xs; known = t.pass.known }) (append_assoc s.pass.trail kept.steps run.run.steps) in
       boarding.judged run.value finding kept.steps run.run.steps judged
       (subst (λ (n : ℕ). Keeps (knows_row t.known.rows op object) n (option_map (λ (q : CasePlace). q.case) place) c (verdict_of finding) kept.steps) at_is
       (subst (λ (b : Bool). Keeps b at (option_map (λ (q : CasePlace). q.case) place) c (verdict_of finding) kept.steps) known_is kept.keeps))
-      run.run.runs (joined_as (kept.steps ++ run.run.steps) same pass_is admitted rows)
+      run.run.runs (joined_as (kept.steps ++ run.run.steps) same pass_is (prefix_through s.pass.known mid.known t.pass.known kept.knows run.run.knows) admitted rows)
       (run.reply_is ∙ ap (λ (n : ℕ). verdict_reply n 0 run.value (verdict_of finding)) at_is)
 
   pub down_checked : (line : ℕ) → given ≡ op → at ≡ length s.pass.seen → IsBrokenOff c asks (DownError line) → t.pass ≡ s.pass → t.admitted ≡ s.admitted
       → t.known.rows ≡ joined_rows s.known.rows given object place → IsChecked p op object arg k place c s t asks (Down at line)
   down_checked line same at_is broken pass_is admitted rows =
-      boarding.down line broken (joined_as [] same (pass_is ∙ still s.pass) admitted rows) (ap (λ (n : ℕ). Down n line) at_is)
+      boarding.down line broken (joined_as [] same (subst (λ (x : PassValue Entry Head). x ≡ stepped_by s.pass [] x.known) (sym pass_is) (still s.pass)) (subst (λ (x : PassValue Entry Head). IsPrefix s.pass.known x.known) (sym pass_is) (prefix_whole s.pass.known)) admitted rows) (ap (λ (n : ℕ). Down n line) at_is)
 
 -- the length at which a case was taken
 pub taken_at : (s : BoardSession) (at : ℕ) → at ≡ length (trees_of s) → at ≡ length s.pass.seen
@@ -89,6 +90,7 @@ unknown_missed p op object s none = record {
   misses = told.unknown (not_known op object s.known.rows none) refl refl;
   trail = sym (append-nil s.pass.trail);
   seen = prefix_whole s.pass.seen;
+  knows = prefix_whole s.pass.known;
   own_is = refl;
   session_is = refl;
   board_is = refl;
@@ -150,7 +152,7 @@ module _ (board : Identity Entry Head) (s : BoardSession) (p : ℕ) (op object :
               (place_stays board.origin.setting (trees_of s) (entry_trees q.seen) p op object place (trees_prefix s.pass.seen q.seen prefix) there.0));
         }
 
-    module _ (slot of_object of_store : ℕ) (made : q ≡ record s.pass { seen = q.seen; trail = s.pass.trail ++ Loaded place slot (length q.seen) of_object of_store ∷ [] }) where
+    module _ (slot of_object of_store : ℕ) (made : q ≡ record s.pass { seen = q.seen; trail = s.pass.trail ++ Loaded place slot (length q.seen) of_object of_store ∷ []; known = q.known }) (knows : IsPrefix s.pass.known q.known) where
       looked_trail : q.trail ≡ s.pass.trail ++ Loaded place slot (length q.seen) of_object of_store ∷ []
       looked_trail = ap (λ (x : PassValue Entry Head). x.trail) made
 
@@ -168,6 +170,7 @@ module _ (board : Identity Entry Head) (s : BoardSession) (p : ℕ) (op object :
         misses = told.missed place slot of_object of_store looks (λ held makes. let hit = (is (length q.seen) held).1 (refl, makes) in absurd (never (sym miss ∙ hit))) refl;
         trail = looked_trail;
         seen = prefix;
+        knows = knows;
         own_is = own_looked;
         session_is = ap (λ (x : PassValue Entry Head). x.session) made;
         board_is = ap (λ (x : PassValue Entry Head). x.board) made;
@@ -225,6 +228,7 @@ module _ (board : Identity Entry Head) (s : BoardSession) (p : ℕ) (op object :
                   ∙ sym (append-nil (own_in s.pass));
               after = hit_after;
               seen = ran_prefix;
+              knows = prefix_through s.pass.known q.known r.known knows run.run.knows;
               session_is = ran_session;
               board_is = ran_board;
             }

@@ -16,14 +16,15 @@ use Rattle.authority_ask.specs.Panels.{Told as Ask}
 use Rattle.session_wire.specs.declared.requests.Request.{Request}
 use Rattle.session_wire.specs.declared.replies.Reply.{Reply}
 use Rattle.session_wire.specs.declared.replies.Reply.TheVariants.{NoMemory}
+use Rattle.verdict_words.specs.declared.views.AtomicStep.{AtomicStep}
 use Rattle.verdict_words.specs.declared.views.Item.{Item}
 use Rattle.verdict_words.specs.declared.views.Item.TheVariants.{Met}
 use Rattle.verdict_words.specs.Histories.{IsPrefix, own}
 use Rattle.verdict_words.specs.Rule.{last_met}
 use Rattle.verdict_words.specs.Values.{Identity, PassValue, met_seen}
 use Rattle.verdict_words.proofs.ForCallers.{last_met_now, own_none, prefix_length, prefix_through, prefix_whole}
-use Rattle.policy_book.specs.Books.{BookValue, IsMetIn, met_in, session_of}
-use Rattle.policy_book.proofs.ForCallers.{met_now}
+use Rattle.policy_book.specs.Books.{AreGatheredIn, BookValue, IsMetIn, met_in, session_of}
+use Rattle.policy_book.proofs.ForCallers.{gathered_knows, met_now}
 use Rattle.session_core.specs.declared.board_session.BoardSession.{BoardSession}
 use Rattle.session_core.specs.declared.ends.SessionEnd.{SessionEnd}
 use Rattle.session_core.specs.Answers.{faults_after_reply}
@@ -47,6 +48,7 @@ gone_first s p = record {
   trail = sym (append-nil s.pass.trail);
   own_is = sym (append-nil (own_in s.pass));
   seen = prefix_whole s.pass.seen;
+  knows = prefix_whole s.pass.known;
   session_is = refl;
   board_is = refl;
   downs = refl;
@@ -80,6 +82,7 @@ gone_more a s t p q r requests replies request reply gone turn grows asks reache
       trail = turn.trail ∙ ap (λ (xs : List Item). xs ++ turn.turn.steps) gone.trail ∙ append_assoc a.pass.trail gone.steps turn.turn.steps;
       own_is = turn.own_is ∙ ap (λ (xs : List EntryTree). xs ++ turn.turn.added) gone.own_is ∙ append_assoc (own_in a.pass) gone.added turn.turn.added;
       seen = prefix_through a.pass.seen s.pass.seen t.pass.seen gone.seen turn.seen;
+      knows = prefix_through a.pass.known s.pass.known t.pass.known gone.knows turn.knows;
       session_is = turn.session_is ∙ gone.session_is;
       board_is = turn.board_is ∙ gone.board_is;
       downs = count ∙ ap (faults_after_reply reply) gone.downs ∙ sym (faults-then replies reply p.faults);
@@ -99,7 +102,7 @@ gone_given_up a s p q requests replies request gone =
 
 -- ---- The beginning
 
-module _ {K : Type 0} (board : Identity Entry Head) (book : BookValue K) (pass : PassValue Entry Head) (s : BoardSession) (is : s.pass ≡ met_in book pass) (met : IsMetIn book pass) (board_is : book.board ≡ board)
+module _ {K : Type 0} {known : List AtomicStep} (board : Identity Entry Head) (book : BookValue K) (pass : PassValue Entry Head) (s : BoardSession) (is : s.pass ≡ met_in book known pass) (met : IsMetIn book pass) (board_is : book.board ≡ board)
     (nobody : who_of s ≡ None) (unknown : s.known.rows ≡ []) where
   seen_is : s.pass.seen ≡ book.entries
   seen_is = ap (λ (x : PassValue Entry Head). x.seen) is
@@ -128,7 +131,7 @@ module _ {K : Type 0} (board : Identity Entry Head) (book : BookValue K) (pass :
   first_own : All (λ (e : Entry). e.session ≢ pass.session) pass.seen → own_in s.pass ≡ []
   first_own none =
       own_trees s.pass ∙ ap (λ (x : PassValue Entry Head). entry_trees (own session_of (met_seen x) x.session)) is
-      ∙ ap (λ (es : List Entry). entry_trees (own session_of es pass.session)) (met_now book pass) ∙ ap entry_trees (met.own_seen ∙ own_none session_of pass.seen pass.session none)
+      ∙ ap (λ (es : List Entry). entry_trees (own session_of es pass.session)) (met_now book known pass) ∙ ap entry_trees (met.own_seen ∙ own_none session_of pass.seen pass.session none)
 
   first_standing : standing s ≡ beginning (length s.pass.seen)
   first_standing = λ i. record { who = nobody i; low = length s.pass.seen; known = triples_of (unknown i) }
@@ -172,14 +175,17 @@ module _ {K : Type 0} (board : Identity Entry Head) (book : BookValue K) (pass :
 
 -- ---- A pass that was met first
 
-module _ {K : Type 0} (book : BookValue K) (pass q : PassValue Entry Head) (is : q ≡ met_in book pass) where
+module _ {K : Type 0} {known : List AtomicStep} (book : BookValue K) (pass q : PassValue Entry Head) (is : q ≡ met_in book known pass) where
   pub session_here : q.session ≡ pass.session
   session_here = ap (λ (x : PassValue Entry Head). x.session) is
 
   pub seen_here : IsMetIn book pass → IsPrefix pass.seen q.seen
   seen_here met = subst (λ (es : List Entry). IsPrefix pass.seen es) (sym (ap (λ (x : PassValue Entry Head). x.seen) is)) met.seen
 
-pub opening_here : {K : Type 0} (board : Identity Entry Head) (book : BookValue K) (pass q : PassValue Entry Head) → q ≡ met_in book pass → book.board ≡ board → IsPrefix q.board.origin.opening q.seen
+  pub knows_here : AreGatheredIn book (pass ∷ []) known → IsPrefix pass.known q.known
+  knows_here gathered = subst (IsPrefix pass.known) (sym (ap (λ (x : PassValue Entry Head). x.known) is)) (gathered_knows book pass known gathered)
+
+pub opening_here : {K : Type 0} {known : List AtomicStep} (board : Identity Entry Head) (book : BookValue K) (pass q : PassValue Entry Head) → q ≡ met_in book known pass → book.board ≡ board → IsPrefix q.board.origin.opening q.seen
     → IsPrefix board.origin.opening q.seen
 opening_here board book pass q is board_is begins =
     subst (λ (b : Identity Entry Head). IsPrefix b.origin.opening q.seen) (ap (λ (x : PassValue Entry Head). x.board) is ∙ board_is) begins

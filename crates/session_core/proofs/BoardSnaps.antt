@@ -31,9 +31,10 @@ use Rattle.verdict_words.specs.Histories.{IsPrefix, own}
 use Rattle.verdict_words.specs.Rule.{last_met}
 use Rattle.verdict_words.specs.Values.{Identity, PassValue, met_seen}
 use Rattle.verdict_words.proofs.ForCallers.{last_met_now, prefix_length, prefix_through, prefix_whole}
-use Rattle.policy_book.specs.Books.{BookValue, IsMetIn, met_in, session_of}
+use Rattle.verdict_words.specs.declared.views.AtomicStep.{AtomicStep}
+use Rattle.policy_book.specs.Books.{AreGatheredIn, BookValue, IsMetIn, met_in, session_of}
 use Rattle.policy_book.specs.Snaps.{IsSnapOf}
-use Rattle.policy_book.proofs.ForCallers.{met_now}
+use Rattle.policy_book.proofs.ForCallers.{gathered_knows, met_now}
 use Rattle.session_core.specs.Standing.{Triple, joined, knows, most_known}
 use Rattle.session_core.specs.Told as told
 use Rattle.session_core.specs.Told.{Answers, AreAskedInVain, Calls, IsPlaceIn, IsSeen, Keeps, Misses, Turn, checked, state_at, stepped, verdict_reply}
@@ -54,6 +55,7 @@ IsWho board who = IfSome who (λ (a : Admitted). (a.number < length board.origin
 -- the session's pass was met, and nothing else became of it
 pub record IsMetNow (m n : BoardSession) : Type 0 where
   pub seen : IsPrefix m.pass.seen n.pass.seen
+  pub knows : IsPrefix m.pass.known n.pass.known
   pub trail : n.pass.trail ≡ m.pass.trail ++ Met (length n.pass.seen) ∷ []
   pub own_is : own_in n.pass ≡ own_in m.pass
   pub session_is : n.pass.session ≡ m.pass.session
@@ -61,21 +63,22 @@ pub record IsMetNow (m n : BoardSession) : Type 0 where
   pub admitted_is : n.admitted ≡ m.admitted
   pub known_is : n.known.rows ≡ m.known.rows
 
-pub own_met : {K : Type 0} (book : BookValue K) (pass q : PassValue Entry Head) → IsMetIn book pass → q ≡ met_in book pass → own_in q ≡ own_in pass
-own_met book pass q met is =
-    let seen : met_seen q ≡ book.entries = ap met_seen is ∙ met_now book pass in
+pub own_met : {K : Type 0} (book : BookValue K) (known : List AtomicStep) (pass q : PassValue Entry Head) → IsMetIn book pass → q ≡ met_in book known pass → own_in q ≡ own_in pass
+own_met book known pass q met is =
+    let seen : met_seen q ≡ book.entries = ap met_seen is ∙ met_now book known pass in
     let session : q.session ≡ pass.session = ap (λ (x : PassValue Entry Head). x.session) is in
     own_trees q ∙ ap (λ (es : List Entry). entry_trees (own session_of es q.session)) seen ∙ ap (λ (s : ℕ). entry_trees (own session_of book.entries s)) session
     ∙ ap entry_trees met.own_met ∙ sym (own_trees pass)
 
-pub met_now_of : {K : Type 0} (book : BookValue K) (m : BoardSession) (q : PassValue Entry Head) (k : KnownValue) → IsMetIn book m.pass → q ≡ met_in book m.pass → book.board ≡ m.pass.board
+pub met_now_of : {K : Type 0} (book : BookValue K) (known : List AtomicStep) (m : BoardSession) (q : PassValue Entry Head) (k : KnownValue) → IsMetIn book m.pass → AreGatheredIn book (m.pass ∷ []) known → q ≡ met_in book known m.pass → book.board ≡ m.pass.board
     → k.rows ≡ m.known.rows → IsMetNow m (record { pass = q; admitted = m.admitted; known = k })
-met_now_of book m q k met is board rows =
+met_now_of book known m q k met gathered is board rows =
     let seen : q.seen ≡ book.entries = ap (λ (x : PassValue Entry Head). x.seen) is in
     record {
       seen = subst (λ (es : List Entry). IsPrefix m.pass.seen es) (sym seen) met.seen;
+      knows = subst (IsPrefix m.pass.known) (sym (ap (λ (x : PassValue Entry Head). x.known) is)) (gathered_knows book m.pass known gathered);
       trail = ap (λ (x : PassValue Entry Head). x.trail) is ∙ ap (λ (es : List Entry). m.pass.trail ++ Met (length es) ∷ []) (sym seen);
-      own_is = own_met book m.pass q met is;
+      own_is = own_met book known m.pass q met is;
       session_is = ap (λ (x : PassValue Entry Head). x.session) is;
       board_is = ap (λ (x : PassValue Entry Head). x.board) is ∙ board;
       admitted_is = refl;
@@ -178,6 +181,7 @@ module _ (p : ℕ) (op object : List ℕ) (arg : ℕ) (s m : BoardSession) (who 
     own_is = missed.own_is ∙ sym (append-nil (own_in s.pass));
     after = λ i. record { who = sym missed.who_is i; low = length m.pass.seen; known = triples_of (sym (rows ∙ missed.known_is) i) };
     seen = missed.seen;
+    knows = missed.knows;
     session_is = missed.session_is;
     board_is = missed.board_is;
   }
@@ -194,6 +198,9 @@ module _ (p : ℕ) (op object : List ℕ) (arg : ℕ) (s m : BoardSession) (who 
 
     met_prefix : IsPrefix s.pass.seen n.pass.seen
     met_prefix = prefix_through s.pass.seen m.pass.seen n.pass.seen missed.seen met.seen
+
+    met_knows : IsPrefix s.pass.known n.pass.known
+    met_knows = prefix_through s.pass.known m.pass.known n.pass.known missed.knows met.knows
 
     met_own : own_in n.pass ≡ own_in s.pass
     met_own = met.own_is ∙ missed.own_is
@@ -231,6 +238,7 @@ module _ (p : ℕ) (op object : List ℕ) (arg : ℕ) (s m : BoardSession) (who 
       own_is = met_own ∙ sym (append-nil (own_in s.pass));
       after = λ i. record { who = sym met_who i; low = length n.pass.seen; known = triples_of (sym met_rows i) };
       seen = met_prefix;
+      knows = met_knows;
       session_is = met_session;
       board_is = met_board;
     }
@@ -312,6 +320,7 @@ module _ (p : ℕ) (op object : List ℕ) (arg : ℕ) (s m : BoardSession) (who 
               own_is = own_stays n.pass t.pass join_prefix join_session (join_last quiet) within ∙ met_own ∙ sym (append-nil (own_in s.pass));
               after = join_after;
               seen = prefix_through s.pass.seen n.pass.seen t.pass.seen met_prefix join_prefix;
+              knows = prefix_through s.pass.known n.pass.known t.pass.known met_knows joined_now.knows;
               session_is = join_session ∙ met_session;
               board_is = join_board ∙ met_board;
             }
@@ -381,21 +390,21 @@ checked_ready board n t p op object arg at case place k asks reply ready who sna
 
 -- ---- What was taken of a case, by the pass that was met
 
-pub snap_board : {K : Type 0} (book : BookValue K) (board : Identity Entry Head) (pass q : PassValue Entry Head) (p : ℕ) (op object given : List ℕ) (at : ℕ) (case : RawCase) (place : Option CasePlace) (k : ℕ)
-    → q ≡ met_in book pass → given ≡ object → IsSnapOf board.origin.setting (entry_trees book.entries) p op object at case place k
+pub snap_board : {K : Type 0} {known : List AtomicStep} (book : BookValue K) (board : Identity Entry Head) (pass q : PassValue Entry Head) (p : ℕ) (op object given : List ℕ) (at : ℕ) (case : RawCase) (place : Option CasePlace) (k : ℕ)
+    → q ≡ met_in book known pass → given ≡ object → IsSnapOf board.origin.setting (entry_trees book.entries) p op object at case place k
     → IsSnapOf board.origin.setting (entry_trees q.seen) p op given at case place k
 snap_board book board pass q p op object given at case place k is same snap =
     subst (λ (x : List ℕ). IsSnapOf board.origin.setting (entry_trees q.seen) p op x at case place k) (sym same)
     (subst (λ (es : List Entry). IsSnapOf board.origin.setting (entry_trees es) p op object at case place k) (sym (ap (λ (x : PassValue Entry Head). x.seen) is)) snap)
 
-pub snap_here : {K : Type 0} (book : BookValue K) (board : Identity Entry Head) (pass q : PassValue Entry Head) (p : ℕ) (op object given : List ℕ) (at : ℕ) (case : RawCase) (place : Option CasePlace) (k : ℕ)
-    → q ≡ met_in book pass → book.board ≡ board → given ≡ object → IsSnapOf board.origin.setting (entry_trees book.entries) p op object at case place k
+pub snap_here : {K : Type 0} {known : List AtomicStep} (book : BookValue K) (board : Identity Entry Head) (pass q : PassValue Entry Head) (p : ℕ) (op object given : List ℕ) (at : ℕ) (case : RawCase) (place : Option CasePlace) (k : ℕ)
+    → q ≡ met_in book known pass → book.board ≡ board → given ≡ object → IsSnapOf board.origin.setting (entry_trees book.entries) p op object at case place k
     → IsSnapOf q.board.origin.setting (entry_trees q.seen) p op given at case place k
 snap_here book board pass q p op object given at case place k is board_is same snap =
     subst (λ (b : Identity Entry Head). IsSnapOf b.origin.setting (entry_trees q.seen) p op given at case place k) (sym (ap (λ (x : PassValue Entry Head). x.board) is ∙ board_is))
     (snap_board book board pass q p op object given at case place k is same snap)
 
-pub none_here : {K : Type 0} (book : BookValue K) (board : Identity Entry Head) (pass q : PassValue Entry Head) (object : List ℕ) (at : ℕ) → q ≡ met_in book pass → book.board ≡ board
+pub none_here : {K : Type 0} {known : List AtomicStep} (book : BookValue K) (board : Identity Entry Head) (pass q : PassValue Entry Head) (object : List ℕ) (at : ℕ) → q ≡ met_in book known pass → book.board ≡ board
     → (at ≡ length (entry_trees book.entries)) × (number_of (replay board.origin.setting (entry_trees book.entries)).objects object ≡ None)
     → (at ≡ length (entry_trees q.seen)) × (number_of (replay q.board.origin.setting (entry_trees q.seen)).objects object ≡ None)
 none_here book board pass q object at is board_is none =

@@ -35,7 +35,7 @@ use Rattle.policy_book.specs.Books.{BookValue, IsMetIn, decided, met_in, session
 use Rattle.policy_book.specs.Writes.{IsAnsweredBy, IsLineFor, IsUnrecorded, added_by}
 use Rattle.policy_book.specs.declared.writing.Written.{Written}
 use Rattle.policy_book.specs.declared.writing.Written.TheVariants as written
-use Rattle.policy_book.proofs.ForCallers.{own_written}
+use Rattle.policy_book.proofs.ForCallers.{own_written, written_knows}
 use Rattle.session_core.specs.Answers.{greeted}
 use Rattle.session_core.specs.Told as told
 use Rattle.session_core.specs.Told.{Answers, IsSeen, Turn, plain, state_at, stepped}
@@ -59,6 +59,7 @@ still_turn s request reply answers = record {
   own_is = sym (append-nil (own_in s.pass));
   after = refl;
   seen = prefix_whole s.pass.seen;
+  knows = prefix_whole s.pass.known;
   session_is = refl;
   board_is = refl;
 }
@@ -117,6 +118,7 @@ module _ (s : BoardSession) (name secret : List ℕ) where
     own_is = sym (append-nil (own_in s.pass));
     after = λ i. record (standing s) { who = Some (sym number i) };
     seen = prefix_whole s.pass.seen;
+    knows = prefix_whole s.pass.known;
     session_is = refl;
     board_is = refl;
   }
@@ -153,10 +155,10 @@ module _ {K : Type 0} (sent : K → List ℕ) (faults : K → ℕ) (old new : Bo
       ∙ ap (λ (es : List EntryTree). es ++ entry_trees (added_by answer (record { session = s.pass.session; principal = p; event = event }))) (sym (own_trees s.pass))
 
   -- a refusal
-  refused_by : (refusal : Refusal) (own_is : own_in q ≡ own_in s.pass ++ []) → q ≡ met_in old s.pass → IsMetIn old s.pass
+  refused_by : (refusal : Refusal) (own_is : own_in q ≡ own_in s.pass ++ []) → q ≡ met_in old new.known s.pass → IsPrefix s.pass.known q.known → IsMetIn old s.pass
       → told.Changes (head_of s) (entry_trees old.entries) s.pass.session (standing s) p (event_tree event) (stepped (record (standing s) { low = length old.entries }) (RefusedReply (length old.entries) (refusal_number refusal)) [] (Met (length old.entries) ∷ []))
       → IsTurn s (record s { pass = q }) [] request (RefusedReply (length old.entries) (refusal_number refusal))
-  refused_by refusal own_is is met changes =
+  refused_by refusal own_is is knows met changes =
       let seen : old.entries ≡ q.seen = sym (ap (λ (x : PassValue Entry Head). x.seen) is) in
       let turn : Turn = stepped (record (standing s) { low = length old.entries }) (RefusedReply (length old.entries) (refusal_number refusal)) [] (Met (length old.entries) ∷ []) in
       record {
@@ -168,6 +170,7 @@ module _ {K : Type 0} (sent : K → List ℕ) (faults : K → ℕ) (old new : Bo
         own_is = own_is;
         after = ap (λ (es : List Entry). record (standing s) { low = length es }) seen;
         seen = subst (λ (es : List Entry). IsPrefix s.pass.seen es) seen met.seen;
+        knows = knows;
         session_is = ap (λ (x : PassValue Entry Head). x.session) is;
         board_is = ap (λ (x : PassValue Entry Head). x.board) is ∙ board_is;
       }
@@ -205,15 +208,16 @@ module _ {K : Type 0} (sent : K → List ℕ) (faults : K → ℕ) (old new : Bo
         own_is = own_now (written.Done at number) d session;
         after = ap (λ (n : ℕ). record (standing s) { low = n }) (sym (ap length seen ∙ count));
         seen = subst (λ (es : List Entry). IsPrefix s.pass.seen es) (sym seen) (prefix_grows s.pass.seen old.entries (e ∷ []) d.met.seen);
+        knows = written_knows sent faults old new s.pass q p event line (written.Done at number) d;
         session_is = session;
         board_is = ap (λ (x : PassValue Entry Head). x.board) d.pass_is ∙ ap (λ (b : BookValue K). b.board) d.book ∙ board_is;
       }
   written_turn (written.Refused at refusal) r =
       let session : q.session ≡ s.pass.session = ap (λ (x : PassValue Entry Head). x.session) r.pass_is in
       subst (λ (n : ℕ). IsTurn s (record s { pass = q }) [] request (RefusedReply n (refusal_number refusal))) (sym r.at_is)
-      (refused_by refusal (own_now (written.Refused at refusal) r session) r.pass_is r.met (refusal_of r.why))
+      (refused_by refusal (own_now (written.Refused at refusal) r session) r.pass_is (written_knows sent faults old new s.pass q p event line (written.Refused at refusal) r) r.met (refusal_of r.why))
     where
-      refusal_of : ((decided old s.pass.session p event ≡ Err refusal) × (new ≡ old)) ⊎ ((refusal ≡ NotRecorded) × IsUnrecorded sent faults old new s.pass q p event line)
+      refusal_of : ((decided old s.pass.session p event ≡ Err refusal) × (new ≡ record old { known = new.known })) ⊎ ((refusal ≡ NotRecorded) × IsUnrecorded sent faults old new s.pass q p event line)
           → told.Changes (head_of s) (entry_trees old.entries) s.pass.session (standing s) p (event_tree event) (stepped (record (standing s) { low = length old.entries }) (RefusedReply (length old.entries) (refusal_number refusal)) [] (Met (length old.entries) ∷ []))
       refusal_of (inl why) = told.refused (length old.entries) refusal (seen_at old.entries (prefix_whole old.entries) r.met) (sym (decided_at old.entries (prefix_whole old.entries)) ∙ why.0) refl
       refusal_of (inr why) =

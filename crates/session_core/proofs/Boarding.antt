@@ -10,7 +10,9 @@ use Rattle.nal_rules.specs.declared.verdicts.Verdict.TheVariants.{Allowed, Denie
 use Rattle.policy_history.specs.declared.events.Entry.{Entry}
 use Rattle.policy_history.specs.declared.heads.Head.{Head}
 use Rattle.policy_history.specs.Judged.{IsLasting}
+use Rattle.verdict_words.specs.Histories.{IsPrefix}
 use Rattle.verdict_words.specs.Values.{PassValue}
+use Rattle.verdict_words.proofs.ForCallers.{prefix_whole}
 use Rattle.verdict_words.specs.declared.places.CasePlace.{CasePlace}
 use Rattle.verdict_words.specs.declared.places.Held.{Held}
 use Rattle.verdict_words.specs.declared.views.Item.TheVariants.{Filled, Ran}
@@ -26,24 +28,24 @@ pub same_of : (x y a b : List ℕ) (r s : Bool) → x ≡ a → y ≡ b → r �
 same_of x y a b r s first second is result = ap (λ (z : List ℕ). same_bytes z b) (sym first) ∙ ap (same_bytes x) (sym second) ∙ sym is ∙ result
 
 module _ (old new : PassValue Entry Head) (op : List ℕ) (arg object value : ℕ) where
-  pub did_read : same_bytes op (codes "read") ≡ true → new ≡ stepped_by old (Ran object Read value ∷ []) → HasRun old new op arg object Allowed value
-  did_read is made = record { steps = Ran object Read value ∷ []; runs = told.ran Read refl (rw is refl) refl; pass_is = made }
+  pub did_read : same_bytes op (codes "read") ≡ true → new ≡ stepped_by old (Ran object Read value ∷ []) new.known → IsPrefix old.known new.known → HasRun old new op arg object Allowed value
+  did_read is made knows = record { steps = Ran object Read value ∷ []; runs = told.ran Read refl (rw is refl) refl; pass_is = made; knows = knows }
 
-  pub did_write : same_bytes op (codes "read") ≡ false → same_bytes op (codes "write") ≡ true → new ≡ stepped_by old (Ran object (Write arg) value ∷ []) → HasRun old new op arg object Allowed value
-  did_write unread is made = record { steps = Ran object (Write arg) value ∷ []; runs = told.ran (Write arg) refl (rw (unread, is) refl) refl; pass_is = made }
+  pub did_write : same_bytes op (codes "read") ≡ false → same_bytes op (codes "write") ≡ true → new ≡ stepped_by old (Ran object (Write arg) value ∷ []) new.known → IsPrefix old.known new.known → HasRun old new op arg object Allowed value
+  did_write unread is made knows = record { steps = Ran object (Write arg) value ∷ []; runs = told.ran (Write arg) refl (rw (unread, is) refl) refl; pass_is = made; knows = knows }
 
-  pub did_add : same_bytes op (codes "read") ≡ false → same_bytes op (codes "write") ≡ false → same_bytes op (codes "add") ≡ true → new ≡ stepped_by old (Ran object (Add arg) value ∷ [])
+  pub did_add : same_bytes op (codes "read") ≡ false → same_bytes op (codes "write") ≡ false → same_bytes op (codes "add") ≡ true → new ≡ stepped_by old (Ran object (Add arg) value ∷ []) new.known → IsPrefix old.known new.known
       → HasRun old new op arg object Allowed value
-  did_add unread unset is made = record { steps = Ran object (Add arg) value ∷ []; runs = told.ran (Add arg) refl (rw (unread, unset, is) refl) refl; pass_is = made }
+  did_add unread unset is made knows = record { steps = Ran object (Add arg) value ∷ []; runs = told.ran (Add arg) refl (rw (unread, unset, is) refl) refl; pass_is = made; knows = knows }
 
 -- no step
-pub still : (pass : PassValue Entry Head) → pass ≡ stepped_by pass []
+pub still : (pass : PassValue Entry Head) → pass ≡ stepped_by pass [] pass.known
 still pass = ap (λ xs. record pass { trail = xs }) (sym (append-nil pass.trail))
 
 pub did_nothing : (pass : PassValue Entry Head) (op : List ℕ) (arg object : ℕ) → same_bytes op (codes "read") ≡ false → same_bytes op (codes "write") ≡ false → same_bytes op (codes "add") ≡ false
     → HasRun pass pass op arg object Allowed 0
 did_nothing pass op arg object unread unset unadded =
-    record { steps = []; runs = told.no_step (λ both. both.1 (rw (unread, unset, unadded) refl)) refl refl; pass_is = still pass }
+    record { steps = []; runs = told.no_step (λ both. both.1 (rw (unread, unset, unadded) refl)) refl refl; pass_is = still pass; knows = prefix_whole pass.known }
 
 -- ---- A verdict that is kept
 
@@ -59,7 +61,7 @@ stands_where c (Denied (AuthorityNo k)) lasts = absurd lasts
 
 module _ (pass new : PassValue Entry Head) (is_known : Bool) (at : ℕ) (place : Option CasePlace) (c : CaseTree) (verdict : Verdict) where
   pub unkept : ¬ ((is_known ≡ true) × IsLasting c verdict) → HasKept pass pass is_known at place c verdict
-  unkept none = record { steps = []; keeps = told.not_kept none refl; pass_is = still pass }
+  unkept none = record { steps = []; keeps = told.not_kept none refl; pass_is = still pass; knows = prefix_whole pass.known }
 
   pub unkept_unknown : is_known ≡ false → HasKept pass pass is_known at place c verdict
   unkept_unknown unknown = unkept (λ both. true≢false (sym both.0 ∙ unknown))
@@ -70,10 +72,11 @@ module _ (pass new : PassValue Entry Head) (is_known : Bool) (at : ℕ) (place :
   pub unkept_none : ((held : Held) → ¬ StandsFor verdict held) → HasKept pass pass is_known at place c verdict
   unkept_none none = unkept (λ both. let one = stands_where c verdict both.1 in none one.0 one.1)
 
-  pub kept_so : (p : CasePlace) (held : Held) → is_known ≡ true → place ≡ Some p → IsLasting c verdict → StandsFor verdict held → new ≡ stepped_by pass (Filled p.case at held ∷ [])
+  pub kept_so : (p : CasePlace) (held : Held) → is_known ≡ true → place ≡ Some p → IsLasting c verdict → StandsFor verdict held → new ≡ stepped_by pass (Filled p.case at held ∷ []) new.known → IsPrefix pass.known new.known
       → HasKept pass new is_known at place c verdict
-  kept_so p held known place_is lasting stands made = record {
+  kept_so p held known place_is lasting stands made knows = record {
     steps = Filled p.case at held ∷ [];
     keeps = told.kept p.case held known (ap (option_map (λ (q : CasePlace). q.case)) place_is) lasting stands refl;
     pass_is = made;
+    knows = knows;
   }

@@ -148,6 +148,7 @@ pub fn serve_link<
     ensures session { (result.session ≡ pass.session) × (result.pass.session ≡ pass.session) }
     ensures board { result.pass.board ≡ board.now }
     ensures seen { IsPrefix pass.seen result.pass.seen }
+    ensures known { IsPrefix pass.known result.pass.known }
     ensures bytes { Gave (L.left link) (L.left result.link) (L.taken link) (L.taken result.link) }
     ensures over { L.over result.link ≡ is_over result.end }
     ensures closed { L.closed result.link ≡ true }

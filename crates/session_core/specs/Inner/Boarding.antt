@@ -18,6 +18,7 @@ use Rattle.session_wire.specs.declared.requests.Request.{Request}
 use Rattle.session_wire.specs.declared.requests.Request.TheVariants.{Call}
 use Rattle.session_wire.specs.declared.replies.Reply.{Reply}
 use Rattle.session_wire.specs.declared.replies.Reply.TheVariants.{Done, Down, NoMemory, Refused}
+use Rattle.verdict_words.specs.declared.views.AtomicStep.{AtomicStep}
 use Rattle.verdict_words.specs.declared.views.Item.{Item}
 use Rattle.verdict_words.specs.Histories.{IsPrefix, own}
 use Rattle.verdict_words.specs.Rule.{last_met}
@@ -76,6 +77,7 @@ pub record IsTurn (s t : BoardSession) (asks : List Ask) (request : Request) (re
   pub own_is : own_in t.pass ≡ own_in s.pass ++ turn.added
   pub after : turn.after ≡ standing t
   pub seen : IsPrefix s.pass.seen t.pass.seen
+  pub knows : IsPrefix s.pass.known t.pass.known
   pub session_is : t.pass.session ≡ s.pass.session
   pub board_is : t.pass.board ≡ s.pass.board
 
@@ -94,6 +96,7 @@ pub record HasGone (s t : BoardSession) (p q : Panelled) (requests : List Reques
   pub trail : t.pass.trail ≡ s.pass.trail ++ steps
   pub own_is : own_in t.pass ≡ own_in s.pass ++ added
   pub seen : IsPrefix s.pass.seen t.pass.seen
+  pub knows : IsPrefix s.pass.known t.pass.known
   pub session_is : t.pass.session ≡ s.pass.session
   pub board_is : t.pass.board ≡ s.pass.board
   pub downs : q.faults ≡ faults_after_replies replies p.faults
@@ -102,15 +105,16 @@ pub record HasGone (s t : BoardSession) (p q : Panelled) (requests : List Reques
   pub reached_is : q.reached ≡ p.reached
   pub later : p.faults ≤ q.faults
 
--- the steps that a pass made
-abbrev pub stepped_by : PassValue Entry Head → List Item → PassValue Entry Head
-stepped_by pass steps = record pass { trail = pass.trail ++ steps }
+-- a pass that made these steps, and then knew so much
+abbrev pub stepped_by : PassValue Entry Head → List Item → List AtomicStep → PassValue Entry Head
+stepped_by pass steps known = record pass { trail = pass.trail ++ steps; known = known }
 
 -- the pass made the step on a register that this verdict of a call makes, if any
 pub record HasRun (old new : PassValue Entry Head) (op : List ℕ) (arg object : ℕ) (verdict : Verdict) (value : ℕ) : Type 0 where
   pub steps : List Item
   pub runs : Runs op arg object verdict value steps
-  pub pass_is : new ≡ stepped_by old steps
+  pub pass_is : new ≡ stepped_by old steps new.known
+  pub knows : IsPrefix old.known new.known
 
 -- the reply that a verdict is, at a length of the history, and the step on a register that it makes
 pub record IsReplyOf (old new : PassValue Entry Head) (op : List ℕ) (arg object at hit : ℕ) (verdict : Verdict) (reply : Reply) : Type 0 where
@@ -122,7 +126,8 @@ pub record IsReplyOf (old new : PassValue Entry Head) (op : List ℕ) (arg objec
 pub record HasKept (old new : PassValue Entry Head) (is_known : Bool) (at : ℕ) (place : Option CasePlace) (c : CaseTree) (verdict : Verdict) : Type 0 where
   pub steps : List Item
   pub keeps : Keeps is_known at (option_map (λ (p : CasePlace). p.case) place) c verdict steps
-  pub pass_is : new ≡ stepped_by old steps
+  pub pass_is : new ≡ stepped_by old steps new.known
+  pub knows : IsPrefix old.known new.known
 
 -- what stands before a snapshot of a case: the look at it, where it is known, which did not find its verdict
 pub record IsMissed (p : ℕ) (op object : List ℕ) (s t : BoardSession) : Type 0 where
@@ -130,6 +135,7 @@ pub record IsMissed (p : ℕ) (op object : List ℕ) (s t : BoardSession) : Type
   pub misses : Misses (head_of s) (trees_of t) (standing s) p op object (length t.pass.seen) steps
   pub trail : t.pass.trail ≡ s.pass.trail ++ steps
   pub seen : IsPrefix s.pass.seen t.pass.seen
+  pub knows : IsPrefix s.pass.known t.pass.known
   pub own_is : own_in t.pass ≡ own_in s.pass
   pub session_is : t.pass.session ≡ s.pass.session
   pub board_is : t.pass.board ≡ s.pass.board
@@ -147,7 +153,8 @@ state_of s = replay (head_of s) (trees_of s)
 
 -- the session is the same but for the steps of its pass, and it has joined the case in this place
 pub record HasJoined (op object : List ℕ) (place : Option CasePlace) (s t : BoardSession) (steps : List Item) : Type 0 where
-  pub pass_is : t.pass ≡ stepped_by s.pass steps
+  pub pass_is : t.pass ≡ stepped_by s.pass steps t.pass.known
+  pub knows : IsPrefix s.pass.known t.pass.known
   pub admitted_is : t.admitted ≡ s.admitted
   pub known_is : t.known.rows ≡ joined_rows s.known.rows op object place
 

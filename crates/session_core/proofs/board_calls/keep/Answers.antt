@@ -3,7 +3,7 @@ use Rattle.nal_rules.specs.Asking.{case_tree}
 use Rattle.nal_rules.specs.declared.verdicts.Verdict.{Verdict}
 use Rattle.policy_history.specs.Values.{entry_trees}
 use Rattle.guard_core.specs.Judging.{verdict_of}
-use Rattle.verdict_words.proofs.ForCallers.{take_whole}
+use Rattle.verdict_words.proofs.ForCallers.{step_grows, take_whole}
 use Rattle.policy_book.proofs.ForCallers.{lasts_where}
 use Rattle.policy_book.specs.Matter.{IsHeldRight, StandsFor}
 use Rattle.session_core.proofs.Boarding.{kept_so, unkept_asked, unkept_none, unkept_unknown}
@@ -27,7 +27,7 @@ pub returns-in-Some-held_of : goal.returns-in-Some-held_of
 returns-in-Some-held_of c =
     let stands : StandsFor (verdict_of c.args.finding.now) c.in-Some-held_of.held = subst (λ (v : Verdict). StandsFor v c.in-Some-held_of.held) c.verdict_of.ensures c.in-Some-held_of.ensures.held.0 in
     let lasting = lasts_where (case_tree c.args.taken.now.case) (verdict_of c.args.finding.now) c.in-Some-held_of.held stands (c.has_asked.ensures.unasked (case_tree c.args.taken.now.case) c.requires.count c.if-has_asked.false) in
-    kept_so _ _ _ _ _ _ _ c.in-Some.place c.in-Some-held_of.held c.if-not-is_known.false c.in-Some.is lasting stands c.fill.ensures
+    kept_so _ _ _ _ _ _ _ c.in-Some.place c.in-Some-held_of.held c.if-not-is_known.false c.in-Some.is lasting stands c.fill.ensures.pass (step_grows _ _ _ c.fill.ensures.step.1)
 
 pub returns-in_default-held_of : goal.returns-in_default-held_of
 returns-in_default-held_of c =

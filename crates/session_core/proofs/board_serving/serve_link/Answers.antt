@@ -1,6 +1,6 @@
 use Rattle.std.proofs.Common.{None, refl, ◌∙◌}
 use Rattle.verdict_words.proofs.ForCallers.{prefix_through}
-use Rattle.session_core.proofs.BoardGoing.{first_ready, opening_here, seen_here, served_over, session_here}
+use Rattle.session_core.proofs.BoardGoing.{first_ready, knows_here, opening_here, seen_here, served_over, session_here}
 use Rattle.session_core.proofs.board_serving.serve_link.Goals as goal
 
 pub sit-session-requires-clause-ready : goal.sit-session-requires-clause-ready
@@ -26,6 +26,10 @@ returns-clause-board g c = c.sit-session.ensures.ready.board_is
 pub returns-clause-seen : goal.returns-clause-seen
 returns-clause-seen g c =
     prefix_through c.args.pass.seen c.meet-pass.result.seen c.sit-session.result.0.pass.seen (seen_here c.deref_mut.result.now c.args.pass c.meet-pass.result c.meet-pass.ensures.pass c.meet-pass.ensures.met) c.sit-session.ensures.sat.told.seen
+
+pub returns-clause-known : goal.returns-clause-known
+returns-clause-known g c =
+    prefix_through c.args.pass.known c.meet-pass.result.known c.sit-session.result.0.pass.known (knows_here c.deref_mut.result.now c.args.pass c.meet-pass.result c.meet-pass.ensures.pass c.meet-pass.ensures.known) c.sit-session.ensures.sat.told.knows
 
 pub returns-clause-said : goal.returns-clause-said
 returns-clause-said g c = c.sit-session.ensures.sat.told.said_grows

@@ -14,21 +14,21 @@ judge-requires-clause-snap g c =
 
 pub judge-requires-clause-known : goal.judge-requires-clause-known
 judge-requires-clause-known g c =
-    let met = met_now_of c.deref_mut.result.now c.args.self c.snap-pass.result.0 c.reserve.new.self c.snap-pass.ensures.met c.snap-pass.ensures.pass (c.snap-pass.ensures.board ∙ sym c.requires.ready.board_is) c.reserve.ensures.known in
+    let met = met_now_of c.deref_mut.result.now _ c.args.self c.snap-pass.result.0 c.reserve.new.self c.snap-pass.ensures.met c.snap-pass.ensures.known c.snap-pass.ensures.pass (c.snap-pass.ensures.board ∙ sym c.requires.ready.board_is) c.reserve.ensures.known in
     known_has_place c.args.board.now _ c.args.principal c.args.op.now c.in-Ok.room.object c.in-Case.at c.in-Case.case c.in-Case.place c.in-Case.object (met_ready c.args.board.now c.args.self _ c.requires.ready met) c.requires.who
     (snap_board c.deref_mut.result.now c.args.board.now c.args.self.pass c.snap-pass.result.0 c.args.principal c.args.op.now c.args.object.now c.in-Ok.room.object c.in-Case.at c.in-Case.case c.in-Case.place c.in-Case.object
     c.snap-pass.ensures.pass c.in-Ok.ensures.object (rw c.in-Case.is at c.snap-pass.ensures.snapped))
 
 pub returns-in-Case-clause-ready : goal.returns-in-Case-clause-ready
 returns-in-Case-clause-ready g c =
-    let met = met_now_of c.deref_mut.result.now c.args.self c.snap-pass.result.0 c.reserve.new.self c.snap-pass.ensures.met c.snap-pass.ensures.pass (c.snap-pass.ensures.board ∙ sym c.requires.ready.board_is) c.reserve.ensures.known in
+    let met = met_now_of c.deref_mut.result.now _ c.args.self c.snap-pass.result.0 c.reserve.new.self c.snap-pass.ensures.met c.snap-pass.ensures.known c.snap-pass.ensures.pass (c.snap-pass.ensures.board ∙ sym c.requires.ready.board_is) c.reserve.ensures.known in
     checked_ready c.args.board.now _ _ c.args.principal c.args.op.now c.in-Ok.room.object c.args.arg c.in-Case.at c.in-Case.case c.in-Case.place c.in-Case.object _ _ (met_ready c.args.board.now c.args.self _ c.requires.ready met) c.requires.who
     (snap_board c.deref_mut.result.now c.args.board.now c.args.self.pass c.snap-pass.result.0 c.args.principal c.args.op.now c.args.object.now c.in-Ok.room.object c.in-Case.at c.in-Case.case c.in-Case.place c.in-Case.object
     c.snap-pass.ensures.pass c.in-Ok.ensures.object (rw c.in-Case.is at c.snap-pass.ensures.snapped)) c.judge.ensures.checked
 
 pub returns-in-Case-clause-turn : goal.returns-in-Case-clause-turn
 returns-in-Case-clause-turn g c = λ s who missed.
-    let met = met_now_of c.deref_mut.result.now c.args.self c.snap-pass.result.0 c.reserve.new.self c.snap-pass.ensures.met c.snap-pass.ensures.pass (c.snap-pass.ensures.board ∙ sym c.requires.ready.board_is) c.reserve.ensures.known in
+    let met = met_now_of c.deref_mut.result.now _ c.args.self c.snap-pass.result.0 c.reserve.new.self c.snap-pass.ensures.met c.snap-pass.ensures.known c.snap-pass.ensures.pass (c.snap-pass.ensures.board ∙ sym c.requires.ready.board_is) c.reserve.ensures.known in
     checked_turn c.args.principal c.args.op.now c.args.object.now c.args.arg s c.args.self who missed _ met c.in-Case.object c.in-Case.at c.in-Case.case c.in-Case.place
     (snap_here c.deref_mut.result.now c.args.board.now c.args.self.pass c.snap-pass.result.0 c.args.principal c.args.op.now c.args.object.now c.args.object.now c.in-Case.at c.in-Case.case c.in-Case.place c.in-Case.object
     c.snap-pass.ensures.pass c.snap-pass.ensures.board refl (rw c.in-Case.is at c.snap-pass.ensures.snapped)) _ _ _
@@ -36,19 +36,19 @@ returns-in-Case-clause-turn g c = λ s who missed.
 
 pub returns-in-NoObject-clause-ready : goal.returns-in-NoObject-clause-ready
 returns-in-NoObject-clause-ready g c =
-    met_ready c.args.board.now c.args.self _ c.requires.ready (met_now_of c.deref_mut.result.now c.args.self c.snap-pass.result.0 c.reserve.new.self c.snap-pass.ensures.met c.snap-pass.ensures.pass (c.snap-pass.ensures.board ∙ sym c.requires.ready.board_is) c.reserve.ensures.known)
+    met_ready c.args.board.now c.args.self _ c.requires.ready (met_now_of c.deref_mut.result.now _ c.args.self c.snap-pass.result.0 c.reserve.new.self c.snap-pass.ensures.met c.snap-pass.ensures.known c.snap-pass.ensures.pass (c.snap-pass.ensures.board ∙ sym c.requires.ready.board_is) c.reserve.ensures.known)
 
 pub returns-in-NoObject-clause-turn : goal.returns-in-NoObject-clause-turn
 returns-in-NoObject-clause-turn g c = λ s who missed.
-    let met = met_now_of c.deref_mut.result.now c.args.self c.snap-pass.result.0 c.reserve.new.self c.snap-pass.ensures.met c.snap-pass.ensures.pass (c.snap-pass.ensures.board ∙ sym c.requires.ready.board_is) c.reserve.ensures.known in
+    let met = met_now_of c.deref_mut.result.now _ c.args.self c.snap-pass.result.0 c.reserve.new.self c.snap-pass.ensures.met c.snap-pass.ensures.known c.snap-pass.ensures.pass (c.snap-pass.ensures.board ∙ sym c.requires.ready.board_is) c.reserve.ensures.known in
     let none = none_here c.deref_mut.result.now c.args.board.now c.args.self.pass c.snap-pass.result.0 c.args.object.now c.in-NoObject.at c.snap-pass.ensures.pass c.snap-pass.ensures.board (rw c.in-NoObject.is at c.snap-pass.ensures.snapped) in
     no_object_turn c.args.principal c.args.op.now c.args.object.now c.args.arg s c.args.self who missed _ met c.in-NoObject.at _ (gained-nothing (g.P.Panel.said c.args.panel.now)) none.0 none.1
 
 pub returns-in-NoMemory-clause-ready : goal.returns-in-NoMemory-clause-ready
 returns-in-NoMemory-clause-ready g c =
-    met_ready c.args.board.now c.args.self _ c.requires.ready (met_now_of c.deref_mut.result.now c.args.self c.snap-pass.result.0 c.reserve.new.self c.snap-pass.ensures.met c.snap-pass.ensures.pass (c.snap-pass.ensures.board ∙ sym c.requires.ready.board_is) c.reserve.ensures.known)
+    met_ready c.args.board.now c.args.self _ c.requires.ready (met_now_of c.deref_mut.result.now _ c.args.self c.snap-pass.result.0 c.reserve.new.self c.snap-pass.ensures.met c.snap-pass.ensures.known c.snap-pass.ensures.pass (c.snap-pass.ensures.board ∙ sym c.requires.ready.board_is) c.reserve.ensures.known)
 
 pub returns-in-NoMemory-clause-turn : goal.returns-in-NoMemory-clause-turn
 returns-in-NoMemory-clause-turn g c = λ s who missed.
-    let met = met_now_of c.deref_mut.result.now c.args.self c.snap-pass.result.0 c.reserve.new.self c.snap-pass.ensures.met c.snap-pass.ensures.pass (c.snap-pass.ensures.board ∙ sym c.requires.ready.board_is) c.reserve.ensures.known in
+    let met = met_now_of c.deref_mut.result.now _ c.args.self c.snap-pass.result.0 c.reserve.new.self c.snap-pass.ensures.met c.snap-pass.ensures.known c.snap-pass.ensures.pass (c.snap-pass.ensures.board ∙ sym c.requires.ready.board_is) c.reserve.ensures.known in
     unasked_turn c.args.principal c.args.op.now c.args.object.now c.args.arg s c.args.self who missed _ met _ (gained-nothing (g.P.Panel.said c.args.panel.now))
