@@ -3,15 +3,21 @@ use Rattle.std.proofs.Common.{◌≡◌, ◌⊎◌, inl, inr, ◌<◌, ◌≤◌
 use Rattle.std.proofs.Math.Seq.{drop-append_seam}
 use Rattle.std.proofs.lemmas.List.{map-append}
 use Rattle.std.proofs.lemmas.List.Elements.{All-append, All-cons, All-head, All-map, All-nil, All-tail, All-weaker, Contains-append_right}
-use Rattle.std.specs.Prelude.{All, Contains, map}
+use Rattle.std.specs.Prelude.{All, Contains, map, not, ◌==◌}
+use Rattle.std.proofs.lemmas.List.{append-nil}
+use Rattle.std.proofs.lemmas.Bool.{ne_eqb, eq-eqb}
+use mathlib.Core.Logic.{dite}
+use native.Mathlib.Decide.{ℕ_discrete}
 use Rattle.policy_history.specs.declared.events.Entry.{Entry}
 use Rattle.policy_history.specs.declared.heads.Head.{Head}
 use Rattle.policy_history.specs.Values.{entry_trees, greatest_of}
 use Rattle.verdict_words.specs.Histories.{EachFrom, own}
-use Rattle.verdict_words.specs.Rule.{AreOf, IsPart, Stepped, is_on, last_met}
+use Rattle.verdict_words.specs.Orders.{found_told, told_of, trail_steps}
+use Rattle.verdict_words.specs.Rule.{last_met}
+use Rattle.verdict_words.specs.declared.views.AtomicStep.{AtomicStep}
+use Rattle.verdict_words.proofs.ForCallers.{trail_steps_snoc}
 use Rattle.verdict_words.specs.Settling.{all_met, met_of}
 use Rattle.verdict_words.specs.Values.{Identity, PassValue}
-use Rattle.verdict_words.specs.Words.{register_word}
 use Rattle.verdict_words.specs.declared.views.Item.TheVariants.{Met}
 use Rattle.policy_book.specs.Books.{BookValue, IsMetIn, session_of}
 use Rattle.session_core.specs.ToldLaws.{ToldStaysTold}
@@ -26,7 +32,7 @@ use Rattle.nexus_serve.specs.Inner.Serving.{AreDone, doors_of, panels_of}
 use Rattle.nexus_serve.specs.Inner.Working.{IsUnused, WorkerValue}
 use Rattle.nexus_serve.proofs.Gathering.{doors_gathered, joined_met, panels_gathered, passes_gathered, rests_gathered, some_failed, tells_all, unused_gathered}
 use Rattle.nexus_serve.proofs.Joining.{have_worked, of_reports, works_same}
-use Rattle.nexus_serve.proofs.Lists.{all_both, all_left, all_right}
+use Rattle.nexus_serve.proofs.Lists.{all_both, all_filter, all_left, all_right, all_unfilter, contains_unfilter}
 use Rattle.nexus_serve.proofs.Seeing.{own_within}
 
 fault_is : (b : Bool) → is_fault (end_of b) ≡ b
@@ -37,9 +43,9 @@ all_unmap : {X Y : Type 0} (P : Y → Type 0) (f : X → Y) (xs : List X) → Al
 all_unmap P f [] h = All-nil (λ x. P (f x))
 all_unmap P f (x ∷ xs) h = All-cons (λ x. P (f x)) x xs (All-head P (f x) (map f xs) h) (all_unmap P f xs (All-tail P (f x) (map f xs) h))
 
-same_sessions : (board : Identity Entry Head) (es : List Entry) (reports : List ReportView) → sessions_of (map (met_report board es) reports) ≡ sessions_of reports
-same_sessions board es [] = refl
-same_sessions board es (r ∷ rs) = ap (λ l. r.session ∷ l) (same_sessions board es rs)
+same_sessions : (board : Identity Entry Head) (es : List Entry) (known : List AtomicStep) (reports : List ReportView) → sessions_of (map (met_report board es known) reports) ≡ sessions_of reports
+same_sessions board es known [] = refl
+same_sessions board es known (r ∷ rs) = ap (λ l. r.session ∷ l) (same_sessions board es known rs)
 
 -- the passes of all workers are as they were made where they were not used
 all_unused : {P : Type 0} (panel : P → PanelView) (board : Identity Entry Head) (first most : ℕ) (hired workers : List (WorkerValue P)) → AreDone panel board first most hired workers → All (IsUnused board) (unused_of workers)
@@ -71,6 +77,9 @@ module _ {K P : Type 0} (panel : P → PanelView) (stays : ToldStaysTold) (book 
   abbrev es : List Entry
   es = book.entries
 
+  abbrev known : List AtomicStep
+  known = reported.known
+
   abbrev reports : List ReportView
   reports = reports_of workers
 
@@ -80,11 +89,11 @@ module _ {K P : Type 0} (panel : P → PanelView) (stays : ToldStaysTold) (book 
   passes : (with_unused (gathered_all nothing workers)).passes ≡ map pass_of reports ++ unused
   passes = ap (λ l. l ++ (gathered_all nothing workers).unused) (passes_gathered nothing workers) ∙ ap (λ l. map pass_of reports ++ l) (unused_gathered nothing workers)
 
-  handed : served.reports ≡ map (met_report board es) reports
+  handed : served.reports ≡ map (met_report board es known) reports
   handed =
-      reported.reports ∙ ap (λ l. joined l (all_met book.board es (with_unused (gathered_all nothing workers)).passes)) (rests_gathered nothing workers)
-      ∙ ap (λ l. joined (map rest_of reports) (all_met book.board es l)) passes
-      ∙ ap (joined (map rest_of reports)) (map-append (λ (pass : PassValue Entry Head). met_of board es pass.session pass.trail) (map pass_of reports) unused) ∙ joined_met board es reports (all_met board es unused)
+      reported.reports ∙ ap (λ l. joined l (all_met book.board es known (with_unused (gathered_all nothing workers)).passes)) (rests_gathered nothing workers)
+      ∙ ap (λ l. joined (map rest_of reports) (all_met book.board es known l)) passes
+      ∙ ap (joined (map rest_of reports)) (map-append (λ (pass : PassValue Entry Head). met_of board es known pass.session pass.trail) (map pass_of reports) unused) ∙ joined_met board es known reports (all_met board es known unused)
 
   met : All (IsMetIn book) (map pass_of reports ++ unused)
   met = subst (All (IsMetIn book)) passes reported.met
@@ -98,7 +107,7 @@ module _ {K P : Type 0} (panel : P → PanelView) (stays : ToldStaysTold) (book 
   fault : is_fault served.end ≡ (gathered_all nothing workers).has_failed
   fault = ap is_fault reported.end ∙ fault_is (gathered_all nothing workers).has_failed
 
-  seen_all : (report : ReportView) → IsMetBy es report.pass × (report.pass.session ≡ report.session) → HasSeenAll es (met_report board es report)
+  seen_all : (report : ReportView) → IsMetBy es report.pass × (report.pass.session ≡ report.session) → HasSeenAll es (met_report board es known report)
   seen_all report (is, same) = record {
     before = report.pass.trail;
     trail = refl;
@@ -106,8 +115,8 @@ module _ {K P : Type 0} (panel : P → PanelView) (stays : ToldStaysTold) (book 
     own_is = subst (λ s. own session_of es s ≡ own session_of (take (last_met report.pass.trail) es) s) same (own_within es report.pass.seen (last_met report.pass.trail) report.pass.session is.seen is.own_is);
   }
 
-  seen : All (HasSeenAll es) (map (met_report board es) reports)
-  seen = All-map (HasSeenAll es) (met_report board es) reports (All-weaker (λ (report : ReportView). IsMetBy es report.pass × (report.pass.session ≡ report.session)) (λ (report : ReportView). HasSeenAll es (met_report board es report)) seen_all reports (all_both (λ (report : ReportView). IsMetBy es report.pass) (λ (report : ReportView). report.pass.session ≡ report.session) reports met_by (all_same panel board board.origin.first most hired workers are_done)))
+  seen : All (HasSeenAll es) (map (met_report board es known) reports)
+  seen = All-map (HasSeenAll es) (met_report board es known) reports (All-weaker (λ (report : ReportView). IsMetBy es report.pass × (report.pass.session ≡ report.session)) (λ (report : ReportView). HasSeenAll es (met_report board es known report)) seen_all reports (all_both (λ (report : ReportView). IsMetBy es report.pass) (λ (report : ReportView). report.pass.session ≡ report.session) reports met_by (all_same panel board board.origin.first most hired workers are_done)))
 
   -- no entry has the session of a pass that was not used
   no_entry : (pass : PassValue Entry Head) → IsMetIn book pass × IsUnused board pass → own session_of es pass.session ≡ []
@@ -135,41 +144,76 @@ module _ {K P : Type 0} (panel : P → PanelView) (stays : ToldStaysTold) (book 
   in_all : (entry : Entry) → Contains more entry → Contains es entry
   in_all entry here = rw (opened) (Contains-append_right board.origin.opening more entry here)
 
-  made : All (λ (entry : Entry). Contains (sessions_of (map (met_report board es) reports)) entry.session) (drop (length board.origin.opening) es)
-  made = rw (behind, same_sessions board es reports) (of_reports panel session_of more es board most board.origin.first hired workers are_done no_entries in_all bounds)
+  made : All (λ (entry : Entry). Contains (sessions_of (map (met_report board es known) reports)) entry.session) (drop (length board.origin.opening) es)
+  made = rw (behind, same_sessions board es known reports) (of_reports panel session_of more es board most board.origin.first hired workers are_done no_entries in_all bounds)
 
-  register_parts : (object : ℕ) (steps : List Stepped) → All (λ (pass : PassValue Entry Head). IsPart (register_word object) steps pass.session pass.trail) (all_met book.board es (with_unused (gathered_all nothing workers)).passes)
-      → All (λ (pass : PassValue Entry Head). IsPart (register_word object) steps pass.session (pass.trail ++ Met (length es) ∷ [])) (map pass_of reports ++ unused)
-  register_parts object steps parts =
-      all_unmap (λ (pass : PassValue Entry Head). IsPart (register_word object) steps pass.session pass.trail) (λ (pass : PassValue Entry Head). met_of board es pass.session pass.trail) (map pass_of reports ++ unused)
-      (subst (λ l. All (λ (pass : PassValue Entry Head). IsPart (register_word object) steps pass.session pass.trail) (all_met board es l)) passes parts)
+  parts : All (λ (pass : PassValue Entry Head). told_of known pass.session ≡ trail_steps pass.session pass.trail) (map pass_of reports ++ unused)
+  parts = subst (All (λ (pass : PassValue Entry Head). told_of known pass.session ≡ trail_steps pass.session pass.trail)) passes reported.order.own_steps
 
-  report_part : (object : ℕ) (steps : List Stepped) (report : ReportView) → IsPart (register_word object) steps report.pass.session (report.pass.trail ++ Met (length es) ∷ []) × (report.pass.session ≡ report.session)
-      → IsPart (register_word object) steps (met_report board es report).session (met_report board es report).pass.trail
-  report_part object steps report (part, same) = subst (λ s. IsPart (register_word object) steps s (report.pass.trail ++ Met (length es) ∷ [])) same part
+  report_part : (report : ReportView) → (told_of known report.pass.session ≡ trail_steps report.pass.session report.pass.trail) × (report.pass.session ≡ report.session)
+      → told_of known report.session ≡ trail_steps report.session (report.pass.trail ++ Met (length es) ∷ [])
+  report_part report (part, same) =
+      subst (λ s. told_of known s ≡ trail_steps s report.pass.trail) same part
+      ∙ sym (trail_steps_snoc report.session report.pass.trail (Met (length es)) ∙ append-nil (trail_steps report.session report.pass.trail))
 
   none_of_map : {X Y : Type 0} (f : X → Y) (xs : List X) → map f xs ≡ [] → xs ≡ []
   none_of_map f [] e = refl
   none_of_map f (x ∷ xs) e = absurd (cc e)
 
-  unused_part : (object : ℕ) (steps : List Stepped) (pass : PassValue Entry Head) → IsPart (register_word object) steps pass.session (pass.trail ++ Met (length es) ∷ []) × IsUnused board pass
-      → own (λ (step : Stepped). step.session) steps pass.session ≡ []
-  unused_part object steps pass (part, un) =
-      none_of_map (λ (step : Stepped). step.item) (own (λ (step : Stepped). step.session) steps pass.session) (part ∙ ap (λ trail. filter (is_on (register_word object)) (trail ++ Met (length es) ∷ [])) un.trail)
+  -- a pass that was not used made no step
+  unused_part : (pass : PassValue Entry Head) → (told_of known pass.session ≡ trail_steps pass.session pass.trail) × IsUnused board pass → own (λ (step : AtomicStep). step.session) known pass.session ≡ []
+  unused_part pass (part, un) =
+      none_of_map (λ (step : AtomicStep). record step { found = found_told step.action step.found }) (own (λ (step : AtomicStep). step.session) known pass.session) (part ∙ ap (trail_steps pass.session) un.trail)
 
-  registers : HaveOneOrder (map (met_report board es) reports)
-  registers object small =
-      let found = reported.registers object small in
-      let steps = found.0 in
-      let parts = register_parts object steps found.4 in
-      let of_all = all_unmap (λ (pass : PassValue Entry Head). IsPart (register_word object) steps pass.session (pass.trail ++ Met (length es) ∷ [])) pass_of reports (all_left (λ (pass : PassValue Entry Head). IsPart (register_word object) steps pass.session (pass.trail ++ Met (length es) ∷ [])) (map pass_of reports) unused parts) in
-      let of_unused = All-weaker (λ (pass : PassValue Entry Head). IsPart (register_word object) steps pass.session (pass.trail ++ Met (length es) ∷ []) × IsUnused board pass) (λ (pass : PassValue Entry Head). own (λ (step : Stepped). step.session) steps pass.session ≡ []) (unused_part object steps) unused (all_both (λ (pass : PassValue Entry Head). IsPart (register_word object) steps pass.session (pass.trail ++ Met (length es) ∷ [])) (IsUnused board) unused (all_right (λ (pass : PassValue Entry Head). IsPart (register_word object) steps pass.session (pass.trail ++ Met (length es) ∷ [])) (map pass_of reports) unused parts) (all_unused panel board board.origin.first most hired workers are_done)) in (
-        steps,
-        found.1,
-        found.2,
-        All-map (λ (report : ReportView). IsPart (register_word object) steps report.session report.pass.trail) (met_report board es) reports (All-weaker (λ (report : ReportView). IsPart (register_word object) steps report.pass.session (report.pass.trail ++ Met (length es) ∷ []) × (report.pass.session ≡ report.session)) (λ (report : ReportView). IsPart (register_word object) steps (met_report board es report).session (met_report board es report).pass.trail) (report_part object steps) reports (all_both (λ (report : ReportView). IsPart (register_word object) steps report.pass.session (report.pass.trail ++ Met (length es) ∷ [])) (λ (report : ReportView). report.pass.session ≡ report.session) reports of_all (all_same panel board board.origin.first most hired workers are_done))),
-        rw (same_sessions board es reports) (of_reports panel (λ (step : Stepped). step.session) steps steps board most board.origin.first hired workers are_done of_unused (λ step here. here) (subst (λ n. AreOf board.origin.first n steps) all_numbers found.3)),
-      )
+  unused_parts : All (λ (pass : PassValue Entry Head). own (λ (step : AtomicStep). step.session) known pass.session ≡ []) unused
+  unused_parts =
+      All-weaker (λ (pass : PassValue Entry Head). (told_of known pass.session ≡ trail_steps pass.session pass.trail) × IsUnused board pass) (λ (pass : PassValue Entry Head). own (λ (step : AtomicStep). step.session) known pass.session ≡ []) unused_part unused
+      (all_both (λ (pass : PassValue Entry Head). told_of known pass.session ≡ trail_steps pass.session pass.trail) (IsUnused board) unused
+      (all_right (λ (pass : PassValue Entry Head). told_of known pass.session ≡ trail_steps pass.session pass.trail) (map pass_of reports) unused parts) (all_unused panel board board.origin.first most hired workers are_done))
+
+  own_steps : All (λ (report : ReportView). told_of known report.session ≡ trail_steps report.session report.pass.trail) (map (met_report board es known) reports)
+  own_steps =
+      All-map (λ (report : ReportView). told_of known report.session ≡ trail_steps report.session report.pass.trail) (met_report board es known) reports
+      (All-weaker (λ (report : ReportView). (told_of known report.pass.session ≡ trail_steps report.pass.session report.pass.trail) × (report.pass.session ≡ report.session))
+      (λ (report : ReportView). told_of known report.session ≡ trail_steps report.session (report.pass.trail ++ Met (length es) ∷ [])) report_part reports
+      (all_both (λ (report : ReportView). told_of known report.pass.session ≡ trail_steps report.pass.session report.pass.trail) (λ (report : ReportView). report.pass.session ≡ report.session) reports
+      (all_unmap (λ (pass : PassValue Entry Head). told_of known pass.session ≡ trail_steps pass.session pass.trail) pass_of reports
+      (all_left (λ (pass : PassValue Entry Head). told_of known pass.session ≡ trail_steps pass.session pass.trail) (map pass_of reports) unused parts))
+      (all_same panel board board.origin.first most hired workers are_done)))
+
+  -- the steps of sessions are of sessions that were reported
+  abbrev not_owners : AtomicStep → Bool
+  not_owners step = not (step.session == 0)
+
+  in_range : All (λ (step : AtomicStep). (board.origin.first ≤ step.session) × (step.session < board.origin.first + length workers * most)) (filter not_owners known)
+  in_range = all_filter not_owners (λ (step : AtomicStep). (board.origin.first ≤ step.session) × (step.session < board.origin.first + length workers * most)) known
+      (All-weaker (λ (step : AtomicStep). (step.session ≡ 0) ⊎ ((board.origin.first ≤ step.session) × (step.session < book.next)))
+      (λ (step : AtomicStep). not_owners step ≡ true → (board.origin.first ≤ step.session) × (step.session < board.origin.first + length workers * most)) ranged known reported.order.order.within)
+    where
+      ranged : (step : AtomicStep) → (step.session ≡ 0) ⊎ ((board.origin.first ≤ step.session) × (step.session < book.next)) → not_owners step ≡ true
+          → (board.origin.first ≤ step.session) × (step.session < board.origin.first + length workers * most)
+      ranged step (inl zero) other = absurd (let is : not_owners step ≡ false = ap not (eq-eqb step.session 0 zero) in cc (sym other ∙ is))
+      ranged step (inr range) other = (range.0, subst (λ n. step.session < n) all_numbers range.1)
+
+  within : All (λ (step : AtomicStep). (step.session ≡ 0) ⊎ Contains (sessions_of (map (met_report board es known) reports)) step.session) known
+  within = All-weaker (λ (step : AtomicStep). not_owners step ≡ true → Contains (sessions_of reports) step.session) (λ (step : AtomicStep). (step.session ≡ 0) ⊎ Contains (sessions_of (map (met_report board es known) reports)) step.session) of_step known
+      (all_unfilter not_owners (λ (step : AtomicStep). Contains (sessions_of reports) step.session) known
+      (of_reports panel (λ (step : AtomicStep). step.session) (filter not_owners known) known board most board.origin.first hired workers are_done unused_parts (λ step here. contains_unfilter not_owners known step here) in_range))
+    where
+      of_step : (step : AtomicStep) → (not_owners step ≡ true → Contains (sessions_of reports) step.session) → (step.session ≡ 0) ⊎ Contains (sessions_of (map (met_report board es known) reports)) step.session
+      of_step step there = dite (ℕ_discrete step.session 0) (λ zero. inl zero) (λ ne. inr (rw (same_sessions board es known reports) (there (ap not (ne_eqb step.session 0 ne)))))
+
+  order : HaveOneOrder board.origin.opening es (map (met_report board es known) reports)
+  order = record {
+    order = known;
+    words = reported.order.words;
+    replays = reported.order.order.replays;
+    done = reported.order.order.done;
+    whole = (reported.order.behind.0, reported.order.behind.3);
+    known = All-map (λ (report : ReportView). report.pass.known ≡ known) (met_report board es known) reports (λ k d lt. refl);
+    own_steps = own_steps;
+    within = within;
+  }
 
   ends : (served.end ≡ Done) ⊎ ((served.end ≡ DoorFault) × SomeFailed (doors_of hired) (doors_of workers))
   ends = by_fault (gathered_all nothing workers).has_failed refl
@@ -188,13 +232,13 @@ module _ {K P : Type 0} (panel : P → PanelView) (stays : ToldStaysTold) (book 
   panels : served.panels ≡ panels_of workers
   panels = reported.panels ∙ panels_gathered nothing workers
 
-  worked : HaveWorked board.origin.setting (length board.origin.opening) 1 (is_fault served.end) (greatest_of (entry_trees board.origin.opening) + 1) most (doors_of hired) (doors_of workers) (map panel (panels_of hired)) (map panel (panels_of workers)) (map (met_report board es) reports)
+  worked : HaveWorked board.origin.setting (length board.origin.opening) 1 (is_fault served.end) (greatest_of (entry_trees board.origin.opening) + 1) most (doors_of hired) (doors_of workers) (map panel (panels_of hired)) (map panel (panels_of workers)) (map (met_report board es known) reports)
   worked =
-      subst (λ n. HaveWorked board.origin.setting (length board.origin.opening) 1 (is_fault served.end) n most (doors_of hired) (doors_of workers) (map panel (panels_of hired)) (map panel (panels_of workers)) (map (met_report board es) reports)) first_is
-      (subst (λ b. HaveWorked board.origin.setting (length board.origin.opening) 1 b board.origin.first most (doors_of hired) (doors_of workers) (map panel (panels_of hired)) (map panel (panels_of workers)) (map (met_report board es) reports)) (sym fault)
-      (have_worked panel stays board es (gathered_all nothing workers).has_failed most board.origin.first hired workers are_done (tells_all nothing workers) met_by))
+      subst (λ n. HaveWorked board.origin.setting (length board.origin.opening) 1 (is_fault served.end) n most (doors_of hired) (doors_of workers) (map panel (panels_of hired)) (map panel (panels_of workers)) (map (met_report board es known) reports)) first_is
+      (subst (λ b. HaveWorked board.origin.setting (length board.origin.opening) 1 b board.origin.first most (doors_of hired) (doors_of workers) (map panel (panels_of hired)) (map panel (panels_of workers)) (map (met_report board es known) reports)) (sym fault)
+      (have_worked panel stays board es known (gathered_all nothing workers).has_failed most board.origin.first hired workers are_done (tells_all nothing workers) met_by))
 
-  is_served : IsServed board.origin.setting board.origin.opening es most (doors_of hired) (doors_of workers) (map panel (panels_of hired)) (map panel (panels_of workers)) (map (met_report board es) reports) served.end
+  is_served : IsServed board.origin.setting board.origin.opening es most (doors_of hired) (doors_of workers) (map panel (panels_of hired)) (map panel (panels_of workers)) (map (met_report board es known) reports) served.end
   is_served = record {
     legal = reported.legal;
     begins = reported.numbered.begins;
@@ -202,7 +246,7 @@ module _ {K P : Type 0} (panel : P → PanelView) (stays : ToldStaysTold) (book 
     ends = ends;
     seen = seen;
     made = made;
-    registers = registers;
+    order = order;
   }
 
   all_served : IsServed board.origin.setting board.origin.opening es most (doors_of hired) served.doors (map panel (panels_of hired)) (map panel served.panels) served.reports served.end

@@ -5,6 +5,7 @@ use Rattle.std.proofs.lemmas.List.Elements.{All-append, All-head, All-map, All-t
 use Rattle.std.specs.Prelude.{All, map, ◌||◌}
 use Rattle.policy_history.specs.declared.events.Entry.{Entry}
 use Rattle.policy_history.specs.declared.heads.Head.{Head}
+use Rattle.verdict_words.specs.declared.views.AtomicStep.{AtomicStep}
 use Rattle.verdict_words.specs.Settling.{all_met}
 use Rattle.verdict_words.specs.Values.{Identity, PassValue}
 use Rattle.nexus_serve.specs.declared.gathered.Rest.{Rest}
@@ -38,10 +39,10 @@ unused_gathered g [] = sym (append-nil g.unused)
 unused_gathered g (w ∷ ws) = unused_gathered (gathered_from g w) ws ∙ append_assoc g.unused w.passes (unused_of ws)
 
 -- the reports, each with its pass as it was met once more
-pub joined_met : (board : Identity Entry Head) (es : List Entry) (reports : List ReportView) (more : List (PassValue Entry Head))
-    → joined (map rest_of reports) (all_met board es (map pass_of reports) ++ more) ≡ map (met_report board es) reports
-joined_met board es [] more = refl
-joined_met board es (r ∷ rs) more = ap (λ xs. met_report board es r ∷ xs) (joined_met board es rs more)
+pub joined_met : (board : Identity Entry Head) (es : List Entry) (known : List AtomicStep) (reports : List ReportView) (more : List (PassValue Entry Head))
+    → joined (map rest_of reports) (all_met board es known (map pass_of reports) ++ more) ≡ map (met_report board es known) reports
+joined_met board es known [] more = refl
+joined_met board es known (r ∷ rs) more = ap (λ xs. met_report board es known r ∷ xs) (joined_met board es known rs more)
 
 -- that a door has failed is not forgotten
 or_true : (b c : Bool) → b ≡ true → (b || c) ≡ true

@@ -7,6 +7,7 @@ use Rattle.std.specs.Prelude.{All, map}
 use Rattle.policy_history.specs.declared.events.Entry.{Entry}
 use Rattle.policy_history.specs.declared.heads.Head.{Head}
 use Rattle.policy_history.specs.Values.{entry_trees}
+use Rattle.verdict_words.specs.declared.views.AtomicStep.{AtomicStep}
 use Rattle.verdict_words.specs.Values.{Identity}
 use Rattle.verdict_words.specs.declared.views.Item.{Item}
 use Rattle.verdict_words.specs.declared.views.Item.TheVariants.{Met}
@@ -26,9 +27,9 @@ but_one trail item =
     let short : length (trail ++ item ∷ []) - 1 ≡ length trail = omega (arith, long) in
     ap (λ n. take n (trail ++ item ∷ [])) short ∙ take-append_seam trail (item ∷ [])
 
-module _ (stays : ToldStaysTold) (board : Identity Entry Head) (es : List Entry) (h : Head) (low : ℕ) where
+module _ (stays : ToldStaysTold) (board : Identity Entry Head) (es : List Entry) (known : List AtomicStep) (h : Head) (low : ℕ) where
   -- a session, once its pass was met again
-  heard_met : (report : ReportView) (panel panel_now : PanelView) → IsMetBy es report.pass → IsHeard h low 0 report panel panel_now → IsHeard h low 1 (met_report board es report) panel panel_now
+  heard_met : (report : ReportView) (panel panel_now : PanelView) → IsMetBy es report.pass → IsHeard h low 0 report panel panel_now → IsHeard h low 1 (met_report board es known report) panel panel_now
   heard_met report panel panel_now met heard =
       let served = heard.served in
       let trail = report.pass.trail in
@@ -50,36 +51,36 @@ module _ (stays : ToldStaysTold) (board : Identity Entry Head) (es : List Entry)
         reached = heard.reached;
       }
 
-  from_met : (report : ReportView) (link : LinkView) → HasComeFrom link report → HasComeFrom link (met_report board es report)
+  from_met : (report : ReportView) (link : LinkView) → HasComeFrom link report → HasComeFrom link (met_report board es known report)
   from_met report link from = record { bytes = from.bytes; place = from.place; toward = from.toward; over = from.over; closed = from.closed; faults = from.faults }
 
   -- all sessions of a worker, once their passes were met again
   works_met : (first : ℕ) (door : DoorView) (panel : PanelView) (reports : List ReportView) (door_now : DoorView) (panel_now : PanelView)
       → Works h low 0 first door panel reports door_now panel_now → All (λ (report : ReportView). IsMetBy es report.pass) reports
-      → Works h low 1 first door panel (map (met_report board es) reports) door_now panel_now
+      → Works h low 1 first door panel (map (met_report board es known) reports) door_now panel_now
   works_met first door panel _ _ _ nobody met = nobody
   works_met first door panel _ _ _ (next {reports} {door_then} {panel_then} report link door_now panel_now works answered from (number, same) heard) met =
       let before = all_left (λ (report : ReportView). IsMetBy es report.pass) reports (report ∷ []) met in
       let last = all_last (λ (report : ReportView). IsMetBy es report.pass) reports report met in
-      let place : report.session ≡ first + length (map (met_report board es) reports) = number ∙ ap (λ n. first + n) (sym (length-map reports (met_report board es))) in
-      rw (map-append (met_report board es) reports (report ∷ []))
-      (next (met_report board es report) link door_now panel_now (works_met first door panel reports door_then panel_then works before) answered (from_met report link from) (place, same)
+      let place : report.session ≡ first + length (map (met_report board es known) reports) = number ∙ ap (λ n. first + n) (sym (length-map reports (met_report board es known))) in
+      rw (map-append (met_report board es known) reports (report ∷ []))
+      (next (met_report board es known report) link door_now panel_now (works_met first door panel reports door_then panel_then works before) answered (from_met report link from) (place, same)
       (heard_met report panel_then panel_now last heard))
 
   -- a worker that has stopped, once the passes were met again; that its door has failed may be told of more workers than of it
   pub worked_met : (is_told may_tell : Bool) (first most : ℕ) (door door_now : DoorView) (panel panel_now : PanelView) (reports : List ReportView)
       → (is_told ≡ true → may_tell ≡ true) → HasWorked h low 0 is_told first most door door_now panel panel_now reports → All (λ (report : ReportView). IsMetBy es report.pass) reports
-      → HasWorked h low 1 may_tell first most door door_now panel panel_now (map (met_report board es) reports)
+      → HasWorked h low 1 may_tell first most door door_now panel panel_now (map (met_report board es known) reports)
   worked_met is_told may_tell first most door door_now panel panel_now reports told worked met = record {
     door_then = worked.door_then;
     works = works_met first door panel reports worked.door_then panel_now worked.works met;
     stops = stops_met worked.stops;
   }
     where
-      count : length (map (met_report board es) reports) ≡ length reports
-      count = length-map reports (met_report board es)
+      count : length (map (met_report board es known) reports) ≡ length reports
+      count = length-map reports (met_report board es known)
 
-      stops_met : Stops is_told most (length reports) worked.door_then door_now → Stops may_tell most (length (map (met_report board es) reports)) worked.door_then door_now
+      stops_met : Stops is_told most (length reports) worked.door_then door_now → Stops may_tell most (length (map (met_report board es known) reports)) worked.door_then door_now
       stops_met (all as_many same) = all (count ∙ as_many) same
       stops_met (no_more fewer answered) = no_more (subst (λ n. n < most) (sym count) fewer) answered
       stops_met (failed fewer answered is) = failed (subst (λ n. n < most) (sym count) fewer) answered (told is)

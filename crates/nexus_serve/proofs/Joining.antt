@@ -7,6 +7,7 @@ use mathlib.Core.Logic.{dite}
 use native.Mathlib.Decide.{ℕ_discrete}
 use Rattle.std.proofs.lemmas.Bool.{cases_lt, ne_eqb, eq-eqb}
 use Rattle.std.specs.Prelude.{All, Contains, map}
+use Rattle.verdict_words.specs.declared.views.AtomicStep.{AtomicStep}
 use Rattle.verdict_words.specs.Histories.{own}
 use Rattle.policy_history.specs.declared.events.Entry.{Entry}
 use Rattle.policy_history.specs.declared.heads.Head.{Head}
@@ -22,20 +23,20 @@ use Rattle.nexus_serve.proofs.Gathering.{TellsAll}
 use Rattle.nexus_serve.proofs.Growing.{worked_met}
 use Rattle.nexus_serve.proofs.Lists.{all_left, all_right}
 
-module _ {P : Type 0} (panel : P → PanelView) (stays : ToldStaysTold) (board : Identity Entry Head) (es : List Entry) (is_told : Bool) (most : ℕ) where
+module _ {P : Type 0} (panel : P → PanelView) (stays : ToldStaysTold) (board : Identity Entry Head) (es : List Entry) (known : List AtomicStep) (is_told : Bool) (most : ℕ) where
   -- all workers have worked, once the passes were met again
   pub have_worked : (first : ℕ) (hired workers : List (WorkerValue P)) → AreDone panel board first most hired workers → TellsAll is_told workers
       → All (λ (report : ReportView). IsMetBy es report.pass) (reports_of workers)
-      → HaveWorked board.origin.setting (length board.origin.opening) 1 is_told first most (doors_of hired) (doors_of workers) (map panel (panels_of hired)) (map panel (panels_of workers)) (map (met_report board es) (reports_of workers))
+      → HaveWorked board.origin.setting (length board.origin.opening) 1 is_told first most (doors_of hired) (doors_of workers) (map panel (panels_of hired)) (map panel (panels_of workers)) (map (met_report board es known) (reports_of workers))
   have_worked first [] [] done tells met = refl
   have_worked first (j ∷ js) (w ∷ ws) (hired, done, others) (tells, rest) met =
       let mine = all_left (λ (report : ReportView). IsMetBy es report.pass) w.reports (reports_of ws) met in
       let later = all_right (λ (report : ReportView). IsMetBy es report.pass) w.reports (reports_of ws) met in
       let worked : HasWorked board.origin.setting (length board.origin.opening) 0 w.has_failed first most j.door w.door (panel j.panel) (panel w.panel) w.reports = rw (← hired.first_is, ← hired.count) done.worked in (
-        map (met_report board es) w.reports,
-        map (met_report board es) (reports_of ws),
-        map-append (met_report board es) w.reports (reports_of ws),
-        worked_met stays board es board.origin.setting (length board.origin.opening) w.has_failed is_told first most j.door w.door (panel j.panel) (panel w.panel) w.reports tells worked mine,
+        map (met_report board es known) w.reports,
+        map (met_report board es known) (reports_of ws),
+        map-append (met_report board es known) w.reports (reports_of ws),
+        worked_met stays board es known board.origin.setting (length board.origin.opening) w.has_failed is_told first most j.door w.door (panel j.panel) (panel w.panel) w.reports tells worked mine,
         have_worked (first + most) js ws others rest later,
       )
   have_worked first [] (w ∷ ws) done tells met = absurd done

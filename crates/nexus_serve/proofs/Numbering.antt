@@ -5,6 +5,7 @@ use Rattle.std.proofs.lemmas.List.Elements.{All-cons, All-nil}
 use Rattle.std.specs.Prelude.{All, slice_index_or}
 use Rattle.policy_history.specs.declared.events.Entry.{Entry}
 use Rattle.policy_history.specs.declared.heads.Head.{Head}
+use Rattle.verdict_words.specs.declared.views.AtomicStep.{AtomicStep}
 use Rattle.verdict_words.specs.Values.{Identity, PassValue}
 use Rattle.nexus_serve.specs.Views.{PanelView}
 use Rattle.nexus_serve.specs.Inner.Serving.{AreDone, AreHired, AreOfBoard}
@@ -24,7 +25,7 @@ pub next_of : {K : Type 0} (book book_then : BookValue K) (n : ℕ) → book_the
 next_of book book_then n is = rw (is) refl
 
 -- a pass that was made now is not used
-pub pass_entered : (board : Identity Entry Head) (entries : List Entry) (session : ℕ) (pass : PassValue Entry Head) → pass ≡ record { board = board; session = session; seen = entries; trail = [] }
+pub pass_entered : {known : List AtomicStep} (board : Identity Entry Head) (entries : List Entry) (session : ℕ) (pass : PassValue Entry Head) → pass ≡ record { board = board; session = session; seen = entries; trail = []; known = known }
     → All (λ (entry : Entry). entry.session ≢ session) entries → IsUnused board pass × (pass.session ≡ session)
 pass_entered board entries session pass is none = rw (is) (record { board_is = refl; trail = refl; unused = none }, refl)
 

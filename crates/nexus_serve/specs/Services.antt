@@ -1,5 +1,5 @@
 -- What a service leaves: its journal, the reports of its sessions, and the text that it wrote.
-use Rattle.std.specs.Prelude.{◌≡◌, ◌<◌, ◌+◌, ◌⊎◌, ℕ, List, [], ◌∷◌, ◌++◌, length, map, take, drop, All, Contains, Bool, true, false, Option, Some, None, codes}
+use Rattle.std.specs.Prelude.{◌≡◌, ◌+◌, ◌⊎◌, ℕ, List, [], ◌∷◌, ◌++◌, length, map, take, drop, All, Contains, Bool, true, false, Option, Some, None, codes}
 use Rattle.nx_io.specs.Streams.{Rose, Sends, SendsPart}
 use Rattle.policy_history.specs.declared.events.Entry.{Entry}
 use Rattle.policy_history.specs.declared.heads.Head.{Head}
@@ -8,8 +8,10 @@ use Rattle.policy_history.specs.Machine.{IsAccepted, IsLegal, replay}
 use Rattle.policy_history.specs.PolicyTexts.{ended, front, line_of, policy_text}
 use Rattle.policy_history.specs.Values.{History, entry_trees, greatest_of}
 use Rattle.verdict_words.specs.Histories.{IsPrefix, own}
-use Rattle.verdict_words.specs.Rule.{IsPart, Replays, Stepped, last_met}
-use Rattle.verdict_words.specs.Words.{register_word}
+use Rattle.verdict_words.specs.Orders.{IsDone, Replays, loads, told_of, trail_steps}
+use Rattle.verdict_words.specs.Rule.{last_met}
+use Rattle.verdict_words.specs.Words.{first_words}
+use Rattle.verdict_words.specs.declared.views.AtomicStep.{AtomicStep}
 use Rattle.verdict_words.specs.declared.views.Item.{Item}
 use Rattle.verdict_words.specs.declared.views.Item.TheVariants.{Met}
 use Rattle.policy_book.specs.Books.{session_of}
@@ -55,13 +57,18 @@ pub record HasSeenAll (es : List Entry) (report : ReportView) : Type 0 where
 abbrev pub sessions_of : List ReportView → List ℕ
 sessions_of reports = map (λ (report : ReportView). report.session) reports
 
--- For each register there is one list of all steps that sessions made on it, which replays from 0: the part of each session is what its pass
--- tells, in order, and there is no step of another
-abbrev pub HaveOneOrder : List ReportView → Type 0
-HaveOneOrder reports = (object : ℕ) → object < 4096 →
-    (steps : List Stepped) × (word : ℕ) × Replays 0 steps word
-    × All (λ (report : ReportView). IsPart (register_word object) steps report.session report.pass.trail) reports
-    × All (λ (step : Stepped). Contains (sessions_of reports) step.session) steps
+-- There is one order of all atomic steps that were made on the board. It leads from the first words on, and each step found what those before it
+-- left; the last one is the owner's load of the count, which found the length of the journal. Every pass knows the whole order, and its
+-- session's steps in it are those that its trail tells. All other steps are the owner's
+pub record HaveOneOrder (opening es : List Entry) (reports : List ReportView) : Type 0 where
+  pub order : List AtomicStep
+  pub words : List ℕ
+  pub replays : Replays (first_words (length opening)) order words
+  pub done : All (λ (step : AtomicStep). IsDone step.action step.session step.word) order
+  pub whole : (before : List AtomicStep) × (order ≡ before ++ loads 0 0 (length es) ∷ [])
+  pub known : All (λ (report : ReportView). report.pass.known ≡ order) reports
+  pub own_steps : All (λ (report : ReportView). told_of order report.session ≡ trail_steps report.session report.pass.trail) reports
+  pub within : All (λ (step : AtomicStep). (step.session ≡ 0) ⊎ Contains (sessions_of reports) step.session) order
 
 -- What workers leave behind: the journal is legal and begins with the entries that were there; the workers have worked, in sessions that are
 -- numbered behind the greatest session before; each further entry was made in one of these; and each session was told over the one journal.
@@ -72,7 +79,7 @@ pub record IsServed (h : Head) (opening es : List Entry) (sessions : ℕ) (doors
   pub ends : (end ≡ Done) ⊎ ((end ≡ DoorFault) × SomeFailed doors doors_now)
   pub seen : All (HasSeenAll es) reports
   pub made : All (λ (entry : Entry). Contains (sessions_of reports) entry.session) (drop (length opening) es)
-  pub registers : HaveOneOrder reports
+  pub order : HaveOneOrder opening es reports
 
 -- What a sink was sent of the policy text: all of it; or all but for its last line, and a proper part of one more entry's line or of the last
 -- line, since the sink failed

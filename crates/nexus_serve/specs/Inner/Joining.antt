@@ -4,14 +4,15 @@ use Rattle.policy_history.specs.declared.events.Entry.{Entry}
 use Rattle.policy_history.specs.declared.heads.Head.{Head}
 use Rattle.verdict_words.specs.Histories.{IsPrefix, own}
 use Rattle.verdict_words.specs.Settling.{met_of}
+use Rattle.verdict_words.specs.declared.views.AtomicStep.{AtomicStep}
 use Rattle.verdict_words.specs.Values.{Identity, PassValue, met_seen}
 use Rattle.policy_book.specs.Books.{session_of}
 use Rattle.nexus_serve.specs.Views.{ReportView}
 use Rattle.nexus_serve.specs.Inner.Working.{WorkerValue}
 
--- a report whose pass was met once more, the journal having these entries
-abbrev pub met_report : Identity Entry Head → List Entry → ReportView → ReportView
-met_report board es report = record report { pass = met_of board es report.pass.session report.pass.trail }
+-- a report whose pass was met once more, the journal having these entries, and these steps being known
+abbrev pub met_report : Identity Entry Head → List Entry → List AtomicStep → ReportView → ReportView
+met_report board es known report = record report { pass = met_of board es known report.pass.session report.pass.trail }
 
 -- the reports of all workers, in order
 abbrev pub reports_of : {P : Type 0} → List (WorkerValue P) → List ReportView

@@ -1,15 +1,10 @@
 -- What is handed back behind the workers.
-use Rattle.std.specs.Prelude.{◌≡◌, ◌<◌, ℕ, List, [], All, Some, None, Bool, true, false, codes, if◌then◌else◌}
+use Rattle.std.specs.Prelude.{◌≡◌, List, [], All, Some, None, Bool, true, false, codes, if◌then◌else◌}
 use Rattle.nx_io.specs.Streams.{Rose, Sends, SendsPart}
 use Rattle.policy_history.specs.PolicyTexts.{ended}
-use Rattle.policy_history.specs.declared.events.Entry.{Entry}
-use Rattle.policy_history.specs.declared.heads.Head.{Head}
-use Rattle.verdict_words.specs.Rule.{IsPart}
 use Rattle.verdict_words.specs.Settling.{all_met}
-use Rattle.verdict_words.specs.Steps.{OneList}
-use Rattle.verdict_words.specs.Values.{PassValue}
-use Rattle.verdict_words.specs.Words.{register_word}
-use Rattle.policy_book.specs.Books.{BookValue, IsLegalBook, IsMetIn, IsNumbered, head_of, trees_of}
+use Rattle.verdict_words.specs.declared.views.AtomicStep.{AtomicStep}
+use Rattle.policy_book.specs.Books.{AreGatheredIn, BookValue, IsLegalBook, IsMetIn, IsNumbered, head_of, trees_of}
 use Rattle.nexus_serve.specs.declared.service.ServeEnd.{ServeEnd}
 use Rattle.nexus_serve.specs.declared.service.ServeEnd.TheVariants.{Done, DoorFault, Memory}
 use Rattle.nexus_serve.specs.Views.{DoorView, ReportView}
@@ -45,12 +40,13 @@ pub record IsReported {K P : Type 0} (book : BookValue K) (start : SinkView) (ga
   pub sink_now : SinkView
   pub sink : served.sink ≡ Some sink_now
   pub text : IsTextSent (head_of book) (trees_of book) served.written start sink_now
-  pub reports : served.reports ≡ joined gathered.rests (all_met book.board book.entries gathered.passes)
+  pub known : List AtomicStep
+  pub reports : served.reports ≡ joined gathered.rests (all_met book.board book.entries known gathered.passes)
   pub doors : served.doors ≡ gathered.doors
   pub panels : served.panels ≡ gathered.panels
   pub end : served.end ≡ end_of gathered.has_failed
   pub met : All (IsMetIn book) gathered.passes
-  pub registers : (object : ℕ) → object < 4096 → OneList book.board.origin.first book.next (λ steps. All (λ (pass : PassValue Entry Head). IsPart (register_word object) steps pass.session pass.trail) (all_met book.board book.entries gathered.passes))
+  pub order : AreGatheredIn book gathered.passes known
   pub legal : IsLegalBook book
   pub numbered : IsNumbered book
 

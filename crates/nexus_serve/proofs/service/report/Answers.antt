@@ -12,7 +12,8 @@ pub returns-in-Ok : goal.returns-in-Ok
 returns-in-Ok g c =
     let closed = rw (c.settle-passes.ensures.book) at c.close.ensures.closed in
     let rests = c.gathered.inside.rests.items in
-    let passes : c.settle-passes.result.items ≡ all_met c.args.book.board c.args.book.entries c.gathered.inside.passes.items = c.settle-passes.ensures.passes ∙ ap (λ b. all_met b c.args.book.entries c.gathered.inside.passes.items) (sym c.requires.board) in
+    let passes : c.settle-passes.result.items ≡ all_met c.args.book.board c.args.book.entries c.settle-passes.new.self.known c.gathered.inside.passes.items =
+    c.settle-passes.ensures.passes ∙ ap (λ b. all_met b c.args.book.entries c.settle-passes.new.self.known c.gathered.inside.passes.items) (sym c.requires.board) in
     rw (← c.gathered.view_is)
     (record {
       reported = inr (record {
@@ -20,6 +21,7 @@ returns-in-Ok g c =
         sink_now = closed.sink_now;
         sink = closed.sink;
         text = closed.text;
+        known = c.settle-passes.new.self.known;
         reports =
             closed.reports_are ∙ ap (map (report_view (link_view g.D.Link.Link.left g.D.Link.Link.taken g.D.Link.Link.sent g.D.Link.Link.over g.D.Link.Link.closed g.D.Link.Link.place g.D.Link.Link.toward g.D.Link.Link.faults))) (c.in-Ok.ensures ∙ ap (λ l. l ++ raw_joined rests c.settle-passes.result.items) c.gathered.invariant)
             ∙ joined_views (link_view g.D.Link.Link.left g.D.Link.Link.taken g.D.Link.Link.sent g.D.Link.Link.over g.D.Link.Link.closed g.D.Link.Link.place g.D.Link.Link.toward g.D.Link.Link.faults) rests c.settle-passes.result.items ∙ ap (joined (map (rest_view (link_view g.D.Link.Link.left g.D.Link.Link.taken g.D.Link.Link.sent g.D.Link.Link.over g.D.Link.Link.closed g.D.Link.Link.place g.D.Link.Link.toward g.D.Link.Link.faults)) rests)) passes;
@@ -27,7 +29,7 @@ returns-in-Ok g c =
         panels = closed.panels_are;
         end = closed.end;
         met = c.settle-passes.ensures.met;
-        registers = λ object small. rw (passes) at c.settle-passes.ensures.registers object small;
+        order = c.settle-passes.ensures.known;
         legal = closed.legal;
         numbered = closed.numbered;
       });
