@@ -7,7 +7,11 @@ use Rattle.nx_io.proofs.ForCallers.{gained-by, gave-by, grows-by, prepended-prep
 use Rattle.authority_ask.specs.Panels.{Told}
 use Rattle.guard_core.specs.Judging.{asks_after}
 use Rattle.session_wire.specs.declared.replies.Reply.{Reply}
+use Rattle.session_core.specs.Earned.{IsTrueReport}
+use Rattle.session_core.specs.Served.{IsServedSo, Reported}
 use Rattle.session_core.specs.declared.lines.Asking.{Asking}
+use Rattle.session_core.proofs.EarnedReplies.{tells_what_is_true}
+use Rattle.session_core.proofs.RisingPoints.{tells_in_order}
 use Rattle.session_core.specs.Answers.{Outcome, faults_after_reply}
 use Rattle.policy_history.specs.Events.{EntryTree}
 use Rattle.session_wire.specs.declared.requests.Request.{Request}
@@ -102,3 +106,13 @@ leads_then h es s before (q ∷ qs) (r ∷ rs) asks steps added last request tur
 )
 leads_then h es s before [] (r ∷ rs) asks steps added last request turn leads answers = absurd leads
 leads_then h es s before (q ∷ qs) [] asks steps added last request turn leads answers = absurd leads
+
+-- what is reported of a session is true
+pub report_is_true : {h : Head} {low : ℕ} {report : Reported} {asks : List Told} {later : ℕ} → IsServedSo h low report asks later → IsTrueReport h report.seen low report asks
+report_is_true {h} {low} {report} {asks} served = record {
+  requests = served.requests;
+  replies = served.replies;
+  ended = served.ended;
+  truth = tells_what_is_true h report.seen report.session low served.requests served.replies asks _ served.last served.told;
+  points = tells_in_order h report.seen report.session low served.requests served.replies asks _ served.last served.told;
+}

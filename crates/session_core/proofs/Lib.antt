@@ -21,3 +21,7 @@ mod BoardCalls
 mod BoardSnaps
 mod BoardTurns
 mod BoardGoing
+mod EarnedCalls
+mod EarnedReplies
+mod RisingPoints
+mod EarnedAlone

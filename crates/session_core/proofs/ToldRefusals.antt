@@ -40,7 +40,7 @@ abbrev is_done_reply : Reply → Bool
 is_done_reply (Done at number) = true
 is_done_reply _ = false
 
-abbrev is_verdict_reply : Reply → Bool
+abbrev pub is_verdict_reply : Reply → Bool
 is_verdict_reply (Allowed at hit value) = true
 is_verdict_reply (Denied at cause line fault) = true
 is_verdict_reply _ = false
@@ -54,13 +54,13 @@ greeting_not_done at s (Some p) found = refl
 greeting_not_done at s None None = refl
 greeting_not_done at s None (Some p) = refl
 
-greeting_no_verdict : (at s : ℕ) (who found : Option ℕ) → is_verdict_reply (greeted at s who found).reply ≡ false
+pub greeting_no_verdict : (at s : ℕ) (who found : Option ℕ) → is_verdict_reply (greeted at s who found).reply ≡ false
 greeting_no_verdict at s (Some p) found = refl
 greeting_no_verdict at s None None = refl
 greeting_no_verdict at s None (Some p) = refl
 
 -- a turn whose reply is another kind than this
-other_kind : (kind : Reply → Bool) {turn of : Turn} {reply : Reply} → turn ≡ of → turn.reply ≡ reply → kind reply ≡ true → kind of.reply ≡ false → ⊥
+pub other_kind : (kind : Reply → Bool) {turn of : Turn} {reply : Reply} → turn ≡ of → turn.reply ≡ reply → kind reply ≡ true → kind of.reply ≡ false → ⊥
 other_kind kind is replied in_kind off = true≢false (sym in_kind ∙ sym (ap kind replied) ∙ ap (λ (t : Turn). kind t.reply) is ∙ off)
 
 module _ {turn : Turn} {at number : ℕ} (replied : turn.reply ≡ Done at number) where
@@ -167,8 +167,9 @@ pub record IsVerdictOf (h : Head) (es : List EntryTree) (before : Standing) (p :
   pub late : before.low ≤ n
   pub within : n ≤ length es
   pub rests : RestsOnCase h es before p op object n hit verdict turn.asks
+  pub unasked : hit ≡ 1 → turn.asks ≡ []
 
-misses_low : {h : Head} {es : List EntryTree} {before : Standing} {p : ℕ} {op object : List ℕ} {low : ℕ} {steps : List Item} → Misses h es before p op object low steps → before.low ≤ low
+pub misses_low : {h : Head} {es : List EntryTree} {before : Standing} {p : ℕ} {op object : List ℕ} {low : ℕ} {steps : List Item} → Misses h es before p op object low steps → before.low ≤ low
 misses_low (told.unknown is_known low_is none) = omega (arith, low_is)
 misses_low (told.missed place slot of_object of_store looks no_hit steps_are) = looks.seen.0
 
@@ -191,10 +192,11 @@ module _ (h : Head) (es : List EntryTree) (before : Standing) (turn : Turn) (p :
     late = late;
     within = within;
     rests = on_judged k finding refl object_is refl judged;
+    unasked = λ one. absurd (omega (arith, one));
   }
   judges_verdict late within (told.down k line object_is broken is) = no_verdict is refl
 
-  call_verdict : Calls h es before p op object arg turn → IsVerdictHere
+  pub call_verdict : Calls h es before p op object arg turn → IsVerdictHere
   call_verdict (told.hit n place slot of_object of_store value held verdict ran looks makes stands right runs is) = record {
     n = n;
     hit = 1;
@@ -205,10 +207,11 @@ module _ (h : Head) (es : List EntryTree) (before : Standing) (turn : Turn) (p :
     late = looks.seen.0;
     within = looks.seen.1;
     rests = on_kept place refl looks right;
+    unasked = λ _. ap (λ (t : Turn). t.asks) is;
   }
   call_verdict (told.snapped low n looked misses seen judges) = let least = misses_low misses in judges_verdict (omega (arith, least, seen.0)) seen.1 judges
 
-gives_up_silent : {h : Head} {es : List EntryTree} {before : Standing} {p : ℕ} {op object : List ℕ} {turn : Turn} → GivesUp h es before p op object turn → turn.reply ≡ NoMemory
+pub gives_up_silent : {h : Head} {es : List EntryTree} {before : Standing} {p : ℕ} {op object : List ℕ} {turn : Turn} → GivesUp h es before p op object turn → turn.reply ≡ NoMemory
 gives_up_silent (told.looked low steps misses is) = ap (λ (t : Turn). t.reply) is
 gives_up_silent (told.met low n steps misses seen asked is) = ap (λ (t : Turn). t.reply) is
 

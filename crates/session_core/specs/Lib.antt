@@ -1,4 +1,5 @@
 pub mod Answers
+pub mod Earned
 pub mod Ends
 pub mod Inner
 pub mod Reaching

@@ -1,6 +1,18 @@
 //! The laws of what a session over a shared board is told.
+ghost use Rattle.session_core.specs.Earned.{TellsInOrder, TellsWhatIsTrue, TellsWhatIsTrueAlone};
 ghost use Rattle.session_core.specs.ToldLaws.{OnlyAllowedRuns, OnlyDoneAdds, ToldStaysTold};
 ghost use Rattle.session_core.specs.ToldRows.{AllowedAndKept, AllowedAndOtherSaid, AllowedAndThenDeleted, AllowedThenDenied, AskedEachTime, ChangesAreSeen, DeletedStillAllowed, DoneWithoutEntry, FirstCallHits, GreetedOnce, NotRecordedIsRefused, OtherRegionLeaves, SameRegionRaises, WrongLineAndThenCleared, WrongLineKept, YesUsedTwice};
+
+/// What is told of a call is true. Each reply that allows one is earned: at the point that it names the goal in force is derived
+/// from labels that the caller holds there and from statements to which authorities answered Yes in this very call. Each reply
+/// that denies one tells the first cause that is true there. No reply names a point before an earlier one's. The same
+/// holds of sessions over one journal, with no others. The call does nothing.
+/// `docs/GUARANTEES.md`, "What an answer means", reads the definitions aloud.
+pub fn told_replies_are_earned()
+    ensures truth { TellsWhatIsTrue }
+    ensures points { TellsInOrder }
+    ensures alone { TellsWhatIsTrueAlone }
+{}
 
 /// What a session was told over its history it was told over every longer one too. The call does nothing.
 #[tactic(auto, using(crate::proofs::ToldLaws::told_stays_told))]

@@ -1,0 +1,102 @@
+-- The points that the replies of a session name.
+use Rattle.std.proofs.Common.{◌≡◌, ◌≤◌, ℕ, zero, suc, List, [], ◌∷◌, Option, Some, None, refl, sym, ap, arith, ◌∙◌}
+use Rattle.std.specs.Prelude.{slice_get}
+use Rattle.nal_rules.specs.declared.verdicts.Verdict.{Verdict}
+use Rattle.nal_rules.specs.declared.verdicts.Verdict.TheVariants.{Allowed as AllowedVerdict, Denied as DeniedVerdict}
+use Rattle.policy_history.specs.declared.heads.Head.{Head}
+use Rattle.policy_history.specs.Events.{EntryTree, EventTree, admitted}
+use Rattle.authority_ask.specs.Panels.{Told as Ask}
+use Rattle.session_wire.specs.declared.requests.Request.{Request}
+use Rattle.session_wire.specs.declared.replies.Reply.{Reply}
+use Rattle.session_wire.specs.declared.replies.Reply.TheVariants.{NoMemory}
+use Rattle.verdict_words.specs.declared.views.Item.{Item}
+use Rattle.session_core.specs.Answers.{greeted}
+use Rattle.session_core.specs.Standing.{Standing, beginning}
+use Rattle.session_core.specs.Told.{Answers, Calls, Changes, IsTold, Judges, Leads, Turn, verdict_reply}
+use Rattle.session_core.specs.Told as told
+use Rattle.session_core.specs.Earned.{PointsRise, TellsInOrder, point_of}
+use Rattle.session_core.proofs.EarnedReplies.{answers_low}
+use Rattle.session_core.proofs.ToldRefusals.{gives_up_silent, misses_low}
+
+-- the point of a reply lies between what the session had seen and what it has seen behind it
+abbrev Between : Standing → Turn → ℕ → Type 0
+Between before turn a = (before.low ≤ a) × (a ≤ turn.after.low)
+
+between : (before : Standing) {turn of : Turn} {a n : ℕ} → turn ≡ of → point_of of.reply ≡ Some n → of.after.low ≡ n → before.low ≤ n → point_of turn.reply ≡ Some a → Between before turn a
+between before {turn = turn} {a = a} {n = n} is names low late e =
+    let same : n ≡ a = cc (names, e, ap (λ (t : Turn). point_of t.reply) is) in
+    let after = ap (λ (t : Turn). t.after.low) is in
+    (omega (arith, late, same), omega (arith, same, low, after))
+
+verdict_point : (n hit value : ℕ) (verdict : Verdict) → point_of (verdict_reply n hit value verdict) ≡ Some n
+verdict_point n hit value AllowedVerdict = refl
+verdict_point n hit value (DeniedVerdict cause) = refl
+
+greeting_point : (at s : ℕ) (who found : Option ℕ) → point_of (greeted at s who found).reply ≡ Some at
+greeting_point at s (Some p) found = refl
+greeting_point at s None None = refl
+greeting_point at s None (Some p) = refl
+
+silent : (turn : Turn) {a : ℕ} {A : Type 0} → turn.reply ≡ NoMemory → point_of turn.reply ≡ Some a → A
+silent turn nothing e = absurd (cc (ap point_of nothing, e))
+
+module _ {turn : Turn} {a : ℕ} (e : point_of turn.reply ≡ Some a) where
+  judges_between : {h : Head} {st : _} {before : Standing} {p : ℕ} {op object : List ℕ} {arg n : ℕ} {looked : List Item} → before.low ≤ n → Judges h st before p op object arg n looked turn → Between before turn a
+  judges_between {before = before} late (told.no_object none is) = between before is refl refl late e
+  judges_between {before = before} {n = n} late (told.judged k value finding kept ran object_is judged keeps runs is) = between before is (verdict_point n 0 value _) refl late e
+  judges_between {before = before} late (told.down k line object_is broken is) = between before is refl refl late e
+
+  calls_between : {h : Head} {es : List EntryTree} {before : Standing} {p : ℕ} {op object : List ℕ} {arg : ℕ} → Calls h es before p op object arg turn → Between before turn a
+  calls_between {before = before} (told.hit n place slot of_object of_store value held verdict ran looks makes stands right runs is) = between before is (verdict_point n 1 value verdict) refl looks.seen.0 e
+  calls_between (told.snapped low n looked misses seen judges) = let least = misses_low misses in judges_between (omega (arith, least, seen.0)) judges
+
+  changes_between : {h : Head} {es : List EntryTree} {s : ℕ} {before : Standing} {p : ℕ} {event : EventTree} → Changes h es s before p event turn → Between before turn a
+  changes_between {before = before} (told.refused m refusal seen decided is) = between before is refl refl seen.0 e
+  changes_between {before = before} (told.not_recorded m due seen decided is) = between before is refl refl seen.0 e
+  changes_between {before = before} (told.done m due seen decided got is) = let least = seen.0 in between before is refl refl (omega (arith, least)) e
+
+  answers_between : {h : Head} {es : List EntryTree} {s : ℕ} {before : Standing} {request : Request} → Answers h es s before request turn → Between before turn a
+  answers_between {h = h} {s = s} {before = before} (told.hello name secret greeting is greeted_is turn_is) =
+      between before turn_is (ap (λ g. point_of g.reply) greeted_is ∙ greeting_point before.low s before.who (admitted h.principals name secret)) refl (omega arith) e
+  answers_between {before = before} (told.early nobody other is) = between before is refl refl (omega arith) e
+  answers_between (told.change p event who is changes) = changes_between changes
+  answers_between (told.call p op object arg who is calls) = calls_between calls
+  answers_between (told.given_up is) = silent turn (ap (λ (t : Turn). t.reply) is) e
+  answers_between (told.call_given_up p op object arg who is gives_up) = silent turn (gives_up_silent gives_up) e
+
+-- every point is at least what the session had seen as it came here
+from_low : (h : Head) (es : List EntryTree) (s : ℕ) (requests : List Request) (replies : List Reply) (before : Standing) (asks : List Ask) (steps : List Item) (added : List EntryTree) (last : Standing)
+    → Leads h es s before requests replies asks steps added last → (i a : ℕ) (reply : Reply) → slice_get replies i ≡ Some reply → point_of reply ≡ Some a → before.low ≤ a
+from_low h es s [] [] before asks steps added last leads i a reply none e = absurd (cc none)
+from_low h es s [] (r ∷ rs) before asks steps added last leads i a reply none e = absurd leads
+from_low h es s (q ∷ qs) [] before asks steps added last leads i a reply none e = absurd (cc none)
+from_low h es s (q ∷ qs) (r ∷ rs) before asks steps added last leads zero a reply here e =
+    let same : leads.0.reply ≡ reply = cc (leads.5, here) in
+    (answers_between (ap point_of same ∙ e) leads.4).0
+from_low h es s (q ∷ qs) (r ∷ rs) before asks steps added last leads (suc i) a reply here e =
+    let least = answers_low leads.4 in
+    let later = from_low h es s qs rs leads.0.after leads.1 leads.2 leads.3 last leads.9 i a reply here e in
+    omega (arith, least, later)
+
+rising : (h : Head) (es : List EntryTree) (s : ℕ) (requests : List Request) (replies : List Reply) (before : Standing) (asks : List Ask) (steps : List Item) (added : List EntryTree) (last : Standing)
+    → Leads h es s before requests replies asks steps added last → (i j a b : ℕ) (reply next : Reply) → i ≤ j → slice_get replies i ≡ Some reply → slice_get replies j ≡ Some next
+    → point_of reply ≡ Some a → point_of next ≡ Some b → a ≤ b
+rising h es s [] [] before asks steps added last leads i j a b reply next order here there e f = absurd (cc here)
+rising h es s [] (r ∷ rs) before asks steps added last leads i j a b reply next order here there e f = absurd leads
+rising h es s (q ∷ qs) [] before asks steps added last leads i j a b reply next order here there e f = absurd (cc here)
+rising h es s (q ∷ qs) (r ∷ rs) before asks steps added last leads zero zero a b reply next order here there e f =
+    let same : a ≡ b = cc (here, there, e, f) in omega (arith, same)
+rising h es s (q ∷ qs) (r ∷ rs) before asks steps added last leads zero (suc j) a b reply next order here there e f =
+    let same : leads.0.reply ≡ reply = cc (leads.5, here) in
+    let first = (answers_between (ap point_of same ∙ e) leads.4).1 in
+    let later = from_low h es s qs rs leads.0.after leads.1 leads.2 leads.3 last leads.9 j b next there f in
+    omega (arith, first, later)
+rising h es s (q ∷ qs) (r ∷ rs) before asks steps added last leads (suc i) zero a b reply next order here there e f = absurd (omega (arith, order))
+rising h es s (q ∷ qs) (r ∷ rs) before asks steps added last leads (suc i) (suc j) a b reply next order here there e f =
+    rising h es s qs rs leads.0.after leads.1 leads.2 leads.3 last leads.9 i j a b reply next (omega (arith, order)) here there e f
+
+pub tells_in_order : TellsInOrder
+tells_in_order h es s low requests replies asks trail last t i j a b reply next order here there e f =
+    let first = t.seen.0 in
+    let least = from_low h es s requests replies (beginning t.first) asks t.steps t.added last t.leads i a reply here e in
+    (omega (arith, first, least), rising h es s requests replies (beginning t.first) asks t.steps t.added last t.leads i j a b reply next order here there e f)
