@@ -10,3 +10,5 @@ mod Seeing
 mod Finishing
 mod Texts
 mod Crossing
+mod TruthOfReports
+pub mod ForCallers

@@ -5,6 +5,8 @@ ghost use Rattle.policy_history.specs.Values.{entry_trees, greatest_of};
 ghost use Rattle.policy_book.specs.Books.{IsLegalBook, IsNamed, IsNumbered, head_of, new_book, trees_of};
 ghost use Rattle.nexus_serve.specs.Views.{door_view, link_view, panel_view, report_view};
 ghost use Rattle.nexus_serve.specs.Services.{IsJournal, IsTextSent, Serves};
+ghost use Rattle.nexus_serve.specs.TrueReports.{AreTrue};
+ghost use Rattle.policy_history.specs.declared.events.Entry.{Entry};
 ghost use Rattle.nexus_serve.specs.Inner.Gathering.{nothing};
 ghost use Rattle.nexus_serve.specs.Inner.Reporting.{IsClosed, IsEnded, IsHandedBack, IsLost, IsReported};
 ghost use Rattle.nexus_serve.specs.Inner.Serving.{AreDone, AreHired, AreOfBoard, doors_of, panels_of};
@@ -457,6 +459,7 @@ where
     requires numbers { greatest_of (entry_trees journal.entries) + length doors.items * sessions ≤ 2 ^ 64 - 2 }
     ensures served { Serves (panel_view P.said P.asks P.reached P.faults) sessions journal.head journal.entries (record { sent = K.sent sink; faults = K.faults sink })
         (map (door_view (link_view D.Link.left D.Link.taken D.Link.sent D.Link.over D.Link.closed D.Link.place D.Link.toward D.Link.faults) D.links D.over D.gave D.listened D.faults) doors.items) panels.items result }
+    ensures earned { (es : List Entry) → IsJournal result.journal journal.head es → AreTrue journal.head (entry_trees es) (length journal.entries) result.reports }
 {
     let first = journal.greatest_session() + 1;
     let Ok((text, room)) = prepare(alloc, &journal, doors.len(), sessions) else {
