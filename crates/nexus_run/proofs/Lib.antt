@@ -2,3 +2,4 @@ pub mod Words
 mod LoadEnds
 mod Commanded
 pub mod ClientCalls
+mod TrueRuns

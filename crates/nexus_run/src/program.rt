@@ -1,6 +1,11 @@
 ghost use Rattle.std.specs.Prelude.{◌≡◌, ◌≢◌, ◌⊎◌, ℕ, List, [], None, map, option_map};
 ghost use Rattle.nx_io.specs.Streams.{Gave, Grows, gained};
 ghost use Rattle.run_streams.specs.Runs.{sink_run, source_run};
+ghost use Rattle.policy_history.specs.declared.heads.Head.{Head};
+ghost use Rattle.policy_history.specs.declared.events.Entry.{Entry};
+ghost use Rattle.policy_history.specs.Values.{entry_trees};
+ghost use Rattle.nexus_serve.specs.Services.{IsJournal};
+ghost use Rattle.nexus_serve.specs.TrueReports.{AreTrue};
 ghost use Rattle.nexus_serve.specs.Views.{door_view, link_view, panel_view, report_view};
 ghost use Rattle.service_commands.specs.Clients.{EndsClient, RunsClient};
 ghost use Rattle.nexus_run.specs.Commanded.{RunsCommand};
@@ -88,6 +93,8 @@ where
           panel = result.panel;
           panels = result.panels.items;
         }) }
+    ensures earned { (h : Head) (es : List Entry) → IsJournal result.journal h es → (low : ℕ) × AreTrue h (entry_trees es) low
+        (map (report_view (link_view D.Link.left D.Link.taken D.Link.sent D.Link.over D.Link.closed D.Link.place D.Link.toward D.Link.faults)) result.reports.items) }
     ensures other_door { ¬ IsServiceCall (map (λ w. w.now) words.now) → ¬ IsClientCall (map (λ w. w.now) words.now) → result.door ≡ door }
     ensures unshared { ¬ IsServiceCall (map (λ w. w.now) words.now) → (result.reports.items ≡ []) × (result.doors.items ≡ []) × (result.panels.items ≡ []) }
     ensures other_panel { map (λ w. w.now) words.now ≢ script_words → ¬ IsServiceCall (map (λ w. w.now) words.now) → (result.panel ≡ panel) × (result.journal ≡ None) }

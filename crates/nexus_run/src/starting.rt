@@ -2,6 +2,11 @@ ghost use Rattle.std.specs.Prelude.{◌≡◌, ◌≢◌, ◌⊎◌, ℕ, List, 
 ghost use Rattle.std.specs.Process.{exit_status};
 ghost use Rattle.nx_io.specs.Streams.{Gave, Grows, gained};
 ghost use Rattle.run_streams.specs.Runs.{sink_run, source_run};
+ghost use Rattle.policy_history.specs.declared.heads.Head.{Head};
+ghost use Rattle.policy_history.specs.declared.events.Entry.{Entry};
+ghost use Rattle.policy_history.specs.Values.{entry_trees};
+ghost use Rattle.nexus_serve.specs.Services.{IsJournal};
+ghost use Rattle.nexus_serve.specs.TrueReports.{AreTrue};
 ghost use Rattle.nexus_serve.specs.Views.{door_view, link_view, panel_view, report_view};
 ghost use Rattle.nexus_run.specs.Arguments.{words_of_call};
 ghost use Rattle.service_commands.specs.Clients.{RunsClient};
@@ -94,6 +99,8 @@ where
           panel = result.panel;
           panels = result.panels.items;
         }) }
+    ensures earned { (h : Head) (es : List Entry) → IsJournal result.journal h es → (low : ℕ) × AreTrue h (entry_trees es) low
+        (map (report_view (link_view D.Link.left D.Link.taken D.Link.sent D.Link.over D.Link.closed D.Link.place D.Link.toward D.Link.faults)) result.reports.items) }
     ensures other_door { ¬ IsServiceCall (words_of_call (gained (A.told arguments.old) (A.told arguments.new))) → ¬ IsClientCall (words_of_call (gained (A.told arguments.old) (A.told arguments.new))) → result.door ≡ door }
     ensures unshared { ¬ IsServiceCall (words_of_call (gained (A.told arguments.old) (A.told arguments.new))) → (result.reports.items ≡ []) × (result.doors.items ≡ []) × (result.panels.items ≡ []) }
     ensures other_panel { words_of_call (gained (A.told arguments.old) (A.told arguments.new)) ≢ script_words → ¬ IsServiceCall (words_of_call (gained (A.told arguments.old) (A.told arguments.new))) → (result.panel ≡ panel) × (result.journal ≡ None) }

@@ -2,6 +2,7 @@ use Rattle.std.proofs.Common.{inl, inr, sym, ◌∙◌}
 use Rattle.nexus_run.proofs.ClientCalls.{client_not_plain, client_same, handed}
 use Rattle.service_commands.proofs.ForCallers.{runs_client, runs_service}
 use Rattle.nexus_run.proofs.Commanded.{none_commanded}
+use Rattle.nexus_run.proofs.TrueRuns.{no_report_true, service_true}
 use Rattle.nexus_run.proofs.Words.{serve_same}
 use Rattle.nexus_run.proofs.program.run.Goals as goal
 
@@ -33,3 +34,6 @@ returns-in-None-clause-client g c = λ address words is. absurd (c.in-None.ensur
 
 pub returns-in-None-clause-other_words : goal.returns-in-None-clause-other_words
 returns-in-None-clause-other_words g c = λ none. c.run_plain-end.ensures.other_words (λ plain. none (inl plain))
+
+pub returns-in-Some-clause-earned : goal.returns-in-Some-clause-earned
+returns-in-Some-clause-earned g c = λ h es is. service_true h es c.run_service.ensures.ends is

@@ -1,0 +1,35 @@
+-- The reports of a run are true.
+use Rattle.std.proofs.Common.{◌≡◌, ℕ, List, [], length, Option, Some, None, sym, subst}
+use Rattle.policy_history.specs.declared.heads.Head.{Head}
+use Rattle.policy_history.specs.declared.events.Entry.{Entry}
+use Rattle.policy_history.specs.Values.{History, entry_trees}
+use Rattle.run_streams.specs.Runs.{SourceRun}
+use Rattle.nexus_serve.specs.Hosting.{Plan}
+use Rattle.nexus_serve.specs.Services.{IsJournal, SinkView}
+use Rattle.nexus_serve.specs.TrueReports.{AreTrue}
+use Rattle.nexus_serve.specs.Views.{DoorView, PanelView, ReportView}
+use Rattle.nexus_serve.proofs.ForCallers.{hosts_true, none_true}
+use Rattle.service_commands.specs.Services.{EndedView, EndsService}
+use Rattle.service_commands.specs.Services as service
+
+-- the reports are true of the journal with this head and these entries, from the length on that it had as the service began
+abbrev pub AreTrueReports : Head → List Entry → List ReportView → Type 0
+AreTrueReports h es reports = (low : ℕ) × AreTrue h (entry_trees es) low reports
+
+-- where nothing was begun there is no journal
+no_journal : (journal : Option History) (h : Head) (es : List Entry) → journal ≡ None → IsJournal journal h es → ⊥
+no_journal None h es none is = is
+no_journal (Some journal) h es none is = cc none
+
+-- a run of `serve`
+pub service_true : {P : Type 0} {panel : P → PanelView} {plan : Plan} {source : SourceRun} {sink : SinkView} {door : DoorView} {asked : P} {ended : EndedView P} (h : Head) (es : List Entry)
+    → EndsService panel plan source sink door asked ended → IsJournal ended.journal h es → AreTrueReports h es ended.reports
+service_true h es (service.hosted head opening written end policy still hosts) is = (length opening, hosts_true h es hosts is)
+service_true h es (service.refused outcome sink_now status refusal unbegun output sends still still_sink) is = absurd (no_journal _ h es unbegun.journal is)
+service_true h es (service.refusal_cut_off outcome sink_now status refusal unbegun output sends still rose) is = absurd (no_journal _ h es unbegun.journal is)
+service_true h es (service.source_failed status unbegun output rose) is = absurd (no_journal _ h es unbegun.journal is)
+service_true h es (service.no_memory status unbegun output still) is = absurd (no_journal _ h es unbegun.journal is)
+
+-- a run of another command, which has no report
+pub no_report_true : (h : Head) (es : List Entry) (reports : List ReportView) → reports ≡ [] → AreTrueReports h es reports
+no_report_true h es reports none = (0, none_true h (entry_trees es) 0 reports none)
