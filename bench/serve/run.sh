@@ -4,6 +4,7 @@
 # 1 and with 4 connections, each of which waits for the reply to one request before the next, and kept calls also 32 at a time; with a journal of
 # few entries and with one of 200,000; and calls while another session changes the policy 500 times a second. Beside them what redis-server does
 # with GET and, with an append-only file that is not synced, with SET.
+# Then the kept calls that the clients for programs make: that in Python, and that in Go where there is Go.
 # It needs the built program (./nexus builds it), a C compiler and, for the ratios, redis-server and redis-benchmark (Debian's redis-server).
 # CALLS is how many calls a connection makes (64000). The writes of a connection are 3,840, as one principal may have few more.
 set -eu
@@ -13,7 +14,7 @@ calls=${CALLS:-64000}
 writes=3840
 port=${PORT:-42917}
 work=$(mktemp -d)
-redis= service= other=
+redis='' service='' other=''
 trap '[ -z "$redis$service$other" ] || kill $redis $service $other 2>/dev/null; rm -rf "$work"' EXIT
 ${CC:-cc} -O2 -o "$work/load" "$here/load.c" -lpthread
 
@@ -75,7 +76,7 @@ for entries in 0 200000; do
         busy_anew=$("$work/load" "$port" "$connections" "$calls" 1 miss)
         kill "$other" "$service" || true
         wait "$other" "$service" 2>/dev/null || true
-        other= service=
+        other='' service=''
         of="$connections connections, $entries entries"
         row "kept calls, $of" "$kept" get "$connections" "$calls" 1
         row "kept calls by 32, $of" "$many" get "$connections" "$calls" 32
@@ -84,4 +85,24 @@ for entries in 0 200000; do
         row "kept calls amid changes, $of" "$busy" get "$connections" "$calls" 1
         row "calls anew amid changes, $of" "$busy_anew" get "$connections" "$calls" 1
     done
+done
+
+# The clients for programs, beside each other. That in Python makes a quarter of the calls.
+if command -v go >/dev/null; then
+    (cd "$here/../../clients/go" && GOCACHE=$work/go GOPROXY=off CGO_ENABLED=0 go build -o "$work/load_go" ./cmd/load)
+fi
+for connections in 1 4; do
+    policy "$connections" 0 | "$program" serve "127.0.0.1:$port" $((connections + 1)) 64 >"$work/after" &
+    service=$!
+    # It waits until the service listens, which the others do not.
+    "$work/load" "$port" "$connections" 64 1 call >/dev/null
+    for depth in 1 32; do
+        of="$connections connections, $depth at a time"
+        python=$(python3 -B "$here/load.py" "$port" "$connections" $((calls / 4)) "$depth")
+        row "client in Python, $of" "$python" get "$connections" "$calls" "$depth"
+        [ ! -x "$work/load_go" ] || row "client in Go, $of" "$("$work/load_go" "$port" "$connections" "$calls" "$depth")" get "$connections" "$calls" "$depth"
+    done
+    kill "$service" || true
+    wait "$service" 2>/dev/null || true
+    service=''
 done

@@ -4,12 +4,13 @@
     clients/python/test_nexus_client.py [PROGRAM]
 
 Without PROGRAM, frames, lines and ends are tested, over pairs of sockets. With it, the client also plays sessions of `PROGRAM serve`
-over loopback. The hexadecimal rows are those of docs/FORMATS.md, "Frames", or were put together by hand from its tables. Prints
-`N tests of the client pass` and ends with 0, or what failed and ends with 1.
+over loopback. Lines and frames stand in clients/frames.txt. Prints `N tests of the client pass` and ends with 0, or what failed and
+ends with 1.
 """
 from __future__ import annotations
 
 import io
+import re
 import socket
 import struct
 import subprocess
@@ -30,48 +31,28 @@ from nexus_client import (
 
 program: Optional[str] = None
 
-# A request, its line, and its frame: the length, the kind, and then the fields.
-REQUESTS: list[tuple[Request, str, str]] = [
-    (Hello("bob", "pw"), "hello bob pw", "0000000a 01 0003626f62 00027077"),
-    (Say("bob", "ok"), "say bob : ok", "0000000a 02 0003626f62 00026f6b"),
-    (Transfer(3, "bob"), "transfer 3 bob", "0000000e 03 0000000000000003 0003626f62"),
-    (Delete(258), "delete 258", "00000009 04 0000000000000102"),
-    (NewObject("f"), "object f", "00000004 05 000166"),
-    (SetGoal("read", "f", "true"), "goal read f : true", "00000010 06 000472656164 000166 000474727565"),
-    (ClearGoal("read", "f"), "nogoal read f", "0000000a 07 000472656164 000166"),
-    (SetProof("read", "f", ""), "proof read f : ", "0000000c 08 000472656164 000166 0000"),
-    (ClearProof("read", "f"), "noproof read f", "0000000a 09 000472656164 000166"),
-    (Bind("bob.x", 2**64 - 1), "bind bob.x 18446744073709551615", "00000010 0a 0005626f622e78 ffffffffffffffff"),
-    (Unbind("bob"), "unbind bob", "00000006 0b 0003626f62"),
-    (
-        Call("read", "ledger_of_2026", 7),
-        "call read ledger_of_2026 7",
-        "0000001f 0c 000472656164 000e6c65646765725f6f665f32303236 0000000000000007",
-    ),
-]
-
-# A reply, its line, and its frame.
-REPLIES: list[tuple[Reply, str, str]] = [
-    (Welcome(1, 0), "welcome 1 0", "000000114100000000000000010000000000000000"),
-    (Done(3, 3), "done 3 3", "00000011 42 0000000000000003 0000000000000003"),
-    (Allowed(4, 1, 7), "allowed 4 1 7", "00000019 43 0000000000000004 0000000000000001 0000000000000007"),
-    (Denied(1, 1, 0, 0), "denied 1 GoalUnset", "00000021 44 0000000000000001 0000000000000001 0000000000000000 0000000000000000"),
-    (Denied(5, 4, 1, 0), "denied 5 LabelMissing 1", "00000021 44 0000000000000005 0000000000000004 0000000000000001 0000000000000000"),
-    (Denied(6, 3, 1, 12), "denied 6 Line 1 NotGoal", "00000021 44 0000000000000006 0000000000000003 0000000000000001 000000000000000c"),
-    (Denied(6, 9, 1, 13), "denied 6 9 1 13", "00000021 44 0000000000000006 0000000000000009 0000000000000001 000000000000000d"),
-    (Refused(1, 20), "refused 1 NotRecorded", "00000011 45 0000000000000001 0000000000000014"),
-    (Refused(0, 21), "refused 0 21", "00000011 45 0000000000000000 0000000000000015"),
-    (Down(4, 2), "down 4 2", "00000011 46 0000000000000004 0000000000000002"),
-    (NoMemory(), "nomemory", "00000001 47"),
-    (Bad(5), "bad 5", "00000009 48 0000000000000005"),
-]
-
-NO_LINES = [
-    "", "hello", "hello bob", "hello bob ", "hello  bob pw", "hello bob pw more", "hello says pw", "hello 1bob pw", "hello bob p\x7f",
-    "hello " + "b" * 65 + " pw", "hello bob " + "p" * 65, "say alice :", "say alice", "say a b : ok", "say  : ok", "object f ", "transfer 03 bob",
-    "transfer +3 bob", "delete -1", "delete 18446744073709551616", "delete ٣", "goal read : true", "call read f", "welcome 1 0", "Object f", " object f",
-    "say alice : " + "x" * 33_689,
+# The requests of frames.txt, in their order.
+REQUESTS: list[Request] = [
+    Hello("bob", "pw"), Say("bob", "ok"), Transfer(3, "bob"), Delete(258), NewObject("f"), SetGoal("read", "f", "true"), ClearGoal("read", "f"),
+    SetProof("read", "f", ""), ClearProof("read", "f"), Bind("bob.x", 2**64 - 1), Unbind("bob"), Call("read", "ledger_of_2026", 7),
 ]  # fmt: skip
+
+# The replies of frames.txt, in their order.
+REPLIES: list[Reply] = [
+    Welcome(1, 0), Done(3, 3), Allowed(4, 1, 7), Denied(1, 1, 0, 0), Denied(5, 4, 1, 0), Denied(6, 3, 1, 12), Denied(6, 9, 1, 13), Refused(1, 20),
+    Refused(0, 21), Down(4, 2), NoMemory(), Bad(5),
+]  # fmt: skip
+
+TABLES = (Path(__file__).resolve().parents[1] / "frames.txt").read_text()
+
+
+def rows(what: str) -> list[tuple[str, bytes]]:
+    """The requests or the replies of frames.txt: the line and the frame of each."""
+    return [(line, bytes.fromhex(row)) for line, row in re.findall(rf"^{what}: (.*) -> ([0-9a-f ]+)$", TABLES, re.MULTILINE)]
+
+
+# Lines that are none, beside those of frames.txt.
+NO_LINES = ["hello bob p\x7f", "hello bob pw\n", "hello " + "b" * 65 + " pw", "hello bob " + "p" * 65, "say alice : " + "x" * 33_689]
 
 
 def pair(timeout: float = 5) -> tuple[Client, socket.socket]:
@@ -85,15 +66,17 @@ class Frames(unittest.TestCase):
     """What is sent and what is read, byte by byte."""
 
     def test_requests(self) -> None:
-        for request, line, row in REQUESTS:
+        self.assertEqual(len(rows("request")), len(REQUESTS))
+        for request, (line, row) in zip(REQUESTS, rows("request")):
             with self.subTest(line):
-                self.assertEqual(encode(request), bytes.fromhex(row))
+                self.assertEqual(encode(request), row)
                 self.assertEqual(request_of_line(line), request)
 
     def test_replies(self) -> None:
-        for reply, line, row in REPLIES:
+        self.assertEqual(len(rows("reply")), len(REPLIES))
+        for reply, (line, row) in zip(REPLIES, rows("reply")):
             with self.subTest(line):
-                self.assertEqual(decode(bytes.fromhex(row)[4:]), reply)
+                self.assertEqual(decode(row[4:]), reply)
                 self.assertEqual(line_of(reply), line)
 
     def test_names_of_numbers(self) -> None:
@@ -103,7 +86,9 @@ class Frames(unittest.TestCase):
         self.assertEqual(Refused(0, 1).name, "NotOpen")
 
     def test_lines_that_are_none(self) -> None:
-        for line in NO_LINES:
+        lines: list[str] = re.findall(r'^none: "(.*)"$', TABLES, re.MULTILINE)
+        self.assertIn("transfer 03 bob", lines)
+        for line in [*lines, *NO_LINES]:
             with self.subTest(line[:40]), self.assertRaises(ValueError):
                 request_of_line(line)
         self.assertEqual(request_of_line("say alice : " + "x" * 33_688), Say("alice", "x" * 33_688))
@@ -147,8 +132,7 @@ class Ends(unittest.TestCase):
         self.end_of(b"", ClosedAtEdge)
 
     def test_torn(self) -> None:
-        for _, line, row in REPLIES:
-            data = bytes.fromhex(row)
+        for line, data in rows("reply"):
             for cut in range(1, len(data)):
                 with self.subTest(line, cut=cut):
                     self.end_of(data[:cut], Torn)
@@ -177,7 +161,7 @@ class Ends(unittest.TestCase):
 
     def test_pieces(self) -> None:
         client, service = pair()
-        data = b"".join(bytes.fromhex(row) for _, _, row in REPLIES)
+        data = b"".join(row for _, row in rows("reply"))
 
         def feed() -> None:
             for byte in data:
@@ -186,7 +170,7 @@ class Ends(unittest.TestCase):
         with client, service:
             feeder = threading.Thread(target=feed)
             feeder.start()
-            self.assertEqual([client.receive() for _ in REPLIES], [reply for reply, _, _ in REPLIES])
+            self.assertEqual([client.receive() for _ in REPLIES], REPLIES)
             feeder.join()
 
     def test_no_reply_in_time(self) -> None:

@@ -80,10 +80,11 @@ start_service() {
 }
 
 play_right() {
-    expect 'the storage service' $'welcome 1 0\ndone 1 0\ndone 2 0\ndone 3 3\ndone 4 0' \
-        "$("$program" client "127.0.0.1:$near_port" <"$top/examples/serve/storage.requests")"
-    expect 'bob' $'welcome 2 4\ndenied 4 NoProof\ndone 5 0\nallowed 5 0 0\nallowed 5 1 0' \
-        "$("$program" client "127.0.0.1:$near_port" <"$top/examples/serve/bob.requests")"
+    local name
+    for name in storage bob; do
+        expect "$name" "$(cat "$top/examples/serve/$name.replies")" \
+            "$("$program" client "127.0.0.1:$near_port" <"$top/examples/serve/$name.requests")"
+    done
 }
 
 # The frame of a welcome has 21 bytes.
