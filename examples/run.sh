@@ -3,7 +3,7 @@
 # status; has `nexus check` check each proof that was found; then the other ways in which the program ends; then plays `nexus serve`,
 # where there is a Python of 3.9 or later; then the commands of README and TOUR, the recipes of docs/OPERATING.md, the client for
 # programs, and the manual page; then the client in Go, what stands beside web
-# servers, and a tunnel.
+# servers, a tunnel, and pictures of proofs.
 #
 #   examples/run.sh [PROGRAM]     PROGRAM is ./nexus at the top of the repository where none is given
 #
@@ -174,7 +174,7 @@ elif ! python3 -B "$examples/documents.py" "$examples/../README.md" "$examples/.
 fi
 
 # The recipes of docs/OPERATING.md, the client for programs, and the manual page; then the client in Go, what stands beside web
-# servers, and a tunnel.
+# servers, a tunnel, and pictures of proofs.
 if ! "$examples/operating/run.sh" "$built"; then
     failed=$((failed + 1))
 fi
@@ -189,14 +189,16 @@ elif ! mandoc -T lint -W warning "$examples/../man/nexus.1"; then
     failed=$((failed + 1))
 fi
 
-# The client in Go, what stands beside web servers, and a tunnel.
+# The client in Go, what stands beside web servers, a tunnel, and pictures of proofs.
 if ! python3 -c 'import sys; sys.exit(sys.version_info < (3, 9))' 2>/dev/null; then
-    echo "clients/go, examples/nginx, examples/tunnel: skipped, since there is no python3 of 3.9 or later"
+    echo "clients/go, examples/nginx, examples/tunnel, docs/pictures: skipped, since there is no python3 of 3.9 or later"
 else
     "$examples/../clients/go/test.sh" "$built" || failed=$((failed + 1))
     python3 -B "$examples/../clients/python/test_nexus_http.py" "$built" || failed=$((failed + 1))
     "$examples/nginx/run.sh" "$built" || failed=$((failed + 1))
     "$examples/tunnel/run.sh" "$built" || failed=$((failed + 1))
+    python3 -B "$examples/../clients/python/test_proof_picture.py" || failed=$((failed + 1))
+    "$examples/../docs/pictures.sh" --check "$built" || failed=$((failed + 1))
 fi
 
 if [ "$failed" -gt 0 ] || [ "$passed" -eq 0 ]; then
