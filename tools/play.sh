@@ -1,30 +1,33 @@
 # shellcheck shell=bash
 # For scripts that play an example against a program of Debian, which have set `top` to the top of the repository.
 
+# Where Debian has nginx, which the path of a user other than root leaves out.
+PATH=$PATH:/usr/sbin
+
 # need COMMAND PACKAGE: whether there is the command. Where it is missing, root installs its package; nothing is started by that, now or
 # at the next start of the machine. What apt-get says is not shown.
 need() {
-    local policy=/usr/sbin/policy-rc.d ours=
     command -v "$1" >/dev/null && return 0
     [ "$(id -u)" -eq 0 ] && command -v apt-get >/dev/null || return 1
-    if [ ! -e "$policy" ]; then
-        printf '#!/bin/sh\nexit 101\n' >"$policy" && chmod 755 "$policy"
-        ours=1
-    fi
-    install_package "$2" || { apt_get update; install_package "$2"; }
-    [ -z "$ours" ] || rm -f "$policy"
-    if [ -d /run/systemd/system ]; then
-        systemctl disable "$2" 2>/dev/null
-    fi
+    (install_quietly "$2")
     command -v "$1" >/dev/null
 }
 
-apt_get() {
-    DEBIAN_FRONTEND=noninteractive timeout 300 apt-get -o Acquire::Retries=0 -o Acquire::http::Timeout=10 "$@" >/dev/null 2>&1
+# install_quietly PACKAGE: installs it, in a subshell, while the system is told to start no service.
+install_quietly() {
+    local policy=/usr/sbin/policy-rc.d
+    if [ ! -e "$policy" ]; then
+        trap 'rm -f /usr/sbin/policy-rc.d' EXIT
+        printf '#!/bin/sh\nexit 101\n' >"$policy" && chmod 755 "$policy"
+    fi
+    apt_get --yes --no-install-recommends install "$1" || { apt_get update && apt_get --yes --no-install-recommends install "$1"; }
+    if [ -d /run/systemd/system ]; then
+        systemctl disable "$1" 2>/dev/null
+    fi
 }
 
-install_package() {
-    apt_get --yes --no-install-recommends install "$1"
+apt_get() {
+    DEBIAN_FRONTEND=noninteractive timeout 300 apt-get -o Acquire::Retries=0 -o Acquire::http::Timeout=10 "$@" </dev/null >/dev/null 2>&1
 }
 
 # free_ports COUNT: prints so many ports of this machine on which nobody listens, each another one.
