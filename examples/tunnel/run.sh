@@ -49,10 +49,27 @@ hello() {
     echo 'hello bob bob-secret' | timeout 5 "$program" client "127.0.0.1:$1"
 }
 
+# await_bytes FILE PROCESS: waits until something is in the file, or the process has ended, and then ends it.
+await_bytes() {
+    for _ in $(seq 200); do
+        [ -s "$1" ] && break
+        kill -0 "$2" 2>/dev/null || break
+        sleep 0.05
+    done
+    kill "$2" 2>/dev/null
+    wait "$2" 2>/dev/null
+}
+
 # told WORD ..: sends bob's hello over TLS, with these words for the certificate, and prints how many bytes come back.
 told() {
-    { printf '\0\0\0\x12\x01\0\3bob\0\x0abob-secret' && sleep 0.4; } |
-        timeout 5 openssl s_client -connect "127.0.0.1:$far_port" -quiet -no_ign_eof "$@" 2>/dev/null | wc -c
+    rm -f "$work/said"
+    mkfifo "$work/said"
+    exec 8<>"$work/said"
+    printf '\0\0\0\x12\x01\0\3bob\0\x0abob-secret' >&8
+    openssl s_client -connect "127.0.0.1:$far_port" -quiet "$@" <&8 >"$work/told" 2>/dev/null &
+    await_bytes "$work/told" $!
+    exec 8>&-
+    wc -c <"$work/told"
 }
 
 # By the commands of docs/OPERATING.md.
@@ -105,7 +122,11 @@ play_certificates() {
 play_taken_off() {
     cp "$work/bob.cert" "$work/peers.pem"
     kill -HUP "$serve_tunnel"
-    sleep 0.3
+    for _ in $(seq 200); do
+        [ "$(grep -c 'Configuration successful' "$work/serve.log")" = 2 ] && break
+        sleep 0.05
+    done
+    sleep 0.2
     expect 'a certificate that was taken off' 0 "$(told -cert "$work/ann.pem" -key "$work/ann.pem")"
     expect 'one that was not' 'welcome 6 5' "$(hello "$near_port")"
 }
@@ -115,14 +136,11 @@ heard() {
     openssl s_server -accept "127.0.0.1:$rogue_port" -cert "$work/$1.pem" -key "$work/$1.pem" -quiet <&9 >"$work/heard" 2>/dev/null &
     local server=$!
     await_port "$rogue_port" || exit 1
-    hello "$astray_port" >/dev/null 2>&1 &
-    local client=$!
     # The server answers nothing, so a client that got through waits for it.
-    while [ ! -s "$work/heard" ] && kill -0 "$client" 2>/dev/null; do
-        sleep 0.05
-    done
-    kill "$client" "$server" 2>/dev/null
-    wait "$client" "$server" 2>/dev/null
+    hello "$astray_port" >/dev/null 2>&1 &
+    await_bytes "$work/heard" $!
+    kill "$server"
+    wait "$server" 2>/dev/null
     wc -c <"$work/heard"
 }
 
