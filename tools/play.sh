@@ -1,6 +1,8 @@
 # shellcheck shell=bash
 # For scripts that play an example against a program of Debian, which have set `top` to the top of the repository.
 
+: "${top:?}"
+
 # Where Debian has nginx, which the path of a user other than root leaves out.
 PATH=$PATH:/usr/sbin
 
@@ -53,6 +55,5 @@ await_port() {
 
 # shown HEADING: the indented lines that docs/OPERATING.md shows in this section, without blanks in front. Commands begin with `$ `.
 shown() {
-    # shellcheck disable=SC2154
     sed -n "/^## $1\$/,/^## [^${1:0:1}]/s/^    *//p" "$top/docs/OPERATING.md"
 }

@@ -1,4 +1,6 @@
+# shellcheck shell=bash
 # What the program is built from, for scripts that have set `top` to the top of the repository.
+: "${top:?}"
 
 program_crate=nexus_main
 

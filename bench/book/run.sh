@@ -16,7 +16,7 @@ for crate in $crates; do
     for part in src specs proofs out; do
         if [ -d "$root/crates/$crate/$part" ]; then cp -r "$root/crates/$crate/$part" "$work/crates/$crate/$part"; fi
     done
-    grep "^$crate[: ]" "$root/crates.txt" >> "$work/crates.txt"
+    grep "^${crate}[: ]" "$root/crates.txt" >> "$work/crates.txt"
 done
 echo "book_bench: $crates atomic_table" >> "$work/crates.txt"
 cp "$root/HANDLES" "$work/"
