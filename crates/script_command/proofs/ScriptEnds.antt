@@ -10,6 +10,7 @@ use Rattle.policy_history.specs.Events.{EntryTree}
 use Rattle.policy_history.specs.Values.{History, entry_trees, greatest_of}
 use Rattle.guard_core.specs.Judging.{asks_after}
 use Rattle.session_wire.specs.declared.replies.Reply.{Reply}
+use Rattle.session_core.proofs.ForCallers.{alone_is_true}
 use Rattle.session_core.specs.Sessions.{Point, Told1, at_start, faults_after_replies}
 use Rattle.policy_script.specs.ScriptText.{script_text}
 use Rattle.authority_ask.specs.Panels.{Told, Places}
@@ -74,6 +75,7 @@ with_reached script last said said_now asks asks_now reached mid now faults faul
   last = a.point;
   reached = a.reached ∙ all;
   told = a.told;
+  truth = alone_is_true script.head (greatest_of script.entries + 1) script.entries script.askings a.replies (gained said said_now) a.point a.told;
   handed = (a.head, sym a.entries);
   text_is = a.text_is;
   asks = a.asks;

@@ -8,6 +8,7 @@ use Rattle.policy_history.specs.Values.{History, entry_trees, greatest_of}
 use Rattle.authority_ask.specs.Panels.{Places, Told}
 use Rattle.guard_core.specs.Judging.{asks_after}
 use Rattle.session_wire.specs.declared.replies.Reply.{Reply}
+use Rattle.session_core.specs.Earned.{IsTrueAlone}
 use Rattle.session_core.specs.Reaching.{reached_all}
 use Rattle.session_core.specs.Sessions.{Point, Told1, at_start, faults_after_replies}
 use Rattle.policy_script.specs.ScriptForm.{IsScript, IsWrongScript, ScriptTree}
@@ -46,12 +47,13 @@ IsHanded (Some journal) h es = (journal.head ≡ h) × (entry_trees journal.entr
 
 -- The script was answered, and this is its text: each authority was reached; the requests, in sessions that are numbered
 -- behind the greatest session of the policy, got these replies, with the answers that authorities gave in this run; the journal
--- that they left is handed back; and the text is the lines of the replies, and then the policy's.
+-- that they left is handed back; and the text is the lines of the replies, and then the policy's. What calls were told is true.
 pub record IsAnswered (script : ScriptTree) (panel : PanelRun) (journal : Option History) (text : List ℕ) : Type 0 where
   pub replies : List Reply
   pub last : Point
   pub reached : panel.reached_now ≡ reached_all script.head.authorities panel.reached
   pub told : Told1 script.head (greatest_of script.entries + 1) (at_start script.entries) script.askings replies panel.said last
+  pub truth : IsTrueAlone script.head (greatest_of script.entries + 1) last.entries script.askings replies panel.said
   pub handed : IsHanded journal script.head last.entries
   pub text_is : text ≡ script_text replies script.head last.entries
   pub asks : panel.asks_now ≡ asks_after panel.said panel.asks

@@ -1,5 +1,6 @@
 -- Laws of what sessions are told, which the proofs of other crates may cite.
-use Rattle.std.proofs.Common.{◌≡◌, ℕ, List, [], ◌∷◌, ◌++◌, Option, refl, sym, ◌∙◌, ap, subst, append_assoc}
+use Rattle.std.specs.Prelude.{None, replicate, slice_get, unwrap_or}
+use Rattle.std.proofs.Common.{◌≡◌, ℕ, zero, suc, List, [], ◌∷◌, ◌++◌, Option, refl, sym, ◌∙◌, ap, subst, append_assoc}
 use Rattle.std.proofs.lemmas.List.{append-nil}
 use Rattle.policy_history.specs.declared.heads.Head.{Head}
 use Rattle.nx_io.specs.Streams.{Gave, gained, Grows, prepended}
@@ -7,9 +8,10 @@ use Rattle.nx_io.proofs.ForCallers.{gained-by, gave-by, grows-by, prepended-prep
 use Rattle.authority_ask.specs.Panels.{Told}
 use Rattle.guard_core.specs.Judging.{asks_after}
 use Rattle.session_wire.specs.declared.replies.Reply.{Reply}
-use Rattle.session_core.specs.Earned.{IsTrueReport}
+use Rattle.session_core.specs.Earned.{IsTrueAlone, IsTrueReport}
 use Rattle.session_core.specs.Served.{IsServedSo, Reported}
 use Rattle.session_core.specs.declared.lines.Asking.{Asking}
+use Rattle.session_core.proofs.EarnedAlone.{tells_what_is_true_alone}
 use Rattle.session_core.proofs.EarnedReplies.{tells_what_is_true}
 use Rattle.session_core.proofs.RisingPoints.{tells_in_order}
 use Rattle.session_core.specs.Answers.{Outcome, faults_after_reply}
@@ -18,7 +20,7 @@ use Rattle.session_wire.specs.declared.requests.Request.{Request}
 use Rattle.verdict_words.specs.declared.views.Item.{Item}
 use Rattle.session_core.specs.Standing.{Standing}
 use Rattle.session_core.specs.Told.{Answers as BoardAnswers, Leads, Turn}
-use Rattle.session_core.specs.Sessions.{Answers, Point, Told1, behind, faults_after_replies}
+use Rattle.session_core.specs.Sessions.{Answers, Point, Told1, at_start, behind, faults_after_replies}
 
 -- one request more, behind those that were answered
 pub told-then : (h : Head) (first : ℕ) (point : Point) (askings : List Asking) (replies : List Reply) (asks : List Told) (last : Point) (asking : Asking) (outcome : Outcome)
@@ -116,3 +118,14 @@ report_is_true {h} {low} {report} {asks} served = record {
   truth = tells_what_is_true h report.seen report.session low served.requests served.replies asks _ served.last served.told;
   points = tells_in_order h report.seen report.session low served.requests served.replies asks _ served.last served.told;
 }
+
+-- nobody is admitted yet
+nobody_in : (sessions place : ℕ) → let nobody : Option ℕ = None in unwrap_or (slice_get (replicate sessions nobody) place) nobody ≡ nobody
+nobody_in zero place = refl
+nobody_in (suc sessions) zero = refl
+nobody_in (suc sessions) (suc place) = nobody_in sessions place
+
+-- what sessions over one journal were told is true of the journal that they left
+pub alone_is_true : (h : Head) (first : ℕ) (es : List EntryTree) (askings : List Asking) (replies : List Reply) (asks : List Told) (last : Point) → Told1 h first (at_start es) askings replies asks last
+    → IsTrueAlone h first last.entries askings replies asks
+alone_is_true h first es askings replies asks last told = tells_what_is_true_alone h first (at_start es) last askings replies asks (nobody_in 64) told

@@ -4,6 +4,7 @@ use Rattle.service_commands.specs.Clients.{no_memory}
 use Rattle.nexus_run.specs.Commands.{IsClientCall, IsCommand, IsPlain, IsServiceCall}
 use Rattle.service_commands.proofs.ForCallers.{runs_client}
 use Rattle.nexus_run.proofs.Commanded.{memory_commanded, none_commanded}
+use Rattle.nexus_run.proofs.TrueRuns.{no_journal}
 use Rattle.nexus_run.proofs.Words.{not_command}
 use Rattle.nexus_run.proofs.starting.start.Goals as goal
 
@@ -116,3 +117,12 @@ pub returns-clause-client : goal.returns-clause-client
 returns-clause-client g c =
     let unused = c.stopped-in-Err.ensures.unused in
     λ address words is. rw (c.stopped-in-Err.ensures.output, unused.2, unused.3) (runs_client (no_memory refl c.stopped-in-Err.ensures.code refl (gained-nothing (g.K.Sink.sent c.args.output)) refl refl))
+
+pub returns-in-Ok-None-clause-earned : goal.returns-in-Ok-None-clause-earned
+returns-in-Ok-None-clause-earned g c = λ h es is. absurd (no_journal _ h es c.stopped-in-Ok-None.ensures.unused.0 is)
+
+pub returns-in_default-clause-earned : goal.returns-in_default-clause-earned
+returns-in_default-clause-earned g c = λ h es is. absurd (no_journal _ h es c.stopped.ensures.unused.0 is)
+
+pub returns-clause-earned : goal.returns-clause-earned
+returns-clause-earned g c = λ h es is. absurd (no_journal _ h es c.stopped-in-Err.ensures.unused.0 is)
