@@ -9,8 +9,7 @@ use Rattle.verdict_words.specs.Orders.{Steps, publishes}
 use Rattle.verdict_words.specs.declared.views.AtomicStep.{AtomicStep}
 use Rattle.verdict_words.proofs.ForCallers.{prefix_through}
 use Rattle.policy_book.specs.Writes.{IsPublished}
-use Rattle.verdict_words.specs.Settling.{IsMet, without_all}
-use Rattle.verdict_words.specs.Steps.{without}
+use Rattle.verdict_words.specs.Settling.{IsMet, without, without_all}
 use Rattle.verdict_words.specs.Values.{PassValue, SeatValue}
 use Rattle.policy_book.specs.Books.{BookValue, IsMetIn, session_of}
 

@@ -13,7 +13,7 @@ use Rattle.verdict_words.specs.Words.{most_entries, Sound}
 use Rattle.verdict_words.specs.Orders.{leaves, IsDone, IsOrder, Steps, stores, publishes}
 use Rattle.verdict_words.specs.declared.views.AtomicStep.{AtomicStep}
 use Rattle.verdict_words.specs.Rule.{last_met, IsInOrder, IsBookInOrder, Apart, IsLoading, PassOk, IsSeated, BookOk, WasRaised, RegionOk, WordsOk, ViewOk, HasPass, IsKept}
-use Rattle.verdict_words.specs.Steps.{On, ForSaid, after_entry, raised_region, published}
+use Rattle.verdict_words.specs.Inner.Steps.{On, ForSaid, after_entry, raised_region, published}
 use Rattle.verdict_words.specs.declared.places.Held.{Held}
 use Rattle.verdict_words.specs.declared.views.Origin.{Origin}
 use Rattle.verdict_words.specs.declared.views.Loading.{Loading}

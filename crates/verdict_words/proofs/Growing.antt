@@ -7,7 +7,7 @@ use Rattle.std.proofs.lemmas.Bool.{ne_eqb, eq-eqb}
 use mathlib.Core.Logic.{dite}
 use native.Mathlib.Decide.{ℕ_discrete}
 use Rattle.verdict_words.specs.Histories.{IsPrefix, EachFrom, own}
-use Rattle.verdict_words.specs.Steps.{without}
+use Rattle.verdict_words.specs.Settling.{without}
 
 module _ {E : Type 0} where
   pub prefix_whole : (xs : List E) → IsPrefix xs xs

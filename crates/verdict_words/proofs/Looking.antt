@@ -6,7 +6,7 @@ use Rattle.verdict_words.specs.Histories.{IsPrefix, Untouched}
 use Rattle.verdict_words.specs.Orders.{Steps, loads, stores, item_steps}
 use Rattle.verdict_words.specs.declared.views.AtomicStep.{AtomicStep}
 use Rattle.verdict_words.specs.Words.{slot_word, register_word, spelling, region_word, most_entries, Sound, Spells, IsSlot, object_region, store_region}
-use Rattle.verdict_words.specs.Steps.{On, ForSlot, ForCount, ForObject, ran, loaded_slot, loaded_count, loaded_object, loaded_store}
+use Rattle.verdict_words.specs.Inner.Steps.{On, ForSlot, ForCount, ForObject, ran, loaded_slot, loaded_count, loaded_object, loaded_store}
 use Rattle.verdict_words.specs.declared.views.RegisterStep.{RegisterStep}
 use Rattle.verdict_words.specs.Answers.{IsAnswer, HitIsRight}
 use Rattle.verdict_words.specs.declared.places.Held.{Held}
@@ -18,7 +18,7 @@ use Rattle.verdict_words.specs.declared.views.Loading.TheVariants.{Nothing, Slot
 use Rattle.verdict_words.specs.declared.views.PassView.{PassView}
 use Rattle.verdict_words.specs.declared.views.View.{View}
 use Rattle.verdict_words.specs.declared.views.View.TheVariants.{Pass}
-use Rattle.verdict_words.specs.Steps.{stored_slot}
+use Rattle.verdict_words.specs.Inner.Steps.{stored_slot}
 use Rattle.verdict_words.specs.declared.views.Item.TheVariants.{Filled}
 use Rattle.verdict_words.proofs.Growing.{each_later}
 

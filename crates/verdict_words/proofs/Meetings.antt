@@ -13,7 +13,8 @@ use Rattle.atomic_table.proofs.Lists.{at_set, set_here, set_else, at_longer, at_
 use Rattle.verdict_words.specs.Orders.{IsOrder, loads, trail_steps, told_of}
 use Rattle.verdict_words.specs.declared.views.AtomicStep.{AtomicStep}
 use Rattle.verdict_words.specs.Rule.{last_met, pass_steps, IsInOrder, IsBookInOrder, Apart, IsLoaded, PassOk, BookOk, WordsOk, ViewOk, HasPass, IsKept}
-use Rattle.verdict_words.specs.Steps.{without, new_pass, met_pass, checked}
+use Rattle.verdict_words.specs.Inner.Steps.{new_pass, met_pass, checked}
+use Rattle.verdict_words.specs.Settling.{without}
 use Rattle.verdict_words.proofs.Ordering.{put, put_here, put_else, at_rest, trail_steps_snoc, order_next, none_of_next, all_map, order_grows, in_order_waits}
 use Rattle.verdict_words.specs.declared.views.Loading.TheVariants.{Nothing}
 use Rattle.verdict_words.specs.declared.places.Held.{Held}

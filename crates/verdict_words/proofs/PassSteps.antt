@@ -7,7 +7,7 @@ use Rattle.verdict_words.specs.Words.{slot_word, region_word, most_entries, spel
 use Rattle.verdict_words.specs.Orders.{leaves, IsDone, Steps, loads, stores, action_of, trail_steps, loading_steps}
 use Rattle.verdict_words.specs.Rule.{IsKept, IsLoading, pass_steps}
 use Rattle.verdict_words.specs.declared.views.AtomicStep.{AtomicStep}
-use Rattle.verdict_words.specs.Steps.{On, ForSlot, ForCount, ForObject, ForSaid, ForFilled, operand, gained, ran, loaded_slot, stored_slot, loaded_count, loaded_object, loaded_store}
+use Rattle.verdict_words.specs.Inner.Steps.{On, ForSlot, ForCount, ForObject, ForSaid, ForFilled, operand, gained, ran, loaded_slot, stored_slot, loaded_count, loaded_object, loaded_store}
 use Rattle.verdict_words.specs.declared.places.Held.{Held}
 use Rattle.verdict_words.specs.declared.places.CasePlace.{CasePlace}
 use Rattle.verdict_words.specs.declared.views.Origin.{Origin}

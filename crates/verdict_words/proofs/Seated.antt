@@ -5,7 +5,8 @@ use Rattle.atomic_table.specs.Table.{Me, step}
 use mathlib.Core.Option.{none}
 use Rattle.verdict_words.specs.Histories.{own}
 use Rattle.verdict_words.specs.Rule.{last_met, IsSeated, PassOk}
-use Rattle.verdict_words.specs.Steps.{after_entry, raised_region, published, receiving, releasing, released, without}
+use Rattle.verdict_words.specs.Inner.Steps.{after_entry, raised_region, published, receiving, releasing, released}
+use Rattle.verdict_words.specs.Settling.{without}
 use Rattle.verdict_words.specs.Words.{region_word}
 use Rattle.verdict_words.specs.Orders.{Steps, stores, publishes}
 use Rattle.verdict_words.specs.declared.views.AtomicStep.{AtomicStep}

@@ -8,7 +8,8 @@ use Rattle.std.proofs.Math.Seq.{drop-cons}
 use Rattle.atomic_table.specs.Table.{Me}
 use Rattle.atomic_table.specs.declared.shared.Seat.{Seat}
 use Rattle.verdict_words.specs.Rule.{IsSeated}
-use Rattle.verdict_words.specs.Steps.{receiving, releasing, released, returning, returned, without}
+use Rattle.verdict_words.specs.Inner.Steps.{receiving, releasing, released, returning, returned}
+use Rattle.verdict_words.specs.Settling.{without}
 use Rattle.verdict_words.specs.Values.{Identity, PassValue, IsPass, board_of, seen_of, trail_of, known_of, resting}
 use Rattle.verdict_words.specs.Settling.{met_of, last_turn, without_all}
 use Rattle.verdict_words.specs.Inner.Settling.{met_held, view_of, away, receiving_all, releasing_all, held_of, IsHolding}

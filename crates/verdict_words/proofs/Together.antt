@@ -8,7 +8,7 @@ use Rattle.atomic_table.specs.Table.{Me, step}
 use Rattle.verdict_words.specs.Histories.{own}
 use Rattle.verdict_words.specs.Orders.{Gathers, IsOrder, told_of, trail_steps}
 use Rattle.verdict_words.specs.Rule.{PassOk, pass_steps}
-use Rattle.verdict_words.specs.Steps.{checked}
+use Rattle.verdict_words.specs.Inner.Steps.{checked}
 use Rattle.verdict_words.specs.declared.views.AtomicStep.{AtomicStep}
 use Rattle.verdict_words.specs.Values.{Identity, PassValue, SeatValue, seen_of, turn_of, lag_of, raised_of, known_of}
 use Rattle.verdict_words.specs.Settling.{all_met, last_turn, without_all, AreGathered, IsMet}

@@ -3,7 +3,6 @@ pub mod Words
 pub mod Orders
 pub mod Values
 pub mod Rule
-pub mod Steps
 pub mod Settling
 pub mod Answers
 pub mod Laws

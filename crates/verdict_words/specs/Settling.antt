@@ -1,12 +1,15 @@
 -- Passes that are met together.
-use Rattle.std.specs.Prelude.{◌≡◌, ◌≢◌, ℕ, ◌<◌, ◌≤◌, List, [], ◌∷◌, ◌++◌, length, map, All}
+use Rattle.std.specs.Prelude.{◌≡◌, ◌≢◌, ◌==◌, ℕ, ◌<◌, ◌≤◌, not, List, [], ◌∷◌, ◌++◌, length, map, filter, All}
 use Rattle.verdict_words.specs.Histories.{IsPrefix, own}
 use Rattle.verdict_words.specs.Orders.{Gathers, IsOrder, told_of, trail_steps}
 use Rattle.verdict_words.specs.declared.views.AtomicStep.{AtomicStep}
-use Rattle.verdict_words.specs.Steps.{without}
 use Rattle.verdict_words.specs.Values.{Identity, SeatValue, PassValue, met_seen}
 use Rattle.verdict_words.specs.declared.views.Item.{Item}
 use Rattle.verdict_words.specs.declared.views.Item.TheVariants.{Met}
+
+-- the sessions but this one
+abbrev pub without : ℕ → List ℕ → List ℕ
+without s lag = filter (λ x. not (x == s)) lag
 
 module _ {E H : Type 0} where
   -- a pass with this session and trail, once it was met

@@ -3,9 +3,8 @@ ghost use Rattle.std.specs.Prelude.{◌≡◌, ◌≢◌, ℕ, ◌+◌, ◌-◌,
 ghost use Rattle.verdict_words.specs.Histories.{IsPrefix, own};
 ghost use Rattle.verdict_words.specs.Words.{most_entries, region_word};
 ghost use Rattle.verdict_words.specs.Orders.{Steps, stores, publishes};
-ghost use Rattle.verdict_words.specs.Settling.{AreGathered};
+ghost use Rattle.verdict_words.specs.Settling.{AreGathered, without};
 ghost use Rattle.verdict_words.specs.Values.{met_seen};
-ghost use Rattle.verdict_words.specs.Steps.{without};
 ghost use Rattle.verdict_words.specs.declared.views.Item.TheVariants.{Met};
 
 use crate::board::Board;
@@ -81,7 +80,7 @@ impl<M: Matter> Board<M> {
             at: _,
             board,
         } = pass;
-        let _words = &self.words;
+        let _has_words = &self.words;
         self.receive(&mut seat.place, place);
         self.check_held(&mut seat.place);
         let place = self.give_back(&mut seat.place);

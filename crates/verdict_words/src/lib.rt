@@ -2,7 +2,8 @@
 //!
 //! One owner lets a history grow, entry by entry, behind a lock of its own. Any number of sessions keep verdicts of cases
 //! in slots, and find them again without the lock. A verdict that is found is right on a beginning of the history that
-//! the finder has then seen, under every schedule.
+//! the finder has then seen, under every schedule, and no older than the call: all atomic steps stand in one order, and each
+//! call says where its own do.
 //!
 //! The owner holds the `BookSeat`, each session a `Pass`; the `Board` is shared. None but `Board::make` takes memory.
 #![tactic(auto)]

@@ -68,7 +68,7 @@ impl<M: Matter> Board<M> {
         ensures loaded { (slot object store : ℕ) × (pass.new ≡ record pass.old { seen = pass.new.seen; trail = pass.old.trail ++ Loaded place.now slot (length pass.new.seen) object store ∷ []; known = pass.new.known }) × IsAnswer place.now.case slot (length pass.new.seen) object store result × Steps pass.old.known (item_steps pass.old.session (Loaded place.now slot (length pass.new.seen) object store)) pass.new.known }
         ensures right { HitIsRight (M.right self.now.origin.setting pass.new.seen place.now.case) result }
     {
-        let _words = &self.words;
+        let _has_words = &self.words;
         let slot = self.load_slot::<Brand>(&mut pass.place, place);
         let count = self.load_count(&mut pass.place);
         let object = self.load_object(&mut pass.place, place);
@@ -88,7 +88,7 @@ impl<M: Matter> Board<M> {
         ensures pass { pass.new ≡ record pass.old { trail = pass.old.trail ++ Filled place.now.case at held.now ∷ []; known = pass.new.known } }
         ensures step { (found : ℕ) × Steps pass.old.known (stores pass.old.session (slot_word place.now.case) (spelling place.now.case at held.now) found ∷ []) pass.new.known }
     {
-        let _words = &self.words;
+        let _has_words = &self.words;
         self.store_slot::<Brand>(
             &mut pass.place,
             place,

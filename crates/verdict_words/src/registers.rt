@@ -16,7 +16,7 @@ impl<M: Matter> Board<M> {
         ensures pass { pass.new ≡ record pass.old { trail = pass.old.trail ++ Ran object Read result ∷ []; known = pass.new.known } }
         ensures step { Steps pass.old.known (item_steps pass.old.session (Ran object Read result)) pass.new.known }
     {
-        let _words = &self.words;
+        let _has_words = &self.words;
         self.read_register(&mut pass.place, object)
     }
 
@@ -27,7 +27,7 @@ impl<M: Matter> Board<M> {
         ensures pass { pass.new ≡ record pass.old { trail = pass.old.trail ++ Ran object (Write value) result ∷ []; known = pass.new.known } }
         ensures step { Steps pass.old.known (item_steps pass.old.session (Ran object (Write value) result)) pass.new.known }
     {
-        let _words = &self.words;
+        let _has_words = &self.words;
         self.swap_register(&mut pass.place, object, value)
     }
 
@@ -38,7 +38,7 @@ impl<M: Matter> Board<M> {
         ensures pass { pass.new ≡ record pass.old { trail = pass.old.trail ++ Ran object (Add value) result ∷ []; known = pass.new.known } }
         ensures step { Steps pass.old.known (item_steps pass.old.session (Ran object (Add value) result)) pass.new.known }
     {
-        let _words = &self.words;
+        let _has_words = &self.words;
         self.add_to_register(&mut pass.place, object, value)
     }
 }

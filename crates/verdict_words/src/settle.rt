@@ -1,7 +1,7 @@
 //! Passes that are met together, so that what each of them did is known at one moment.
 ghost use Rattle.std.specs.Prelude.{◌≡◌, ℕ, ◌<◌, ◌≤◌, List, [], ◌∷◌, take, map, All};
 ghost use Rattle.verdict_words.specs.Words.{most_entries};
-ghost use Rattle.verdict_words.specs.Steps.{receiving, releasing};
+ghost use Rattle.verdict_words.specs.Inner.Steps.{receiving, releasing};
 ghost use Rattle.verdict_words.specs.Values.{seen_of, known_of};
 ghost use Rattle.verdict_words.specs.Settling.{all_met, last_turn, without_all, AreGathered, IsMet};
 ghost use Rattle.verdict_words.specs.Inner.Seats.{IsBooks};
@@ -53,7 +53,7 @@ impl<M: Matter> Board<M> {
         ensures place { (place.new.table_id ≡ self.now.table) × (place.new.me ≡ (receiving place.old.me.0 (view_of pass.old), [])) }
         ensures pass { pass.new ≡ away pass.old }
     {
-        let _words = &self.words;
+        let _has_words = &self.words;
         let known = self.yield_pass(&mut pass.place);
         pass.at.value = 0;
         self.receive(place, known);

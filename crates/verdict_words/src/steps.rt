@@ -5,7 +5,7 @@ ghost use mathlib.Core.Option.{none};
 ghost use Rattle.atomic_table.specs.Table.{step};
 ghost use Rattle.verdict_words.specs.Words.{most_entries, word_count, first_words, slot_word, register_word, region_word, object_region, store_region, spelling, IsHeld, IsPlace};
 ghost use Rattle.verdict_words.specs.Rule.{first_book, origin_of};
-ghost use Rattle.verdict_words.specs.Steps.{has_read, has_written, has_added, loaded_slot, stored_slot, loaded_count, loaded_object, loaded_store, raised_region, published, checked, admitting, admitted, yielding, yielded, receiving, releasing, returning};
+ghost use Rattle.verdict_words.specs.Inner.Steps.{has_read, has_written, has_added, loaded_slot, stored_slot, loaded_count, loaded_object, loaded_store, raised_region, published, checked, admitting, admitted, yielding, yielded, receiving, releasing, returning};
 ghost use Rattle.verdict_words.specs.Inner.Seats.{IsPassLoading, CanKeep, CanRaise, CanPublish, IsBooks, IsHoldingOne};
 ghost use Rattle.verdict_words.specs.declared.views.Item.TheVariants.{Filled};
 ghost use Rattle.verdict_words.specs.declared.views.Loading.TheVariants.{Nothing, Slot, Count, Object};
@@ -59,7 +59,7 @@ impl<X> Said<X> for Brand {
 pub struct ReadRegister;
 
 impl<E, H> Play<(), View<E, H>> for ReadRegister {
-    ghost use Rattle.verdict_words.specs.Steps.{has_read};
+    ghost use Rattle.verdict_words.specs.Inner.Steps.{has_read};
 
     ghost then = { has_read };
 }
@@ -67,7 +67,7 @@ impl<E, H> Play<(), View<E, H>> for ReadRegister {
 pub struct WriteRegister;
 
 impl<E, H> Play<(), View<E, H>> for WriteRegister {
-    ghost use Rattle.verdict_words.specs.Steps.{has_written};
+    ghost use Rattle.verdict_words.specs.Inner.Steps.{has_written};
 
     ghost then = { has_written };
 }
@@ -75,7 +75,7 @@ impl<E, H> Play<(), View<E, H>> for WriteRegister {
 pub struct AddRegister;
 
 impl<E, H> Play<(), View<E, H>> for AddRegister {
-    ghost use Rattle.verdict_words.specs.Steps.{has_added};
+    ghost use Rattle.verdict_words.specs.Inner.Steps.{has_added};
 
     ghost then = { has_added };
 }
@@ -85,7 +85,7 @@ pub struct LoadSlot<W> {
 }
 
 impl<E, H, W: Said<CasePlace>> Play<(), View<E, H>> for LoadSlot<W> {
-    ghost use Rattle.verdict_words.specs.Steps.{loaded_slot};
+    ghost use Rattle.verdict_words.specs.Inner.Steps.{loaded_slot};
 
     ghost then = { loaded_slot W.said };
 }
@@ -95,7 +95,7 @@ pub struct StoreSlot<W> {
 }
 
 impl<E, H, W: Said<Item>> Play<(), View<E, H>> for StoreSlot<W> {
-    ghost use Rattle.verdict_words.specs.Steps.{stored_slot};
+    ghost use Rattle.verdict_words.specs.Inner.Steps.{stored_slot};
 
     ghost then = { stored_slot W.said };
 }
@@ -105,7 +105,7 @@ pub struct LoadCount<M> {
 }
 
 impl<M: Matter> Play<(), View<M::Entry, M::Setting>> for LoadCount<M> {
-    ghost use Rattle.verdict_words.specs.Steps.{loaded_count};
+    ghost use Rattle.verdict_words.specs.Inner.Steps.{loaded_count};
 
     ghost then = { loaded_count M.right M.touches };
 }
@@ -115,7 +115,7 @@ pub struct LoadObject<M> {
 }
 
 impl<M: Matter> Play<(), View<M::Entry, M::Setting>> for LoadObject<M> {
-    ghost use Rattle.verdict_words.specs.Steps.{loaded_object};
+    ghost use Rattle.verdict_words.specs.Inner.Steps.{loaded_object};
 
     ghost then = { loaded_object M.right M.touches };
 }
@@ -125,7 +125,7 @@ pub struct LoadStore<M> {
 }
 
 impl<M: Matter> Play<(), View<M::Entry, M::Setting>> for LoadStore<M> {
-    ghost use Rattle.verdict_words.specs.Steps.{loaded_store};
+    ghost use Rattle.verdict_words.specs.Inner.Steps.{loaded_store};
 
     ghost then = { loaded_store M.right M.touches };
 }
@@ -133,7 +133,7 @@ impl<M: Matter> Play<(), View<M::Entry, M::Setting>> for LoadStore<M> {
 pub struct RaiseRegion;
 
 impl<E, H> Play<(), View<E, H>> for RaiseRegion {
-    ghost use Rattle.verdict_words.specs.Steps.{raised_region};
+    ghost use Rattle.verdict_words.specs.Inner.Steps.{raised_region};
 
     ghost then = { raised_region };
 }
@@ -143,7 +143,7 @@ pub struct Publish<M, W> {
 }
 
 impl<M: Matter, W: Said<M::Entry>> Play<(), View<M::Entry, M::Setting>> for Publish<M, W> {
-    ghost use Rattle.verdict_words.specs.Steps.{published};
+    ghost use Rattle.verdict_words.specs.Inner.Steps.{published};
 
     ghost then = { published M.session W.said };
 }
@@ -153,7 +153,7 @@ pub struct CheckHeld<M> {
 }
 
 impl<M: Matter> Play<(), View<M::Entry, M::Setting>> for CheckHeld<M> {
-    ghost use Rattle.verdict_words.specs.Steps.{checked};
+    ghost use Rattle.verdict_words.specs.Inner.Steps.{checked};
 
     ghost then = { checked M.session M.right M.touches };
 }
@@ -162,7 +162,7 @@ impl<M: Matter> Play<(), View<M::Entry, M::Setting>> for CheckHeld<M> {
 pub struct Admit;
 
 impl<E, H> Split<View<E, H>> for Admit {
-    ghost use Rattle.verdict_words.specs.Steps.{admitting, admitted};
+    ghost use Rattle.verdict_words.specs.Inner.Steps.{admitting, admitted};
 
     ghost left = { admitting };
 
@@ -173,7 +173,7 @@ impl<E, H> Split<View<E, H>> for Admit {
 pub struct Yield;
 
 impl<E, H> Split<View<E, H>> for Yield {
-    ghost use Rattle.verdict_words.specs.Steps.{yielding, yielded};
+    ghost use Rattle.verdict_words.specs.Inner.Steps.{yielding, yielded};
 
     ghost left = { yielding };
 
@@ -184,7 +184,7 @@ impl<E, H> Split<View<E, H>> for Yield {
 pub struct Receive;
 
 impl<E, H> Join<View<E, H>> for Receive {
-    ghost use Rattle.verdict_words.specs.Steps.{receiving};
+    ghost use Rattle.verdict_words.specs.Inner.Steps.{receiving};
     ghost use Rattle.verdict_words.specs.declared.views.View.TheVariants.{Spent};
 
     ghost both = { receiving };
@@ -196,7 +196,7 @@ impl<E, H> Join<View<E, H>> for Receive {
 pub struct Return;
 
 impl<E, H> Split<View<E, H>> for Return {
-    ghost use Rattle.verdict_words.specs.Steps.{releasing, returning};
+    ghost use Rattle.verdict_words.specs.Inner.Steps.{releasing, returning};
 
     ghost left = { releasing };
 
@@ -228,6 +228,7 @@ impl<M: Matter> Board<M> {
         self.words.shared.peek(word as usize)
     }
 
+    /// Loads the slot of the place: a look begins.
     #[inline(always)]
     pub(crate) fn load_slot<W: Said<CasePlace>>(
         &self,
@@ -245,6 +246,7 @@ impl<M: Matter> Board<M> {
             .load::<LoadSlot<W>>(seat, 1 + (place.case % 4096) as usize)
     }
 
+    /// Loads the count for a look: the pass sees the history.
     #[inline(always)]
     pub(crate) fn load_count(&self, seat: &mut Place<M>) -> u64
         requires table { seat.old.table_id ≡ self.now.table }
@@ -255,6 +257,7 @@ impl<M: Matter> Board<M> {
         self.words.shared.load::<LoadCount<M>>(seat, 0)
     }
 
+    /// Loads the region of the place's object.
     #[inline(always)]
     pub(crate) fn load_object(&self, seat: &mut Place<M>, place: &CasePlace) -> u64
         requires table { seat.old.table_id ≡ self.now.table }
@@ -267,6 +270,7 @@ impl<M: Matter> Board<M> {
             .load::<LoadObject<M>>(seat, 8193 + (place.object % 256) as usize)
     }
 
+    /// Loads the region of the place's store: a look ends.
     #[inline(always)]
     pub(crate) fn load_store(&self, seat: &mut Place<M>, place: &CasePlace) -> u64
         requires table { seat.old.table_id ≡ self.now.table }
@@ -280,6 +284,7 @@ impl<M: Matter> Board<M> {
             .load::<LoadStore<M>>(seat, 8193 + (256 + place.store as usize))
     }
 
+    /// Stores the word that spells a verdict into the slot of its case.
     #[inline(always)]
     pub(crate) fn store_slot<W: Said<Item>>(
         &self,
@@ -302,6 +307,7 @@ impl<M: Matter> Board<M> {
             .store::<StoreSlot<W>>(seat, 1 + (place.case % 4096) as usize, word);
     }
 
+    /// Loads the register of the object.
     #[inline(always)]
     pub(crate) fn read_register(&self, seat: &mut Place<M>, object: u64) -> u64
         requires table { seat.old.table_id ≡ self.now.table }
@@ -315,6 +321,7 @@ impl<M: Matter> Board<M> {
             .load::<ReadRegister>(seat, 4097 + object as usize)
     }
 
+    /// Sets the register of the object, and answers what it held.
     #[inline(always)]
     pub(crate) fn swap_register(&self, seat: &mut Place<M>, object: u64, value: u64) -> u64
         requires table { seat.old.table_id ≡ self.now.table }
@@ -328,6 +335,7 @@ impl<M: Matter> Board<M> {
             .swap::<WriteRegister>(seat, 4097 + object as usize, value)
     }
 
+    /// Adds to the register of the object, and answers what it held.
     #[inline(always)]
     pub(crate) fn add_to_register(&self, seat: &mut Place<M>, object: u64, value: u64) -> u64
         requires table { seat.old.table_id ≡ self.now.table }
@@ -341,6 +349,7 @@ impl<M: Matter> Board<M> {
             .fetch_add::<AddRegister>(seat, 4097 + object as usize, value)
     }
 
+    /// Stores the word of a region that is raised.
     #[inline(always)]
     pub(crate) fn store_region(&self, seat: &mut Place<M>, region: u64, word: u64)
         requires table { seat.old.table_id ≡ self.now.table }
@@ -354,6 +363,7 @@ impl<M: Matter> Board<M> {
             .store::<RaiseRegion>(seat, 8193 + region as usize, word);
     }
 
+    /// Adds 1 to the count: the entry is published.
     #[inline(always)]
     pub(crate) fn add_to_count<W: Said<M::Entry>>(&self, seat: &mut Place<M>, entry: &M::Entry)
         requires said { W.said ≡ Some entry.now }
@@ -366,6 +376,7 @@ impl<M: Matter> Board<M> {
         self.words.shared.fetch_add::<Publish<M, W>>(seat, 0, 1);
     }
 
+    /// Loads the count: the book learns the order of all steps, and of the passes that it holds.
     #[inline(always)]
     pub(crate) fn check_held(&self, seat: &mut Place<M>)
         requires table { seat.old.table_id ≡ self.now.table }
@@ -376,6 +387,7 @@ impl<M: Matter> Board<M> {
         self.words.shared.load::<CheckHeld<M>>(seat, 0);
     }
 
+    /// Splits a seat for a new pass off.
     #[inline(always)]
     pub(crate) fn admit(&self, seat: &mut Place<M>) -> Place<M>
         requires table { seat.old.table_id ≡ self.now.table }
@@ -387,6 +399,7 @@ impl<M: Matter> Board<M> {
         self.words.shared.split_seat::<Admit>(seat)
     }
 
+    /// Moves what a pass knows to a seat of its own.
     #[inline(always)]
     pub(crate) fn yield_pass(&self, seat: &mut Place<M>) -> Place<M>
         requires table { seat.old.table_id ≡ self.now.table }
@@ -398,6 +411,7 @@ impl<M: Matter> Board<M> {
         self.words.shared.split_seat::<Yield>(seat)
     }
 
+    /// Joins the seat of a pass to the book's.
     #[inline(always)]
     pub(crate) fn receive(&self, seat: &mut Place<M>, pass: Place<M>)
         requires table { (seat.old.table_id ≡ self.now.table) × (pass.table_id ≡ self.now.table) }
@@ -409,6 +423,7 @@ impl<M: Matter> Board<M> {
         self.words.shared.join_seat::<Receive>(seat, pass);
     }
 
+    /// Splits a seat for the first of the passes that the book holds off.
     #[inline(always)]
     pub(crate) fn give_back(&self, seat: &mut Place<M>) -> Place<M>
         requires table { seat.old.table_id ≡ self.now.table }

@@ -2,7 +2,7 @@
 use Rattle.std.specs.Prelude.{◌≡◌, ℕ, ◌≤◌, List, [], ◌∷◌, length, map, All}
 use Rattle.atomic_table.specs.Table.{Me}
 use Rattle.verdict_words.specs.Histories.{IsPrefix}
-use Rattle.verdict_words.specs.Steps.{receiving, releasing}
+use Rattle.verdict_words.specs.Inner.Steps.{receiving, releasing}
 use Rattle.verdict_words.specs.Values.{Identity, PassValue, board_of, resting}
 use Rattle.verdict_words.specs.declared.views.AtomicStep.{AtomicStep}
 use Rattle.verdict_words.specs.declared.views.PassView.{PassView}

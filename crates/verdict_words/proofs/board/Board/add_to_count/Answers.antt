@@ -3,7 +3,7 @@ use Rattle.std.specs.Prelude.{◌↔◌}
 use mathlib.Core.Option.{none}
 use Rattle.atomic_table.specs.Table.{step}
 use Rattle.verdict_words.specs.Rule.{origin_of}
-use Rattle.verdict_words.specs.Steps.{published}
+use Rattle.verdict_words.specs.Inner.Steps.{published}
 use Rattle.verdict_words.proofs.PassSteps.{asked}
 use Rattle.verdict_words.proofs.BookKept.{grows}
 use Rattle.verdict_words.proofs.board.Board.add_to_count.Goals as goal

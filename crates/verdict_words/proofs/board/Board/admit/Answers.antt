@@ -1,7 +1,7 @@
 use Rattle.std.proofs.Common.{rules, sym, ap, ◌∙◌, subst}
 use Rattle.atomic_table.specs.Table.{Splits}
 use Rattle.verdict_words.specs.Rule.{IsKept, origin_of}
-use Rattle.verdict_words.specs.Steps.{admitting, admitted}
+use Rattle.verdict_words.specs.Inner.Steps.{admitting, admitted}
 use Rattle.verdict_words.proofs.Meetings.{admits}
 use Rattle.verdict_words.proofs.board.Board.admit.Goals as goal
 

@@ -1,7 +1,7 @@
 use Rattle.std.proofs.Common.{rules, sym, ap, ◌∙◌}
 use mathlib.Core.Option.{none}
 use Rattle.atomic_table.specs.Table.{step}
-use Rattle.verdict_words.specs.Steps.{checked}
+use Rattle.verdict_words.specs.Inner.Steps.{checked}
 use Rattle.verdict_words.proofs.Meetings.{checks}
 use Rattle.verdict_words.proofs.PassSteps.{asked}
 use Rattle.verdict_words.proofs.board.Board.check_held.Goals as goal

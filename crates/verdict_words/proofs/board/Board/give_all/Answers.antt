@@ -1,6 +1,6 @@
 use Rattle.std.proofs.Common.{rules, ◌≡◌, suc, ◌+◌, ◌<◌, sym, ap, ◌∙◌, [], length, map, take, get_or, set, arith}
 use Rattle.std.proofs.lemmas.List.{length-map}
-use Rattle.verdict_words.specs.Steps.{releasing}
+use Rattle.verdict_words.specs.Inner.Steps.{releasing}
 use Rattle.verdict_words.specs.Values.{seen_of, known_of}
 use Rattle.verdict_words.specs.Inner.Settling.{met_held, releasing_all, held_of}
 use Rattle.verdict_words.proofs.Settled.{next, many_held, releasing_next, progress, progress_at, progress_next}

@@ -1,7 +1,7 @@
 use Rattle.std.proofs.Common.{rules, sym, ap, ◌∙◌, subst}
 use Rattle.atomic_table.specs.Table.{Splits}
 use Rattle.verdict_words.specs.Rule.{IsKept, origin_of}
-use Rattle.verdict_words.specs.Steps.{releasing, returning, released, returned}
+use Rattle.verdict_words.specs.Inner.Steps.{releasing, returning, released, returned}
 use Rattle.verdict_words.specs.declared.views.View.TheVariants.{Book}
 use Rattle.verdict_words.proofs.Meetings.{returns}
 use Rattle.verdict_words.proofs.board.Board.give_back.Goals as goal

@@ -1,5 +1,5 @@
 use Rattle.std.proofs.Common.{refl, sym, ap, ◌∙◌, []}
-use Rattle.verdict_words.specs.Steps.{yielding, yielded, receiving}
+use Rattle.verdict_words.specs.Inner.Steps.{yielding, yielded, receiving}
 use Rattle.verdict_words.proofs.AtHome.{at_home}
 use Rattle.verdict_words.proofs.Settled.{shown, away_value, spent_ok}
 use Rattle.verdict_words.proofs.board.Board.hold.Goals as goal

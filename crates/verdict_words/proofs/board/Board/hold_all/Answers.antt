@@ -1,6 +1,6 @@
 use Rattle.std.proofs.Common.{rules, ◌≡◌, suc, ◌+◌, ◌<◌, ◌≤◌, sym, ap, ◌∙◌, [], length, map, take, get_or, set, arith}
 use Rattle.std.proofs.lemmas.List.{length-map, get_or-map, take_all}
-use Rattle.verdict_words.specs.Steps.{receiving}
+use Rattle.verdict_words.specs.Inner.Steps.{receiving}
 use Rattle.verdict_words.specs.Inner.Settling.{view_of, away, receiving_all}
 use Rattle.verdict_words.proofs.Settled.{holding, received, receiving_next, progress, progress_at, progress_next, progress_end}
 use Rattle.verdict_words.proofs.board.Board.hold_all.Goals as goal

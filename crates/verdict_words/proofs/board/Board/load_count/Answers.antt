@@ -1,7 +1,7 @@
 use Rattle.std.proofs.Common.{rules, sym, ap, ◌∙◌}
 use mathlib.Core.Option.{none}
 use Rattle.atomic_table.specs.Table.{step}
-use Rattle.verdict_words.specs.Steps.{loaded_count}
+use Rattle.verdict_words.specs.Inner.Steps.{loaded_count}
 use Rattle.verdict_words.proofs.PassSteps.{asked, loads_count}
 use Rattle.verdict_words.proofs.board.Board.load_count.Goals as goal
 

@@ -2,7 +2,7 @@ use Rattle.std.proofs.Common.{rules, refl, sym, ap, ◌∙◌, ◌+◌, arith}
 use mathlib.Core.Option.{none}
 use Rattle.atomic_table.specs.Table.{step}
 use Rattle.verdict_words.specs.Words.{object_region}
-use Rattle.verdict_words.specs.Steps.{loaded_object}
+use Rattle.verdict_words.specs.Inner.Steps.{loaded_object}
 use Rattle.verdict_words.proofs.PassSteps.{asked, loads_object}
 use Rattle.verdict_words.proofs.board.Board.load_object.Goals as goal
 

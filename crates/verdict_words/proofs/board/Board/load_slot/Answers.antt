@@ -2,7 +2,7 @@ use Rattle.std.proofs.Common.{rules, sym, ap, ◌∙◌, subst}
 use mathlib.Core.Option.{none}
 use Rattle.atomic_table.specs.Table.{step}
 use Rattle.verdict_words.specs.Words.{slot_word}
-use Rattle.verdict_words.specs.Steps.{loaded_slot}
+use Rattle.verdict_words.specs.Inner.Steps.{loaded_slot}
 use Rattle.verdict_words.proofs.PassSteps.{asked, loads_slot}
 use Rattle.verdict_words.proofs.board.Board.load_slot.Goals as goal
 

@@ -2,7 +2,7 @@ use Rattle.std.proofs.Common.{rules, sym, ap, ◌∙◌, ◌+◌}
 use mathlib.Core.Option.{none}
 use Rattle.atomic_table.specs.Table.{step}
 use Rattle.verdict_words.specs.Words.{store_region}
-use Rattle.verdict_words.specs.Steps.{loaded_store}
+use Rattle.verdict_words.specs.Inner.Steps.{loaded_store}
 use Rattle.verdict_words.proofs.PassSteps.{asked, loads_store}
 use Rattle.verdict_words.proofs.board.Board.load_store.Goals as goal
 

@@ -1,7 +1,7 @@
 use Rattle.std.proofs.Common.{rules, sym, ap, ◌∙◌, subst}
 use Rattle.atomic_table.specs.Table.{Joins}
 use Rattle.verdict_words.specs.Rule.{IsKept, origin_of}
-use Rattle.verdict_words.specs.Steps.{receiving}
+use Rattle.verdict_words.specs.Inner.Steps.{receiving}
 use Rattle.verdict_words.specs.declared.views.View.{View}
 use Rattle.verdict_words.specs.declared.views.View.TheVariants.{Spent}
 use Rattle.verdict_words.proofs.Meetings.{receives}

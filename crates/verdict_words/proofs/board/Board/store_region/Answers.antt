@@ -2,7 +2,7 @@ use Rattle.std.proofs.Common.{rules, ℕ, ◌+◌, sym, ap, ◌∙◌, subst, le
 use mathlib.Core.Option.{none}
 use Rattle.atomic_table.specs.Table.{step, Allows}
 use Rattle.verdict_words.specs.Rule.{IsKept, origin_of}
-use Rattle.verdict_words.specs.Steps.{raised_region}
+use Rattle.verdict_words.specs.Inner.Steps.{raised_region}
 use Rattle.verdict_words.proofs.PassSteps.{asked}
 use Rattle.verdict_words.proofs.BookKept.{raises}
 use Rattle.verdict_words.proofs.board.Board.store_region.Goals as goal

@@ -2,7 +2,7 @@ use Rattle.std.proofs.Common.{rules, refl, sym, ap, ◌∙◌}
 use mathlib.Core.Option.{none}
 use Rattle.atomic_table.specs.Table.{step}
 use Rattle.verdict_words.specs.Words.{register_word}
-use Rattle.verdict_words.specs.Steps.{has_written}
+use Rattle.verdict_words.specs.Inner.Steps.{has_written}
 use Rattle.verdict_words.specs.declared.views.RegisterStep.TheVariants.{Write}
 use Rattle.verdict_words.proofs.PassSteps.{asked, runs}
 use Rattle.verdict_words.proofs.board.Board.swap_register.Goals as goal

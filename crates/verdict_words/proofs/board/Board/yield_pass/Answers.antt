@@ -1,7 +1,7 @@
 use Rattle.std.proofs.Common.{rules, sym, ap, ◌∙◌, subst}
 use Rattle.atomic_table.specs.Table.{Splits}
 use Rattle.verdict_words.specs.Rule.{IsKept, origin_of}
-use Rattle.verdict_words.specs.Steps.{yielding, yielded}
+use Rattle.verdict_words.specs.Inner.Steps.{yielding, yielded}
 use Rattle.verdict_words.proofs.Meetings.{yields}
 use Rattle.verdict_words.proofs.board.Board.yield_pass.Goals as goal
 

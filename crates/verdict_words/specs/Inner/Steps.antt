@@ -1,9 +1,10 @@
 -- What each atomic step is, and what it does to what a seat knows.
-use Rattle.std.specs.Prelude.{◌≡◌, ◌≢◌, ℕ, ◌+◌, ◌-◌, ◌<◌, ◌≤◌, ◌==◌, not, List, [], ◌∷◌, ◌++◌, length, map, filter, All, Option, Some, None}
+use Rattle.std.specs.Prelude.{◌≡◌, ◌≢◌, ℕ, ◌+◌, ◌-◌, ◌<◌, ◌≤◌, List, [], ◌∷◌, ◌++◌, length, map, All, Option, Some, None}
 use Rattle.atomic_table.specs.Table.{Me, Step}
 use Rattle.verdict_words.specs.Histories.{IsPrefix, Untouched}
 use Rattle.verdict_words.specs.Words.{slot_word, register_word, region_word, most_entries, object_region, store_region, spelling, Sound}
 use Rattle.verdict_words.specs.Orders.{Steps, Gathers, IsOrder, loads, stores, publishes, item_steps, told_of}
+use Rattle.verdict_words.specs.Settling.{without}
 use Rattle.verdict_words.specs.Rule.{PassOk, pass_steps}
 use Rattle.verdict_words.specs.declared.views.AtomicStep.{AtomicStep}
 use Rattle.verdict_words.specs.declared.places.Held.{Held}
@@ -72,10 +73,6 @@ abbrev pub operand : RegisterStep → ℕ
 operand Read = 0
 operand (Write x) = x
 operand (Add x) = x
-
--- the sessions but this one
-abbrev pub without : ℕ → List ℕ → List ℕ
-without s lag = filter (λ x. not (x == s)) lag
 
 -- what a step tells: of the step itself, the seat before, the number found (at a store, the number stored) and the seat after
 abbrev pub Told : Type 0 → Type 0 → Type 1
