@@ -54,8 +54,8 @@ import time
 import traceback
 from collections.abc import Callable
 from dataclasses import dataclass, field
+from email.message import Message
 from http import HTTPStatus
-from http.client import HTTPMessage
 from http.server import BaseHTTPRequestHandler, ThreadingHTTPServer
 from pathlib import Path
 from typing import BinaryIO, Optional, Protocol
@@ -98,21 +98,21 @@ def caller_of(name: str, secret: str) -> Optional[Caller]:
     return Caller(name, secret)
 
 
-def the_only(headers: HTTPMessage, name: str) -> Optional[str]:
+def the_only(headers: Message, name: str) -> Optional[str]:
     """The value of a header that is there once, or None."""
     values: list[str] = headers.get_all(name, [])
     return values[0] if len(values) == 1 else None
 
 
 class Identify(Protocol):
-    def __call__(self, headers: HTTPMessage) -> Optional[Caller]:
+    def __call__(self, headers: Message) -> Optional[Caller]:
         """Who calls, by the headers of a question, or None where they don't say it."""
 
 
 class Basic:
     """Who calls says the header `Authorization` with the scheme Basic (RFC 7617)."""
 
-    def __call__(self, headers: HTTPMessage) -> Optional[Caller]:
+    def __call__(self, headers: Message) -> Optional[Caller]:
         scheme, _, credentials = (the_only(headers, "Authorization") or "").partition(" ")
         if scheme.lower() != "basic":
             return None
@@ -138,7 +138,7 @@ class Proxied:
                 raise ValueError(f"{name!r} is no name, or its secret is none")
             self.callers[name] = caller
 
-    def __call__(self, headers: HTTPMessage) -> Optional[Caller]:
+    def __call__(self, headers: Message) -> Optional[Caller]:
         token = the_only(headers, "Nexus-Token") or ""
         if not hmac.compare_digest(token.encode("utf-8", "replace"), self.token):
             return None
@@ -368,7 +368,7 @@ class Question:
 
     method: str
     target: str
-    headers: HTTPMessage
+    headers: Message
 
 
 @dataclass(frozen=True)
@@ -435,10 +435,10 @@ class Gate:
 
 
 # A shape finds the question in the method, the target and the headers of what a web server sends, or None where there is none.
-Shape = Callable[[str, str, HTTPMessage], Optional[Question]]
+Shape = Callable[[str, str, Message], Optional[Question]]
 
 
-def asked_by_nginx(method: str, target: str, headers: HTTPMessage) -> Optional[Question]:
+def asked_by_nginx(method: str, target: str, headers: Message) -> Optional[Question]:
     """The question of `auth_request`."""
     sent_method, sent_target = the_only(headers, "X-Original-Method"), the_only(headers, "X-Original-URI")
     return None if sent_method is None or sent_target is None else Question(sent_method, sent_target, headers)
@@ -447,7 +447,7 @@ def asked_by_nginx(method: str, target: str, headers: HTTPMessage) -> Optional[Q
 def asked_by_envoy(prefix: str) -> Shape:
     """The question of `ext_authz` whose `path_prefix` is this."""
 
-    def asked(method: str, target: str, headers: HTTPMessage) -> Optional[Question]:
+    def asked(method: str, target: str, headers: Message) -> Optional[Question]:
         return Question(method, target[len(prefix) :], headers) if target.startswith(prefix) else None
 
     return asked

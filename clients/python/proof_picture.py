@@ -167,7 +167,7 @@ def rows_of(text: str) -> list[str]:
 def box_of(line: Line, is_last: bool) -> str:
     """The node of a line."""
     told = STATEMENT.fullmatch(line.formula) if line.rule in ("label", "ask") else None
-    head = f"{line.number}  {line.rule}" + f" [{line.term}]" * (line.term is not None)
+    head = f"{line.number} {line.rule}" + f" [{line.term}]" * (line.term is not None)
     rows = [f"<FONT COLOR=\"#555555\">{escape(head)}</FONT>"]
     if told:
         rows.append(f"<B>{escape(told['who'])} {'says' if line.rule == 'label' else 'is asked'}</B>")
@@ -186,7 +186,7 @@ def arrows_of(line: Line, count: int) -> list[str]:
     arrows = []
     for number in dict.fromkeys(line.references):
         places = [at for at, reference in enumerate(line.references) if reference == number]
-        told = f'label=" {",".join(str(at + 1) for at in places)}"' if len(line.references) > 1 else 'label=""'
+        told = f'label="{",".join(str(at + 1) for at in places)}"' if len(line.references) > 1 else 'label=""'
         style = ', style="dashed"' if all(at in taken_away for at in places) else ""
         source = f"line{number}"
         if not 1 <= number <= count:

@@ -442,7 +442,7 @@ class Http(unittest.TestCase):
             (b"GET /ask/documents/report.html HTTP/1.1", 200), (b"GET /ask/documents/report.html?a=b HTTP/1.1", 200), (b"PUT /ask/documents/report.html HTTP/1.1", 200),
             (b"DELETE /ask/documents/report.html HTTP/1.1", 403), (b"GET /documents/report.html HTTP/1.1", 400), (b"GET //ask/documents/report.html HTTP/1.1", 400),
             (b"GET /ask//documents/report.html HTTP/1.1", 403), (b"GET /ask/documents/../documents/report.html HTTP/1.1", 403),
-            (b"GET /ask/documents/%72eport.html HTTP/1.1", 403), (b"GET  /ask/documents/report.html HTTP/1.1", 400), (b"BREW /ask/documents/report.html HTTP/1.1", 501),
+            (b"GET /ask/documents/%72eport.html HTTP/1.1", 403), (b"GET  /ask/documents/report.html HTTP/1.1", 400), (b"GET /askew HTTP/1.1", 403), (b"BREW /ask/documents/report.html HTTP/1.1", 501),
         ]:  # fmt: skip
             with self.subTest(line):
                 self.assertEqual(self.ask("envoy", line + b"\r\nContent-Length: 0\r\n" + self.WHO + b"\r\n"), [status])
@@ -538,6 +538,31 @@ class Service(unittest.TestCase):
         self.assertEqual([gate.answer(question()).status for _ in range(3)], [503] * 3)
         self.start(2, address)
         self.assertEqual(gate.answer(question()).status, 200)
+
+    def test_a_proxy_that_says_who_calls(self) -> None:
+        """The command, with a token and secrets. At its end no session of it is left open."""
+        address = self.start(workers=1)
+        with tempfile.TemporaryDirectory() as folder:
+            for name, text in [("table", TABLE), ("token", "t" * 32 + "\n"), ("secrets", "bob bob-secret\nann wrong-secret\n")]:
+                (Path(folder) / name).write_text(text)
+            command = [sys.executable, "-B", str(Path(__file__).with_name("nexus_http.py")), "--nexus", address, "--listen", "127.0.0.1:0"]
+            command += ["--table", "table", "--sessions", "1", "--token", "token"]
+            self.assertEqual(subprocess.run(command, cwd=folder, stderr=subprocess.DEVNULL, timeout=20).returncode, 2)
+            words = [*command, "--secrets", "secrets", "--shape", "envoy"]
+            with subprocess.Popen(words, cwd=folder, stdout=subprocess.PIPE, text=True) as process:
+                assert process.stdout is not None
+                said = process.stdout.readline()
+                try:
+                    for user, token, status in [("bob", "t" * 32, 200), ("bob", "t" * 31, 401), ("ann", "t" * 32, 401), ("eve", "t" * 32, 401)]:
+                        connection = HTTPConnection(said.split()[-1], timeout=20)
+                        connection.request("GET", "/documents/report.html", headers={"Nexus-User": user, "Nexus-Token": token})
+                        self.assertEqual(connection.getresponse().status, status)
+                        connection.close()
+                finally:
+                    process.terminate()
+            self.assertEqual(process.returncode, 0)
+        with connect(address, timeout=5) as client:
+            self.assertEqual(client.hello("bob", "wrong"), Refused(7, 3))
 
     def test_sessions_are_used_up_by_nobody(self) -> None:
         """Wrong secrets are tried on one session: it is the second of one worker, behind the first that was ours."""

@@ -113,10 +113,10 @@ class Drawing(unittest.TestCase):
         self.assertEqual(["penwidth=2.5" in box(read_text(TWO), number) for number in [1, 2, 3]], [False, False, True])
 
     def test_arrows(self) -> None:
-        self.assertEqual(arrows(read_text(TWO)), ['line1 -> line3 [label=" 1"]', 'line2 -> line3 [label=" 2"]'])
+        self.assertEqual(arrows(read_text(TWO)), ['line1 -> line3 [label="1"]', 'line2 -> line3 [label="2"]'])
         for text, wanted in [
-            ("1 hyp : p;2 imp_i 1 1 : p => p", ['line1 -> line2 [label=" 1,2"]']),
-            ("1 hyp : p;2 true_i : true;3 imp_i 1 2 : p => true", ['line1 -> line3 [label=" 1", style="dashed"]', 'line2 -> line3 [label=" 2"]']),
+            ("1 hyp : p;2 imp_i 1 1 : p => p", ['line1 -> line2 [label="1,2"]']),
+            ("1 hyp : p;2 true_i : true;3 imp_i 1 2 : p => true", ['line1 -> line3 [label="1", style="dashed"]', 'line2 -> line3 [label="2"]']),
             ("1 and_l 2 : p;2 and_l 0 : p", ['line2 -> line1 [label=""]', 'none2_0 -> line2 [label=""]']),
             ("1 sf_refl : a speaksfor a", []),
         ]:
