@@ -137,7 +137,7 @@ play_settle() {
     expect 'what is left of it' 'after policy recovered' "$(left)"
     expect 'the policy then' '' "$(cmp "$policy" "$work/policy")"
     expect 'what is said of it' 1 "$(grep -c 'refused line 9 of' "$work/said")"
-    expect 'a service on it' 3 "$("$root/usr/lib/nexus/serve" 2>/dev/null; echo $?)"
+    expect 'a service on it' 3 "$(timeout 10 "$root/usr/lib/nexus/serve" 2>/dev/null; echo $?)"
 }
 
 # The day of examples/serve, by the program of the package.

@@ -32,12 +32,21 @@ apt_get() {
     DEBIAN_FRONTEND=noninteractive timeout 300 apt-get -o Acquire::Retries=0 -o Acquire::http::Timeout=10 "$@" </dev/null >/dev/null 2>&1
 }
 
-# free_ports COUNT: prints so many ports of this machine on which nobody listens, each another one.
+# free_ports COUNT: prints so many ports of this machine on which nobody listens, each another one. They are drawn below those that the
+# system gives to connections, so nobody is given one of them before it is used.
 free_ports() {
     python3 - "$1" <<'PYTHON'
-import socket, sys
-doors = [socket.create_server(("127.0.0.1", 0)) for _ in range(int(sys.argv[1]))]
-print(*(it.getsockname()[1] for it in doors))
+import random, socket, sys
+
+doors = []
+while len(doors) < int(sys.argv[1]):
+    door = socket.socket()
+    try:
+        door.bind(("127.0.0.1", random.randrange(10000, 32768)))
+        doors.append(door)
+    except OSError:
+        door.close()
+print(*(door.getsockname()[1] for door in doors))
 PYTHON
 }
 

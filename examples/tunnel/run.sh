@@ -62,7 +62,7 @@ await_bytes() {
 
 # told WORD ..: sends bob's hello over TLS, with these words for the certificate, and prints how many bytes come back.
 told() {
-    rm -f "$work/said"
+    rm -f "$work/said" "$work/told"
     mkfifo "$work/said"
     exec 8<>"$work/said"
     printf '\0\0\0\x12\x01\0\3bob\0\x0abob-secret' >&8
@@ -133,6 +133,7 @@ play_taken_off() {
 
 # heard NAME: the bytes that a TLS server with this certificate hears of a client whose tunnel leads to it.
 heard() {
+    rm -f "$work/heard"
     openssl s_server -accept "127.0.0.1:$rogue_port" -cert "$work/$1.pem" -key "$work/$1.pem" -quiet <&9 >"$work/heard" 2>/dev/null &
     local server=$!
     await_port "$rogue_port" || exit 1
