@@ -16,23 +16,17 @@ from pathlib import Path
 TOP = Path(__file__).resolve().parents[1]
 CRATES = TOP / "crates"
 
-# The definition by which the contract of the program says what each command does.
+# The files by whose definitions the contract of the program says what each command does.
 COMMANDS = {
-    "check": "answer_commands/CheckRuns",
-    "trust": "answer_commands/Trusts",
-    "prove": "answer_commands/Proves",
-    "recover": "answer_commands/Recovers",
-    "script": "script_command/Scripts",
-    "serve": "service_commands/Services",
-    "client": "service_commands/Clients",
-    "core": "nexus_run/LoadRuns",
-    "drill": "nexus_run/LoadRuns",
-}
-# The commands that a later change added.
-COMMANDS |= {
-    name: root
-    for name, root in {"audit": "answer_commands/Audits", "explain": "answer_commands/Explains"}.items()
-    if (CRATES / root.split("/")[0] / "specs" / (root.split("/")[1] + ".antt")).exists()
+    "check": ["answer_commands/CheckRuns"],
+    "trust": ["answer_commands/Trusts"],
+    "prove": ["answer_commands/Proves"],
+    "recover": ["answer_commands/Recovers"],
+    "script": ["script_command/Scripts"],
+    "serve": ["service_commands/Services", "nexus_serve/TrueReports"],
+    "client": ["service_commands/Clients"],
+    "core": ["nexus_run/LoadRuns"],
+    "drill": ["nexus_run/LoadRuns"],
 }
 
 
@@ -44,15 +38,15 @@ def path_of(name):
 def imports(name):
     """Returns the files of definitions that a file names, those of the tool and of its libraries left out."""
     found = set()
-    for crate, words in re.findall(r"^use Rattle\.(\w+)\.specs\.([\w.]+)\.\{", path_of(name).read_text(), re.M):
+    for crate, words in re.findall(r"^use Rattle\.(\w+)\.specs\.([\w.]+?)(?:\.\{| as )", path_of(name).read_text(), re.M):
         if words.startswith(("declared", "contracts")) or not (CRATES / crate).is_dir():
             continue
         found.add(f"{crate}/{words.replace('.', '/')}")
     return {it for it in found if path_of(it).exists()}
 
 
-def closure(name):
-    found, waiting = set(), [name]
+def closure(names):
+    found, waiting = set(), list(names)
     while waiting:
         next_one = waiting.pop()
         if next_one not in found:
@@ -69,23 +63,24 @@ def lines_of(name):
 
 def row(command):
     files = closure(COMMANDS[command])
-    return f"| `{command}` | `{COMMANDS[command]}` | {len(files)} | {sum(map(lines_of, files))} |"
+    roots = ", ".join(f"`{it}`" for it in COMMANDS[command])
+    return f"| `{command}` | {roots} | {len(files)} | {sum(map(lines_of, files))} |"
 
 
 def table():
-    return ["| Command | Definition | Files | Lines |", "|---|---|---|---|", *map(row, COMMANDS)]
+    return ["| Command | Definitions | Files | Lines |", "|---|---|---|---|", *map(row, COMMANDS)]
 
 
 def find(word):
-    """Returns the file of a command, of a definition, or of that name."""
+    """Returns the files of a command, or the one of a definition, or of that name."""
     if word in COMMANDS:
         return COMMANDS[word]
     if "/" in word and path_of(word).exists():
-        return word
+        return [word]
     for path in sorted(CRATES.glob("*/specs/**/*.antt")):
         name = f"{path.relative_to(CRATES).parts[0]}/{'/'.join(path.relative_to(CRATES).with_suffix('').parts[2:])}"
         if path.stem == word or re.search(rf"^\s*(?:abbrev |unfoldable )?pub (?:data |record )?{re.escape(word)}\b", path.read_text(), re.M):
-            return name
+            return [name]
     sys.exit(f"no definition has the name {word}")
 
 
