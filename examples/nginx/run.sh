@@ -176,12 +176,20 @@ expect_none() {
     done
 }
 
+# What was written is a policy again: bob's acceptance is in it.
+start_nexus_again() {
+    (umask 077 && "$program" recover <"$work/after" >"$work/policy")
+    start_nexus
+}
+
 play_killed() {
     stop nexus
     expect_none
-    # What was written is a policy again: bob's acceptance is in it.
-    (umask 077 && "$program" recover <"$work/after" >"$work/policy")
-    start_nexus
+    start_nexus_again
+    as bob 200 'You have accepted the terms of use.' /documents/handbook.html
+    # Nobody asks meanwhile: the sessions that were kept are found to have ended.
+    stop nexus
+    start_nexus_again
     as bob 200 'You have accepted the terms of use.' /documents/handbook.html
     stop gate
     expect_none
