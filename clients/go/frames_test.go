@@ -100,7 +100,7 @@ func TestNames(t *testing.T) {
 
 func TestLinesThatAreNone(t *testing.T) {
 	lines := []string{
-		"hello bob p\x7f", "hello bob pw\n", "hello " + strings.Repeat("b", 65) + " pw", "hello bob " + strings.Repeat("p", 65),
+		"hello bob p\x7f", "hello bob pw\n", "say alice : a\nb", "hello " + strings.Repeat("b", 65) + " pw", "hello bob " + strings.Repeat("p", 65),
 		"say alice : " + strings.Repeat("x", 33_689),
 	}
 	for _, row := range rows(t, "none") {

@@ -52,7 +52,7 @@ def rows(what: str) -> list[tuple[str, bytes]]:
 
 
 # Lines that are none, beside those of frames.txt.
-NO_LINES = ["hello bob p\x7f", "hello bob pw\n", "hello " + "b" * 65 + " pw", "hello bob " + "p" * 65, "say alice : " + "x" * 33_689]
+NO_LINES = ["hello bob p\x7f", "hello bob pw\n", "say alice : a\nb", "hello " + "b" * 65 + " pw", "hello bob " + "p" * 65, "say alice : " + "x" * 33_689]
 
 
 def pair(timeout: float = 5) -> tuple[Client, socket.socket]:
