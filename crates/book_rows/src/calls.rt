@@ -39,7 +39,7 @@ pub fn call<R: Net<Listener = TcpListener, Stream = TcpStream> + Clock>(
     requires principal { principal < length (head_of book.old).principals }
     requires pass { pass.board ≡ board.now }
     ensures pass { result.0.board ≡ board.now }
-    ensures book { book.new ≡ book.old }
+    ensures book { book.new ≡ record book.old { known = book.new.known } }
 {
     let (op, object) = names.split_once(" ").unwrap_or(("", ""));
     match (name_of(alloc, op), name_of(alloc, object)) {
@@ -65,7 +65,7 @@ fn call_named<R: Net<Listener = TcpListener, Stream = TcpStream> + Clock>(
     requires principal { principal < length (head_of book.old).principals }
     requires pass { pass.board ≡ board.now }
     ensures pass { result.0.board ≡ board.now }
-    ensures book { book.new ≡ book.old }
+    ensures book { book.new ≡ record book.old { known = book.new.known } }
 {
     let (pass, kept) = look(alloc, book, board, pass, principal, op, object);
     match kept {
@@ -89,7 +89,7 @@ fn look(
     requires principal { principal < length (head_of book.old).principals }
     requires pass { pass.board ≡ board.now }
     ensures pass { result.0.board ≡ board.now }
-    ensures book { book.new ≡ book.old }
+    ensures book { book.new ≡ record book.old { known = book.new.known } }
 {
     let (pass, snapped) = book.snap(alloc, board, pass, principal, op, object);
     let mut pass = pass;
@@ -132,7 +132,7 @@ fn judge_now<R: Net<Listener = TcpListener, Stream = TcpStream> + Clock>(
     requires principal { principal < length (head_of book.old).principals }
     requires pass { pass.board ≡ board.now }
     ensures pass { result.0.board ≡ board.now }
-    ensures book { book.new ≡ book.old }
+    ensures book { book.new ≡ record book.old { known = book.new.known } }
 {
     let (pass, snapped) = book.snap(alloc, board, pass, principal, op, object);
     let mut pass = pass;
