@@ -36,7 +36,7 @@ impl<M: Matter> Board<M> {
         }
     }
 
-    /// Raises the word of a region above the length of the history, so that every case of that region misses.
+    /// Raises the word of a region above the length of the history, so that every case of that region misses: one store.
     pub fn raise(&self, seat: &mut BookSeat<M>, region: u64)
         requires board { seat.old.board ≡ self.now }
         requires region { region < 512 }
@@ -49,7 +49,7 @@ impl<M: Matter> Board<M> {
     }
 
     /// Lets the history grow by an entry of the session that was met last. The region that the entry touches, if any, was
-    /// raised before.
+    /// raised before. It is one add to the count.
     pub fn publish(&self, seat: &mut BookSeat<M>, entry: &M::Entry)
         requires board { seat.old.board ≡ self.now }
         requires turn { (seat.old.turn ≢ 0) × (M.session entry.now ≡ seat.old.turn) }
@@ -63,7 +63,8 @@ impl<M: Matter> Board<M> {
     }
 
     /// Lets a pass see the whole history, and its session publish. What the pass had seen begins the history, and the
-    /// history has no entry of its session beside those that stood when it was last met, unless it has published since.
+    /// history has no entry of its session beside those that stood when it was last met, unless it has published since. Both
+    /// then know the order of all atomic steps, of which each knew a beginning.
     pub fn meet(&self, seat: &mut BookSeat<M>, pass: Pass<M>) -> Pass<M>
         requires board { seat.old.board ≡ self.now }
         requires pass { pass.board ≡ self.now }

@@ -58,7 +58,7 @@ fn answer(case: u64, slot: u64, count: u64, object: u64, store: u64) -> Look
 impl<M: Matter> Board<M> {
     /// Looks for a kept verdict, and lets the pass see the history at the load of the count. A hit comes exactly where the
     /// slot's word spells the case at a point to which both regions' words are at most equal; its verdict is then right
-    /// on all that is seen.
+    /// on all that is seen. The words are those that four loads within this call found (`docs/ARCHITECTURE.md`, "The board").
     #[inline]
     pub fn look(&self, pass: &mut Pass<M>, place: &CasePlace) -> Look
         requires board { pass.old.board ≡ self.now }
@@ -78,7 +78,7 @@ impl<M: Matter> Board<M> {
         found
     }
 
-    /// Keeps a verdict that was right after the first `at` entries that the pass has seen.
+    /// Keeps a verdict that was right after the first `at` entries that the pass has seen, by one store into the case's slot.
     pub fn fill(&self, pass: &mut Pass<M>, place: &CasePlace, at: u64, held: &Held)
         requires board { pass.old.board ≡ self.now }
         requires place { IsPlace place.now }

@@ -1,4 +1,5 @@
-//! The steps on registers. Each is one atomic step, and answers what the register held before it.
+//! The steps on registers. Each is one atomic step within the call, and answers what the register held before it: what the
+//! last step on it left there, whichever session made that.
 ghost use Rattle.std.specs.Prelude.{◌≡◌, ◌<◌, [], ◌∷◌, ◌++◌};
 ghost use Rattle.verdict_words.specs.Orders.{Steps, item_steps};
 ghost use Rattle.verdict_words.specs.declared.views.Item.TheVariants.{Ran};
