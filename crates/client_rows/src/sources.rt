@@ -1,6 +1,6 @@
 // Reading over a source that fails or has too much.
-use run_streams::{ReadError, read_whole};
 use nx_io::MemSource;
+use run_streams::{ReadError, read_whole};
 use std::alloc::AllocError;
 
 #[test]

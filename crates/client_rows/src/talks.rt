@@ -3,8 +3,8 @@
 ghost use Rattle.std.specs.Prelude.{◌≤◌};
 ghost use Rattle.nx_io.specs.MemoryDoors.{IsFreshWire};
 
-use nexus_client::{RequestsError, TalkEnd, read_requests, request_of_line, talk};
 use journal_text::LineError;
+use nexus_client::{RequestsError, TalkEnd, read_requests, request_of_line, talk};
 use nx_io::{MemDoor, MemLink, MemSink};
 use std::alloc::{AllocError, Global};
 use std::net::{Net, TcpListener, TcpStream};

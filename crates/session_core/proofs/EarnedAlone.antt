@@ -96,6 +96,7 @@ module _ (h : Head) (es : List EntryTree) (session : ℕ) (outcome : Outcome) wh
   -- whoever is admitted afterwards was so before, or is welcomed now
   abbrev CameInNow : Option ℕ → Request → ℕ → Type 0
   CameInNow who request p = (who ≡ Some p) ⊎ ((name secret : List ℕ) × (request ≡ Hello name secret) × (outcome.reply ≡ Welcome session (length es)) × (admitted h.principals name secret ≡ Some p))
+
   same_now : (who : Option ℕ) (request : Request) (p : ℕ) {of : Outcome} → outcome ≡ of → of.who ≡ who → outcome.who ≡ Some p → CameInNow who request p
   same_now who request p is same after = inl (sym same ∙ sym (ap (λ (o : Outcome). o.who) is) ∙ after)
 
@@ -112,7 +113,7 @@ module _ (h : Head) (es : List EntryTree) (session : ℕ) (outcome : Outcome) wh
   answered_who who (Hello name secret) p is after =
       let found = admitted h.principals name secret in
       elim (greeted_who (length es) session who found p (sym (ap (λ (o : Outcome). o.who) is) ∙ after)) [
-        inl same ↦ inl same
+        | inl same ↦ inl same
         | inr new ↦ inr (name, secret, refl, ap (λ (o : Outcome). o.reply) is ∙ new.0, new.1)
       ]
   answered_who (Some q) (Call op object arg) p is after = called_who q (Call op object arg) p op object (number_of (replay h es).objects object) is after
@@ -188,8 +189,8 @@ welcomed_in_later w = record { number = suc w.number; at = w.at; name = w.name; 
 admitted_later : (h : Head) (first : ℕ) (point : Point) (q : Asking) (outcome : Outcome) (r : Reply) (qs : List Asking) (rs : List Reply) (i place p : ℕ) → HasOutcome h point.entries (first + q.place) (admitted_in point q.place) q.request outcome
     → outcome.reply ≡ r → admitted_in (behind point q.place outcome) place ≡ Some p → (admitted_in point place ≡ Some p) ⊎ IsWelcomedIn h first (q ∷ qs) (r ∷ rs) (suc i) place p
 admitted_later h first point q outcome r qs rs i place p has same after = elim (set_place point.admitted q.place place outcome.who p after) [
-  inl here ↦ elim (who_now h point.entries (first + q.place) outcome (admitted_in point q.place) q.request p has here.1) [
-    inl who ↦ inl (subst (λ (x : ℕ). admitted_in point x ≡ Some p) here.0 who)
+  | inl here ↦ elim (who_now h point.entries (first + q.place) outcome (admitted_in point q.place) q.request p has here.1) [
+    | inl who ↦ inl (subst (λ (x : ℕ). admitted_in point x ≡ Some p) here.0 who)
     | inr new ↦ inr record {
       number = 0;
       at = length point.entries;
@@ -250,7 +251,7 @@ called_alone h first point last (q ∷ qs) (r ∷ rs) asks told (suc i) reply he
       finding = c.finding;
       call = c.call;
       who = elim c.who [
-        inl who ↦ admitted_later h first point q outcome r qs rs i c.place c.principal told.2 told.3 who
+        | inl who ↦ admitted_later h first point q outcome r qs rs i c.place c.principal told.2 told.3 who
         | inr w ↦ inr (welcomed_in_later w)
       ];
       asks_are = parts_of asks outcome.asks told.1 c.earlier c.asked c.later told.4 c.asks_are;

@@ -94,7 +94,7 @@ module _ (h : Head) (es : List EntryTree) (s : ℕ) (before : Standing) (request
       let found = admitted h.principals name secret in
       let here : (greeted before.low s before.who found).who ≡ Some p = sym (ap (λ g. g.who) greeted_is) ∙ sym (ap (λ (t : Turn). t.after.who) turn_is) ∙ who in
       elim (greeted_who before.low s before.who found p here) [
-        inl same ↦ inl same
+        | inl same ↦ inl same
         | inr new ↦ inr record {
           name = name;
           secret = secret;
@@ -242,7 +242,7 @@ called {h} {es} {s} (q ∷ qs) (r ∷ rs) before asks steps added last leads (su
       verdict = c.verdict;
       call = c.call;
       who = elim c.who [
-        inl who ↦ welcomed_before before leads.5 (came_in h es s before q turn c.principal who leads.4)
+        | inl who ↦ welcomed_before before leads.5 (came_in h es s before q turn c.principal who leads.4)
         | inr w ↦ inr (welcomed_later w)
       ];
       asks_are = parts_of asks turn.asks leads.1 c.earlier c.asked c.later leads.6 c.asks_are;
@@ -263,7 +263,6 @@ refuted_as {h} {es} {p} {op} {object} {asked} {at} {at'} {cause} {cause'} {line}
 
 module _ {h : Head} {es : List EntryTree} {s low : ℕ} {requests : List Request} {replies : List Reply} {asks : List Ask} {trail : List Item} {last : Standing}
     (t : IsTold h es s low requests replies asks trail last) where
-
   welcomed : {i : ℕ} {reply : Reply} (c : Called h es s (beginning t.first) requests replies asks i reply) → IsWelcomed h s requests replies i c.principal
   welcomed c = elim c.who [ inl who ↦ absurd (cc who) | inr w ↦ w ]
 
