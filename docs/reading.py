@@ -21,6 +21,7 @@ COMMANDS = {
     "check": ["answer_commands/CheckRuns"],
     "trust": ["answer_commands/Trusts"],
     "prove": ["answer_commands/Proves"],
+    "audit": ["answer_commands/Audits"],
     "recover": ["answer_commands/Recovers"],
     "script": ["script_command/Scripts"],
     "serve": ["service_commands/Services", "nexus_serve/TrueReports"],

@@ -1,5 +1,5 @@
 #!/usr/bin/env bash
-# Runs each example of `nexus check`, `script`, `trust`, `prove` and `recover` and compares what it prints, byte for byte, and its exit
+# Runs each example of `nexus check`, `script`, `trust`, `prove`, `audit` and `recover` and compares what it prints, byte for byte, and its exit
 # status; has `nexus check` check each proof that was found; then the other ways in which the program ends; then plays `nexus serve`,
 # where there is a Python of 3.9 or later; then the commands of README and TOUR, the recipes of docs/OPERATING.md, the client for
 # programs, and the manual page; then the client in Go, what stands beside web
@@ -17,7 +17,7 @@ trap 'rm -rf "$work"' EXIT
 
 passed=0
 failed=0
-for folder in "$examples"/check/*/ "$examples"/script/*/ "$examples"/trust/*/ "$examples"/prove/*/ "$examples"/recover/*/; do
+for folder in "$examples"/check/*/ "$examples"/script/*/ "$examples"/trust/*/ "$examples"/prove/*/ "$examples"/audit/*/ "$examples"/recover/*/; do
     name=$(basename "$folder")
     command=$(basename "$(dirname "$folder")")
     "$program" "$command" <"$folder/input" >"$work/output"

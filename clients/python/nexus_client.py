@@ -45,7 +45,7 @@ __all__ = [
     "Welcome", "Done", "Allowed", "Denied", "Refused", "Down", "NoMemory", "Bad", "Reply",
     "Ended", "ClosedAtEdge", "Torn", "BadReply", "TimedOut", "SystemFault",
     "CAUSES", "FAULTS", "REFUSALS", "LONGEST_LINE", "LONGEST_PAYLOAD",
-    "frame", "encode", "decode", "request_of_line", "line_of", "connect", "Client",
+    "frame", "encode", "decode", "request_of_line", "line_of", "records", "connect", "Client",
 ]  # fmt: skip
 
 # The names of causes, faults and refusals. The first has the number 1.
@@ -442,6 +442,35 @@ def line_of(reply: Reply) -> str:
     else:
         words = [str(number) for number in astuple(reply)]
     return " ".join([type(reply).__name__.lower(), *words])
+
+
+# Records
+
+
+def _verdict_of(reply: Reply) -> Optional[str]:
+    """What the reply to a call tells in a record. None where there is nothing to judge."""
+    if isinstance(reply, Allowed):
+        return "allowed"
+    if isinstance(reply, (Denied, Down)) or (isinstance(reply, Refused) and reply.name == "NoSuchObject"):
+        word, _, *rest = line_of(reply).split(" ")
+        return " ".join([word, *rest])
+    return None
+
+
+def records(talk: Iterable[tuple[Request, Reply]]) -> list[str]:
+    """The records of the calls of one connection, from its first request on, each without a line end, for `nexus audit`, as
+    docs/FORMATS.md, "The input of `audit`", states them. No reply carries the answers of authorities, so they stand as not known. A
+    call that was asked before a session was open, or for which there was no memory, makes none."""
+    made: list[str] = []
+    caller: Optional[str] = None
+    for request, reply in talk:
+        if isinstance(request, Hello) and isinstance(reply, Welcome):
+            caller = request.name
+        verdict = _verdict_of(reply)
+        if isinstance(request, Call) and caller is not None and verdict is not None:
+            assert isinstance(reply, (Allowed, Denied, Refused, Down))
+            made.append(f"{reply.at} {caller} {request.operation} {request.object} ? : {verdict}")
+    return made
 
 
 # Connections

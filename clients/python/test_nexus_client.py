@@ -12,6 +12,7 @@ from __future__ import annotations
 import io
 import re
 import socket
+import socketserver
 import struct
 import subprocess
 import sys
@@ -26,7 +27,7 @@ sys.path.insert(0, str(Path(__file__).resolve().parent))
 from nexus_client import (
     Allowed, Bad, BadReply, Bind, Call, ClearGoal, ClearProof, Client, ClosedAtEdge, Delete, Denied, Done, Down, Ended, Hello, NewObject, NoMemory,
     Refused, Reply, Request, Say, SetGoal, SetProof, SystemFault, TimedOut, Torn, Transfer, Unbind, Welcome, connect, decode, encode, frame, line_of,
-    request_of_line,
+    records, request_of_line,
 )  # fmt: skip
 
 program: Optional[str] = None
@@ -107,6 +108,17 @@ class Frames(unittest.TestCase):
         for payload in ["", "40", "49", "48", "47" + "00" * 8, "41" + "00" * 8, "44" + "00" * 24]:
             with self.subTest(payload), self.assertRaises(BadReply):
                 decode(bytes.fromhex(payload))
+
+    def test_records(self) -> None:
+        """A call of a session that is open makes a record, and nothing else does."""
+        call = Call("read", "f", 7)
+        talk: list[tuple[Request, Reply]] = [
+            (call, Refused(0, 1)), (Hello("bob", "pb"), Refused(0, 3)), (call, Refused(0, 1)), (Hello("bob", "pw"), Welcome(1, 0)), (call, Refused(0, 8)),
+            (call, Denied(1, 1, 0, 0)), (call, Denied(1, 3, 2, 12)), (call, Allowed(4, 1, 7)), (call, Down(4, 2)), (call, NoMemory()),
+            (Say("bob", "ok"), Done(5, 5)), (Say("bob", "ok"), Refused(5, 8)),
+        ]  # fmt: skip
+        wanted = ["0 bob read f ? : refused NoSuchObject", "1 bob read f ? : denied GoalUnset", "1 bob read f ? : denied Line 2 NotGoal"]
+        self.assertEqual(records(talk), [*wanted, "4 bob read f ? : allowed", "4 bob read f ? : down 2"])
 
     def test_a_frame_of_anything(self) -> None:
         self.assertEqual(frame(13, "a", 1), bytes.fromhex("0000000c0d0001610000000000000001"))
@@ -267,6 +279,42 @@ def free_port() -> int:
         return port
 
 
+class Desk(socketserver.StreamRequestHandler):
+    """An authority that says Yes of bob, No of others, and nothing when it is asked for the time."""
+
+    def handle(self) -> None:
+        for line in self.rfile:
+            if line.startswith(b"ask TimeNow"):
+                return
+            self.wfile.write(b"yes\n" if line == b"ask ok(bob)\n" else b"no\n")
+
+
+# The requests of three sessions, each behind the reply to the one before, and each reply.
+DAY = """
+alice: object report                                         -> done 1 0
+alice: goal read report : alice.desk says ok(?subject)       -> done 2 0
+alice: bind alice.desk 3                                     -> done 3 0
+alice: goal open report : alice.desk says TimeNow<5          -> done 4 0
+alice: goal add report : alice says ok(?subject)             -> done 5 0
+bob: call read report 0                                      -> denied 5 NoProof
+bob: proof read report : proof 2;1 ask:alice.desk says ok(bob);end -> done 6 0
+bob: call read report 0                                      -> allowed 6 0 0
+bob: noproof read report                                     -> done 7 0
+carol: proof read report : proof 2;1 ask:alice.desk says ok(carol);end -> done 8 1
+carol: call read report 0                                    -> denied 8 AuthorityNo 1
+carol: proof open report : proof 2;1 ask:alice.desk says TimeNow<5;end -> done 9 2
+carol: call open report 0                                    -> down 9 1
+carol: call read nothing 0                                   -> refused 9 NoSuchObject
+carol: call write report 0                                   -> denied 9 GoalUnset
+bob: proof add report : proof 2;1 label:alice says ok(bob);end -> done 10 3
+bob: call add report 1                                       -> denied 10 LabelMissing 1
+alice: say alice : ok(bob)                                   -> done 11 11
+alice: transfer 11 bob                                       -> done 12 0
+bob: call add report 1                                       -> allowed 12 0 0
+bob: call add report 1                                       -> allowed 12 1 1
+"""
+
+
 class Service(unittest.TestCase):
     """Sessions of the program, over loopback."""
 
@@ -340,6 +388,49 @@ class Service(unittest.TestCase):
             self.assertIsInstance(client.bind("alice", 0), Done)
             self.assertEqual(line_of(client.call("read", "f")), "denied 8 AuthorityNo 1")
         self.text()
+
+    def audit(self, made: list[str]) -> tuple[int, str]:
+        """The status and the line of an audit of these records over what the service wrote."""
+        made_of = "nexus audit 1\n" + self.written + "".join(f"{record}\n" for record in made) + "end\n"
+        ended = subprocess.run([str(program), "audit"], input=made_of.encode(), stdout=subprocess.PIPE, timeout=60)
+        return ended.returncode, ended.stdout.decode()
+
+    def test_audit(self) -> None:
+        """Three sessions of a day, with an authority that says No, and one that says nothing. The service's replies are right. Of a
+        record that is right at its point alone each changed field is found."""
+        desk = socketserver.ThreadingTCPServer(("127.0.0.1", 0), Desk)
+        desk.daemon_threads = True
+        threading.Thread(target=desk.serve_forever, daemon=True).start()
+        self.addCleanup(desk.server_close)
+        self.addCleanup(desk.shutdown)
+        secrets = {"alice": "pa", "bob": "pb", "carol": "pc"}
+        head = "nexus 2\n" + "".join(f"principal {name} {secret}\n" for name, secret in secrets.items())
+        address = self.start(f"{head}authority 3 127.0.0.1:{desk.server_address[1]}\nend\n", workers=3)
+        clients = {name: connect(address, timeout=20, patience=20) for name in secrets}
+        talks: dict[str, list[tuple[Request, Reply]]] = {}
+        for name, client in clients.items():
+            hello = Hello(name, secrets[name])
+            talks[name] = [(hello, client.ask(hello))]
+        for line in DAY.strip().splitlines():
+            name, _, rest = line.partition(": ")
+            asked, _, wanted = rest.rpartition("->")
+            request = request_of_line(asked.rstrip())
+            reply = clients[name].ask(request)
+            self.assertEqual((asked, line_of(reply)), (asked, wanted.strip()))
+            talks[name].append((request, reply))
+        for client in clients.values():
+            client.close()
+        self.written = self.text()
+        made = [record for talk in talks.values() for record in records(talk)]
+        self.assertEqual(len(made), 9)
+        self.assertEqual(self.audit(made), (0, "audited 9\n"))
+        self.assertEqual(self.audit([*made, "6 bob read report y : allowed"]), (0, "audited 10\n"))
+        for changed in [
+            "5 bob read report y : allowed", "7 bob read report y : allowed", "6 alice read report y : allowed", "6 bob open report y : allowed",
+            "6 bob read repost y : allowed", "6 bob read report n : allowed", "6 bob read report - : allowed", "6 bob read report yy : allowed",
+            "6 bob read report y : denied AuthorityNo 1", "6 bob read report y : down 1", "6 bob read report y : refused NoSuchObject",
+        ]:  # fmt: skip
+            self.assertEqual((changed, *self.audit([*made, changed])), (changed, 1, "wrong record 10\n"))
 
     def test_pipelining(self) -> None:
         """Three thousand requests, with many outstanding, are answered in their order."""

@@ -6,4 +6,5 @@ pub mod Answers
 pub mod Trusts
 pub mod Proves
 pub mod Recovers
+pub mod Audits
 pub mod Inner

@@ -1,7 +1,9 @@
-//! The answers of `trust`, `prove` and `recover`.
+//! The answers of `trust`, `prove`, `audit` and `recover`.
 ghost use Rattle.std.specs.Prelude.{◌≡◌, ◌≢◌, IfErr, OnOk};
 
 use crate::answering::{Answer, AnswerError};
+use audit_check::Audited;
+use audit_form::{AuditError, Told, audit_of, told_line};
 use journal_text::{PolicyError, print_policy, read_cut};
 use nx_io::Bytes;
 use policy_history::Journal;
@@ -86,6 +88,42 @@ impl Answer for Found {
         match &self.proof {
             Some(_) => 0,
             None => 1,
+        }
+    }
+}
+
+impl Answer for Told {
+    ghost use Rattle.audit_form.specs.Answers.{IsToldOf};
+    ghost use Rattle.audit_form.specs.AuditForm.{IsWrongLine};
+    ghost use Rattle.answer_commands.specs.Audits.{HasAuditForm, audit_output, audit_status};
+
+    ghost formed = { HasAuditForm };
+
+    ghost told = { IsToldOf };
+
+    ghost wrong = { IsWrongLine };
+
+    ghost written = { audit_output };
+
+    ghost ends = { audit_status };
+
+    fn of(alloc: Global, text: &[u8]) -> Result<Told, AnswerError> {
+        match audit_of(alloc, text) {
+            Ok(told) => Ok(told),
+            Err(AuditError::Wrong { line }) => Err(AnswerError::Wrong { line }),
+            Err(AuditError::Memory) => Err(AnswerError::Memory),
+        }
+    }
+
+    fn output(&self, alloc: Global) -> Result<Bytes, AllocError> {
+        let line = told_line(alloc, *self)?;
+        Bytes::of(alloc, line.as_bytes())
+    }
+
+    fn status(&self) -> u8 {
+        match self.audited {
+            Audited::Right => 0,
+            Audited::Wrong { .. } => 1,
         }
     }
 }

@@ -3,10 +3,11 @@ use Rattle.std.proofs.Common.{◌≡◌, ◌==◌, ◌∷◌, false, ℕ, List, 
 use Rattle.std.proofs.lemmas.Bool.Decides.{Decides-eqb}
 use Rattle.policy_history.specs.Values.{History}
 use Rattle.run_streams.specs.Runs.{SinkRun, SourceRun}
-use Rattle.nexus_run.specs.declared.commands.Command.TheVariants.{Check, Script, Core, Trust, Prove, Recover, Drill}
-use Rattle.nexus_run.specs.Commands.{IsDrill, IsLoad, IsPlain, check_words, core_words, drill_words, prove_words, recover_words, script_words, trust_words}
+use Rattle.nexus_run.specs.declared.commands.Command.TheVariants.{Check, Script, Core, Trust, Prove, Audit, Recover, Drill}
+use Rattle.nexus_run.specs.Commands.{IsDrill, IsLoad, IsPlain, audit_words, check_words, core_words, drill_words, prove_words, recover_words, script_words, trust_words}
 use Rattle.nexus_run.specs.Commanded.{RunsCommand}
 use Rattle.nexus_run.specs.LoadRuns.{RunsCore, RunsDrill, no_memory as load_memory}
+use Rattle.answer_commands.specs.Audits.{RunsAudit}
 use Rattle.answer_commands.specs.CheckRuns.{RunsCheck, no_memory as check_memory}
 use Rattle.answer_commands.specs.Proves.{RunsProve}
 use Rattle.answer_commands.specs.Recovers.{RunsRecover}
@@ -27,6 +28,7 @@ none_commanded none = record {
   script = λ e. absurd (none (Script, tt, e));
   trust = λ e. absurd (none (Trust, tt, e));
   prove = λ e. absurd (none (Prove, tt, e));
+  audit = λ e. absurd (none (Audit, tt, e));
   recover = λ e. absurd (none (Recover, tt, e));
   core = λ number steps e within. absurd (none (Core number steps, within, e));
   drill = λ number workers calls e within. absurd (none (Drill number workers calls, within, e));
@@ -49,6 +51,7 @@ check_commanded are runs = record {
   script = λ e. absurd (other_letter check_words script_words are e refl);
   trust = λ e. absurd (other_letter check_words trust_words are e refl);
   prove = λ e. absurd (other_letter check_words prove_words are e refl);
+  audit = λ e. absurd (other_letter check_words audit_words are e refl);
   recover = λ e. absurd (other_letter check_words recover_words are e refl);
   core = λ number steps e within. absurd (cc (sym are ∙ e));
   drill = λ number workers calls e within. absurd (cc (sym are ∙ e));
@@ -61,6 +64,7 @@ script_commanded are runs = record {
   script = λ e. runs;
   trust = λ e. absurd (other_letter script_words trust_words are e refl);
   prove = λ e. absurd (other_letter script_words prove_words are e refl);
+  audit = λ e. absurd (other_letter script_words audit_words are e refl);
   recover = λ e. absurd (other_letter script_words recover_words are e refl);
   core = λ number steps e within. absurd (cc (sym are ∙ e));
   drill = λ number workers calls e within. absurd (cc (sym are ∙ e));
@@ -73,6 +77,7 @@ trust_commanded are runs = record {
   script = λ e. absurd (other_letter trust_words script_words are e refl);
   trust = λ e. runs;
   prove = λ e. absurd (other_letter trust_words prove_words are e refl);
+  audit = λ e. absurd (other_letter trust_words audit_words are e refl);
   recover = λ e. absurd (other_letter trust_words recover_words are e refl);
   core = λ number steps e within. absurd (cc (sym are ∙ e));
   drill = λ number workers calls e within. absurd (cc (sym are ∙ e));
@@ -85,7 +90,21 @@ prove_commanded are runs = record {
   script = λ e. absurd (other_letter prove_words script_words are e refl);
   trust = λ e. absurd (other_letter prove_words trust_words are e refl);
   prove = λ e. runs;
+  audit = λ e. absurd (other_letter prove_words audit_words are e refl);
   recover = λ e. absurd (other_letter prove_words recover_words are e refl);
+  core = λ number steps e within. absurd (cc (sym are ∙ e));
+  drill = λ number workers calls e within. absurd (cc (sym are ∙ e));
+}
+
+pub audit_commanded : {words : List (List ℕ)} {source : SourceRun} {sink : SinkRun} {panel : PanelRun} {journal : Option History} {status : ℕ} → words ≡ audit_words
+    → RunsAudit source sink status → RunsCommand words source sink panel journal status
+audit_commanded are runs = record {
+  check = λ e. absurd (other_letter audit_words check_words are e refl);
+  script = λ e. absurd (other_letter audit_words script_words are e refl);
+  trust = λ e. absurd (other_letter audit_words trust_words are e refl);
+  prove = λ e. absurd (other_letter audit_words prove_words are e refl);
+  audit = λ e. runs;
+  recover = λ e. absurd (other_letter audit_words recover_words are e refl);
   core = λ number steps e within. absurd (cc (sym are ∙ e));
   drill = λ number workers calls e within. absurd (cc (sym are ∙ e));
 }
@@ -97,6 +116,7 @@ recover_commanded are runs = record {
   script = λ e. absurd (other_letter recover_words script_words are e refl);
   trust = λ e. absurd (other_letter recover_words trust_words are e refl);
   prove = λ e. absurd (other_letter recover_words prove_words are e refl);
+  audit = λ e. absurd (other_letter recover_words audit_words are e refl);
   recover = λ e. runs;
   core = λ number steps e within. absurd (cc (sym are ∙ e));
   drill = λ number workers calls e within. absurd (cc (sym are ∙ e));
@@ -109,6 +129,7 @@ core_commanded {sink = sink} {status = status} m n are mine runs = record {
   script = λ e. absurd (cc (sym are ∙ e));
   trust = λ e. absurd (cc (sym are ∙ e));
   prove = λ e. absurd (cc (sym are ∙ e));
+  audit = λ e. absurd (cc (sym are ∙ e));
   recover = λ e. absurd (cc (sym are ∙ e));
   core = λ number steps e within. (let same = core_same number steps m n within mine (sym e ∙ are) in rw (same.0, same.1) runs);
   drill = λ number workers calls e within. absurd (cc (sym are ∙ e));
@@ -121,6 +142,7 @@ drill_commanded {source = source} {sink = sink} {status = status} l m n are mine
   script = λ e. absurd (cc (sym are ∙ e));
   trust = λ e. absurd (cc (sym are ∙ e));
   prove = λ e. absurd (cc (sym are ∙ e));
+  audit = λ e. absurd (cc (sym are ∙ e));
   recover = λ e. absurd (cc (sym are ∙ e));
   core = λ number steps e within. absurd (cc (sym are ∙ e));
   drill = λ number workers calls e within. (let same = drill_same number workers calls l m n within mine (sym e ∙ are) in rw (same.0, same.1, same.2) runs);
@@ -135,6 +157,7 @@ memory_commanded {source = source} {sink = sink} {panel = panel} {status = statu
   script = λ e. runs_script (script_memory six none still still_too);
   trust = λ e. runs_answer (λ answer is e three. apart status 6 3 six three refl) (answer_memory six none still still_too);
   prove = λ e. runs_answer (λ answer is e three. apart status 6 3 six three refl) (answer_memory six none still still_too);
+  audit = λ e. runs_answer (λ answer is e three. apart status 6 3 six three refl) (answer_memory six none still still_too);
   recover = λ e. runs_answer (λ answer is e three. apart status 6 3 six three refl) (answer_memory six none still still_too);
   core = λ number steps e within. runs_load (load_memory six none still_too);
   drill = λ number workers calls e within. runs_load (load_memory six none still_too);

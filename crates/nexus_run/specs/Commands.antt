@@ -3,7 +3,7 @@ use Rattle.std.specs.Prelude.{◌≡◌, ◌≢◌, ◌<◌, ◌≤◌, ◌^◌,
 use Rattle.std.specs.Fmt.{decimal}
 use Rattle.service_commands.specs.Services.{IsAddress, IsService}
 use Rattle.nexus_run.specs.declared.commands.Command.{Command}
-use Rattle.nexus_run.specs.declared.commands.Command.TheVariants.{Check, Script, Core, Trust, Prove, Recover, Drill}
+use Rattle.nexus_run.specs.declared.commands.Command.TheVariants.{Check, Script, Core, Trust, Prove, Audit, Recover, Drill}
 
 abbrev pub check_words : List (List ℕ)
 check_words = codes "check" ∷ []
@@ -16,6 +16,9 @@ trust_words = codes "trust" ∷ []
 
 abbrev pub prove_words : List (List ℕ)
 prove_words = codes "prove" ∷ []
+
+abbrev pub audit_words : List (List ℕ)
+audit_words = codes "audit" ∷ []
 
 abbrev pub recover_words : List (List ℕ)
 recover_words = codes "recover" ∷ []
@@ -49,6 +52,7 @@ command_words Check = check_words
 command_words Script = script_words
 command_words Trust = trust_words
 command_words Prove = prove_words
+command_words Audit = audit_words
 command_words Recover = recover_words
 command_words (Core number steps) = core_words number steps
 command_words (Drill number workers calls) = drill_words number workers calls

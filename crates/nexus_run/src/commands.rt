@@ -30,6 +30,8 @@ pub enum Command {
     Trust,
     /// Finds a chain of delegations.
     Prove,
+    /// Holds recorded verdicts against a policy.
+    Audit,
     /// Makes a policy text of one that was cut.
     Recover,
     /// Takes so many steps of a load that is drawn from a number.
@@ -128,6 +130,8 @@ pub fn command_of(words: &[&str]) -> Option<Command>
         Some(Command::Trust)
     } else if is_word(words, "prove") {
         Some(Command::Prove)
+    } else if is_word(words, "audit") {
+        Some(Command::Audit)
     } else if is_word(words, "recover") {
         Some(Command::Recover)
     } else {

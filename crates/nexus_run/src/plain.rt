@@ -9,6 +9,7 @@ ghost use Rattle.script_command.specs.Scripts.{panel_run};
 use crate::commands::{Command, command_of};
 use crate::load::{drill, load};
 use answer_commands::{Found, Recovered, answer_input, check};
+use audit_form::Told;
 use authority_ask::Panel;
 use nx_io::{Sink, Source};
 use script_command::{PlainEnd, script};
@@ -22,11 +23,12 @@ use trust_check::Trust;
 /// Runs a command that is neither a service nor a client: `check` reads one input from the source and writes its outcome to the
 /// sink; `script` reads a policy and the requests of sessions, answers each, and writes the replies and then the policy as they
 /// left it; `trust` reads what an owner assumes and a goal, and writes whether the untrusted can reach it; `prove` reads labels and
-/// a goal, and writes a proof by a chain of delegations; `recover` reads a policy text that may be cut, and writes it whole; `core`
-/// reads nothing, and writes the line of a generated load; and so does `drill`, whose load runs on threads.
+/// a goal, and writes a proof by a chain of delegations; `audit` reads a policy text and recorded verdicts, and writes whether each
+/// is right; `recover` reads a policy text that may be cut, and writes it whole; `core` reads nothing, and writes the line of a
+/// generated load; and so does `drill`, whose load runs on threads.
 ///
-/// The status is 0 where all was done (of `check` at `allowed`, of `trust` at `safe`, of `prove` at a proof), 1 at `denied`, where a
-/// goal is not safe and where there is no chain, 2 where the words are not those of a command, which then reads and writes nothing,
+/// The status is 0 where all was done (of `check` at `allowed`, of `trust` at `safe`, of `prove` at a proof, of `audit` where each
+/// record is right), 1 at `denied`, where a goal is not safe, where there is no chain and where a record is wrong, 2 where the words are not those of a command, which then reads and writes nothing,
 /// 3 where the input is refused, 4 where the source failed, 5 where the sink failed, 6 where memory ran out, and 8 where an
 /// authority could not be reached. At 4, 6 and 8 nothing was written, and at 5 a proper part of what was to be.
 /// `docs/FORMATS.md`, "Statuses", states this.
@@ -78,6 +80,11 @@ where
         },
         Some(Command::Prove) => PlainEnd {
             status: answer_input::<Found, S, K>(alloc, input, output),
+            journal: None,
+            panel,
+        },
+        Some(Command::Audit) => PlainEnd {
+            status: answer_input::<Told, S, K>(alloc, input, output),
             journal: None,
             panel,
         },

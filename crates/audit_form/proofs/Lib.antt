@@ -1,0 +1,4 @@
+pub mod VerdictTexts
+pub mod AnswerLetters
+pub mod RecordLines
+pub mod Reading

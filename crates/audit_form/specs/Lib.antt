@@ -1,0 +1,5 @@
+pub mod VerdictTexts
+pub mod RecordLines
+pub mod AuditForm
+pub mod Answers
+pub mod Inner
