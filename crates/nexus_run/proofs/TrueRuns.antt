@@ -1,5 +1,5 @@
 -- The reports of a run are true.
-use Rattle.std.proofs.Common.{◌≡◌, ℕ, List, [], length, Option, Some, None, sym, subst}
+use Rattle.std.proofs.Common.{◌≡◌, ℕ, List, [], length, Option, Some, None}
 use Rattle.policy_history.specs.declared.heads.Head.{Head}
 use Rattle.policy_history.specs.declared.events.Entry.{Entry}
 use Rattle.policy_history.specs.Values.{History, entry_trees}
@@ -17,7 +17,7 @@ abbrev pub AreTrueReports : Head → List Entry → List ReportView → Type 0
 AreTrueReports h es reports = (low : ℕ) × AreTrue h (entry_trees es) low reports
 
 -- where nothing was begun there is no journal
-no_journal : (journal : Option History) (h : Head) (es : List Entry) → journal ≡ None → IsJournal journal h es → ⊥
+pub no_journal : (journal : Option History) (h : Head) (es : List Entry) → journal ≡ None → IsJournal journal h es → ⊥
 no_journal None h es none is = is
 no_journal (Some journal) h es none is = cc none
 
