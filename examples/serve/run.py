@@ -1,6 +1,7 @@
 #!/usr/bin/env python3
 """Plays `nexus serve` over loopback TCP: a day of three sessions, a client that is killed, hostile peers, a service that is killed under
-load, and each status. What is wanted stands here and in day.after, and comes from docs/FORMATS.md and docs/LOGIC.md.
+load, each status, and rights that are taken away and given 10,000 times under kept verdicts. What is wanted stands here and in
+day.after, and comes from docs/FORMATS.md and docs/LOGIC.md.
 
     examples/serve/run.py PROGRAM
 
@@ -579,11 +580,74 @@ def play_client() -> None:
         check(f"the words client {words}", (ended.returncode, ended.stdout), (2, b""))
 
 
+# What is told is fresh
+
+
+OWNERS, ROUNDS = 8, 1250
+READERS = ["bob", "carol", "dave"]
+OPEN, CLOSE, READ = "goal read {0} : {0} says open", "nogoal read {0}", "call read {0} 0"
+
+
+def ask_each(sessions: list[Session], data: bytes) -> list[str]:
+    """Sends the same to each session, and then takes a reply from each."""
+    for session in sessions:
+        session.send(data)
+    return [line_of(session.read()) for session in sessions]
+
+
+def welcome_readers(owner: Session, readers: list[Session]) -> None:
+    """Makes an object with the owner's name, which who has the owner's word may read, and all may write. Each reader gets that word."""
+    name = owner.name
+    owner.change(f"object {name}")
+    owner.change(f"goal write {name} : true")
+    owner.change(OPEN.format(name))
+    for reader in readers:
+        label = owner.change(f"say {name} : open")
+        owner.change(f"transfer {label} {reader.name}")
+        reader.change(f"proof read {name} : proof 1;1 label:{name} says open;end")
+        reader.change(f"proof write {name} : proof 1;1 true_i:true;end")
+        reader.call("read", name, "allowed 0 0")
+        reader.call("read", name, "allowed 1 0")
+
+
+def take_away_and_give(owner: Session, readers: list[Session]) -> None:
+    """Takes the right of three readers away and gives it again, many times. A reader that asks behind the `done` of the one is denied,
+    though its kept verdict allows it, and behind that of the other it is allowed; and what the register is told to hold is what the last
+    reader wrote."""
+    name = owner.name
+    opening, closing, reading = (frame_of_line(line.format(name)) for line in (OPEN, CLOSE, READ))
+    for turn in range(ROUNDS):
+        owner.send(closing)
+        at = owner.read().at
+        check("a right that was taken away", ask_each(readers, reading), [f"denied {at} GoalUnset"] * 3)
+        owner.send(opening)
+        at = owner.read().at
+        check("an end of a turn", at, owner.first + 2 * (turn + 1))
+        writer = readers[turn % 3]
+        check("a write", writer.ask(f"call write {name} {turn + 1}").split()[::3], ["allowed", str(turn)])
+        check("a right that was given", ask_each(readers, reading), [f"allowed {at} 0 {turn + 1}"] * 3)
+        check("a kept verdict", ask_each(readers, reading), [f"allowed {at} 1 {turn + 1}"] * 3)
+
+
+def play_fresh() -> None:
+    owners = [f"owner{number}" for number in range(OWNERS)]
+    with Service(head(owners + READERS) + "end\n", 4, OWNERS + len(READERS)) as service:
+        readers = [Session(service.address, name) for name in READERS]
+        for name in owners:
+            with Session(service.address, name) as owner:
+                welcome_readers(owner, readers)
+                owner.first = max(at for session in (owner, *readers) for at in session.lines)
+                take_away_and_give(owner, readers)
+        for reader in readers:
+            reader.close()
+        check("the lines of many turns", service.text().count("\n"), 1 + OWNERS + 3 + OWNERS * (3 + 4 * 3 + 2 * ROUNDS))
+
+
 def main() -> int:
     global program
     program = sys.argv[1]
     try:
-        for play in [play_day, play_killed_client, play_hostile, play_kills, play_statuses, play_broken_output, play_client]:
+        for play in [play_day, play_killed_client, play_hostile, play_kills, play_statuses, play_broken_output, play_client, play_fresh]:
             play()
     except Differs as differs:
         print(f"serve: {differs}")
