@@ -80,6 +80,43 @@ fn chains_are_found(rt: HostRuntime) -> Result<(), AllocError> {
     play(&rt, rt.alloc(), &["prove"], pieces(7, 3), CHAINS)
 }
 
+// A policy whose journal gives a label and takes it away, and one whose goal an authority decides, each with records of its calls; and
+// inputs that have not the form.
+const AUDITS: &str =
+    "nexus audit 1|nexus 2|principal alice pa|1 alice object f|1 alice goal read f : alice says ok|1 alice say alice : ok|\
+    1 alice proof read f : proof 2 ; 1 label : alice says ok ; end|1 alice delete 3|end|\
+    4 alice read f - : allowed|5 alice read f - : denied LabelMissing 1|1 alice read f - : denied GoalUnset|\
+    0 alice read f - : refused NoSuchObject|end| -> 0 none:audited 4|
+nexus audit 1|nexus 2|principal alice pa|1 alice object f|1 alice goal read f : alice says ok|1 alice say alice : ok|\
+    1 alice proof read f : proof 2 ; 1 label : alice says ok ; end|1 alice delete 3|end|\
+    5 alice read f - : allowed|1 alice read f - : allowed|4 alice read f - : allowed|end| -> 1 none:wrong record 1|
+nexus audit 1|nexus 2|principal alice pa|1 alice object f|1 alice goal read f : alice says ok|1 alice say alice : ok|\
+    1 alice proof read f : proof 2 ; 1 label : alice says ok ; end|1 alice delete 3|end|\
+    6 alice read f - : allowed|end| -> 3 none:refused line 10|
+nexus audit 1|nexus 2|principal alice pa|authority 0 clock|1 alice object f|1 alice bind alice.c 0|1 alice goal read f : alice.c says ok|\
+    1 alice proof read f : proof 2 ; 1 ask : alice.c says ok ; end|end|\
+    4 alice read f ? : allowed|4 alice read f y : allowed|4 alice read f n : denied AuthorityNo 1|4 alice read f ? : denied AuthorityNo 1|\
+    4 alice read f - : down 1|4 alice read f ? : down 1|1 alice read f ? : denied GoalUnset|\
+    0 alice read f ? : refused NoSuchObject|end| -> 0 none:audited 8|
+nexus audit 1|nexus 2|principal alice pa|authority 0 clock|1 alice object f|1 alice bind alice.c 0|1 alice goal read f : alice.c says ok|\
+    1 alice proof read f : proof 2 ; 1 ask : alice.c says ok ; end|end|4 alice read f - : allowed|end -> 1 none:wrong record 1|
+nexus audit 1|nexus 2|principal alice pa|authority 0 clock|1 alice object f|1 alice bind alice.c 0|1 alice goal read f : alice.c says ok|\
+    1 alice proof read f : proof 2 ; 1 ask : alice.c says ok ; end|end|3 alice read f ? : down 1|end| -> 1 none:wrong record 1|
+nexus audit 1|nexus 2|principal alice pa|end|end| -> 0 none:audited 0|
+nexus audit 1|nexus 2|principal alice pa|1 alice object f| -> 3 none:refused line 5|
+nexus audit 1|nexus 2|principal alice pa|1 alice object f|1 alice delete 7|end|end| -> 3 none:refused line 5|
+nexus audit 1|nexus 2|principal alice pa|end|0 alice read f yyyyyyyyyyyyyyyyy : allowed|end| -> 3 none:refused line 5|
+nexus audit 1|nexus 2|principal alice pa|end|0 bob read f - : allowed|end| -> 3 none:refused line 5|
+nexus audit 1|nexus 2|principal alice pa|end|0 alice not f - : allowed|end| -> 3 none:refused line 5|
+nexus audit 1|nexus 2|principal alice pa|end|0 alice read f - : denied GoalUnset 1|end| -> 3 none:refused line 5|
+nexus audit 1|nexus 2|principal alice pa|end|0 alice read f - : down 0|end| -> 3 none:refused line 5|
+nexus audit 1|nexus 2|principal alice pa|end|0 alice read f - : refused NoSuchObject| -> 3 none:refused line 6|";
+
+#[test]
+fn records_are_audited(rt: HostRuntime) -> Result<(), AllocError> {
+    play(&rt, rt.alloc(), &["audit"], pieces(7, 3), AUDITS)
+}
+
 // Each row is words, ` -> ` and what comes of a run with them.
 fn play_words<R>(rt: &R, alloc: Global, rows: &str) -> Result<(), AllocError>
 where
@@ -113,6 +150,7 @@ check check -> 2 all:
 script script -> 2 all:
 check script -> 2 all:
 trust trust -> 2 all:
+audit audit -> 2 all:
 drill 0 0 1 -> 2 all:
 drill 0 65 1 -> 2 all:
 drill 0 1 0 -> 2 all:
