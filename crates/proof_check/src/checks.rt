@@ -3,7 +3,7 @@ ghost use Rattle.nal_term.specs.Size.{node_count};
 ghost use Rattle.nal_term.specs.Trees.{formula_tree};
 ghost use Rattle.proof_lines.specs.Lines.{line_trees};
 ghost use Rattle.nal_rules.specs.Derivation.{Derives};
-ghost use Rattle.nal_rules.specs.Faults.{HasLowestFault, IsFaultless, formulas_where, is_ask, is_label, numbers_from};
+ghost use Rattle.nal_rules.specs.Faults.{HasFault, HasLowestFault, IsFaultless, formulas_where, is_ask, is_label, numbers_from};
 ghost use Rattle.proof_check.specs.Inner.LineSets.{AreHypothesisSets};
 ghost use Rattle.proof_check.specs.Results.{IsRightError};
 ghost use Rattle.proof_check.specs.Sizes.{greatest_in, greatest_size, line_steps, proof_steps};
@@ -89,6 +89,35 @@ fn check_uncounted<L: Ledger>(
 {
     let mut steps = Steps::<L>::start(blank);
     check_counted(alloc, proof, goal, &mut steps)
+}
+
+/// The first fault of the line with this number, counted from 1, whatever faults earlier lines have. None exactly where no fault
+/// applies to the line, or where there is no such line. It takes no memory. `docs/LOGIC.md`, "Faults", says when each applies.
+pub fn fault_of_line(proof: &Proof, goal: &Formula, number: u64) -> Option<Fault>
+    ensures { MatchOption result
+        (IsFaultless (line_trees proof.now) (formula_tree goal.now) number)
+        (λ fault. HasFault (line_trees proof.now) (formula_tree goal.now) number fault) }
+{
+    fault_uncounted::<Brand>(proof, goal, number, Blank::new(1))
+}
+
+// The counted test, with a counter that nothing reads.
+fn fault_uncounted<L: Ledger>(
+    proof: &Proof,
+    goal: &Formula,
+    number: u64,
+    blank: Blank,
+) -> Option<Fault>
+    requires name { blank.name ≡ L.name }
+    requires parts { blank.parts ≡ L.parts }
+    requires some { 0 < blank.parts }
+    ensures { MatchOption result
+        (IsFaultless (line_trees proof.now) (formula_tree goal.now) number)
+        (λ fault. HasFault (line_trees proof.now) (formula_tree goal.now) number fault) }
+{
+    let mut steps = Steps::<L>::start(blank);
+    let sets = hypothesis_sets(proof);
+    line_fault(proof, goal, sets.as_slice(), number, &mut steps)
 }
 
 /// As `check`, with a step for each look at the kind of a node where two terms or two formulas are

@@ -22,7 +22,7 @@ mod statement_forms;
 mod substitutions;
 mod supports;
 
-pub use checks::{CheckError, Checked, check, check_counted};
+pub use checks::{CheckError, Checked, check, check_counted, fault_of_line};
 pub use laws::{allowed_cases_derive, faultless_proofs_derive};
 pub use lists::LineList;
 pub use supports::{missing_label, port_of, question, unbound_line};
