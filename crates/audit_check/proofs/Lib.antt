@@ -3,5 +3,4 @@ pub mod AskLines
 pub mod Opened
 pub mod Settled
 pub mod Unknowns
-pub mod Replaying
 pub mod Ordered

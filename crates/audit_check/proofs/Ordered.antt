@@ -13,7 +13,8 @@ use Rattle.audit_check.specs.declared.records.Record.{Record}
 use Rattle.audit_check.specs.Audits.{IsWrongRecord}
 use Rattle.policy_history.specs.Machine.{replay}
 use Rattle.policy_history.specs.Values.{History, entry_trees, state_after}
-use Rattle.audit_check.specs.Inner.Replays.{AreInOrder, IsBeginning, IsPlaceOf}
+use Rattle.audit_check.specs.Beginnings.{IsBeginning}
+use Rattle.audit_check.specs.Inner.Replays.{AreInOrder, IsPlaceOf}
 use Rattle.audit_check.specs.Records.{IsRightIn, IsRightRecord}
 
 slice_get_front : {A : Type 0} (xs ys : List A) (i : ℕ) (x : A) → slice_get xs i ≡ Some x → slice_get (xs ++ ys) i ≡ Some x

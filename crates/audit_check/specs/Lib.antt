@@ -1,4 +1,5 @@
 pub mod Records
+pub mod Beginnings
 pub mod Audits
 pub mod Laws
 pub mod Inner

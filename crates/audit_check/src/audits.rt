@@ -4,11 +4,12 @@ ghost use Rattle.policy_history.specs.Values.{entry_trees};
 ghost use Rattle.audit_check.specs.Audits.{IsAudited, IsWithin, IsWrongRecord};
 ghost use Rattle.audit_check.specs.Records.{IsRightRecord};
 ghost use Rattle.audit_check.specs.declared.records.Record as model;
-ghost use Rattle.audit_check.specs.Inner.Replays.{AreInOrder, IsBeginning};
+ghost use Rattle.audit_check.specs.Beginnings.{IsBeginning};
+ghost use Rattle.audit_check.specs.Inner.Replays.{AreInOrder};
 
 use crate::judging::is_right;
 use crate::records::Record;
-use crate::replays::replay_to;
+use crate::replays::{beginning_of, replay_to};
 use policy_history::Journal;
 use std::alloc::{AllocError, Global};
 
@@ -39,8 +40,7 @@ pub fn audit(alloc: Global, journal: &Journal, records: &Vec<Record>) -> Result<
     ensures { IfOk result (IsAudited journal.now.head (entry_trees journal.now.entries) records.now.items) }
 {
     let places = in_order(alloc, records.as_slice())?;
-    let head = journal.head().copy(alloc)?;
-    let mut part = Journal::new(alloc, head)?;
+    let mut part = beginning_of(alloc, journal, 0)?;
     let lowest = lowest_wrong(
         alloc,
         journal,

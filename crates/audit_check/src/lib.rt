@@ -10,3 +10,4 @@ mod replays;
 pub use audits::{Audited, audit};
 pub use laws::{right_allowed_records_derive, unknown_answers_are_settled};
 pub use records::{Answers, Given, Record, Recorded};
+pub use replays::beginning_of;

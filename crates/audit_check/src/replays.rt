@@ -1,12 +1,28 @@
 //! A journal that is made anew, as far as it is wanted.
-ghost use Rattle.std.specs.Prelude.{◌≡◌, ◌≤◌, ◌+◌, ◌++◌, ◌∷◌, [], OnOk, length};
+ghost use Rattle.std.specs.Prelude.{◌≡◌, ◌≤◌, ◌+◌, ◌++◌, ◌∷◌, [], IfOk, OnOk, length};
 ghost use Rattle.policy_history.specs.Events.{entry_tree};
 ghost use Rattle.policy_history.specs.Machine.{IsAccepted};
 ghost use Rattle.policy_history.specs.Values.{entry_trees, state_after};
-ghost use Rattle.audit_check.specs.Inner.Replays.{IsBeginning};
+ghost use Rattle.audit_check.specs.Beginnings.{IsBeginning};
 
 use policy_history::{Entry, Journal};
 use std::alloc::{AllocError, Global};
+
+/// The journal as it was when it had so many entries, made anew from it. An `Err` is want of memory.
+pub fn beginning_of(alloc: Global, whole: &Journal, at: u64) -> Result<Journal, AllocError>
+    requires { at ≤ length whole.now.entries }
+    ensures { IfOk result (λ part. IsBeginning part whole.now at) }
+{
+    let head = whole.head().copy(alloc)?;
+    let mut part = Journal::new(alloc, head)?;
+    match replay_to(alloc, &mut part, whole, at) {
+        Ok(()) => Ok(part),
+        Err(AllocError) => {
+            drop(part);
+            Err(AllocError)
+        }
+    }
+}
 
 /// Adds entries of the whole journal to its beginning, until that has so many. An `Err` is want of memory.
 pub fn replay_to(

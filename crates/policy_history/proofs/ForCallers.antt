@@ -27,6 +27,8 @@ use Rattle.policy_history.proofs.Staying as staying
 pub use Rattle.policy_history.proofs.Staying.{objects_stay, case_numbers_stay}
 pub use Rattle.policy_history.proofs.Changed.{same_triple}
 pub use Rattle.policy_history.proofs.Soundness.{accepted_after, replay_accepted}
+-- the beginnings of a legal list
+pub use Rattle.policy_history.proofs.Replaying.{accepted_at, take_one_more}
 -- what a change of a table leaves of what is found in it, and an option that is not missing
 pub use Rattle.policy_history.proofs.RowLaws.{find_alter, find_is, find_put, find_take_out}
 pub use Rattle.policy_history.proofs.Changed.{some_where}

@@ -5,6 +5,7 @@ pub mod Changed
 pub mod CaseLists
 pub mod Acceptance
 pub mod Soundness
+pub mod Replaying
 pub mod LineBytes
 pub mod Keeping
 pub mod RowLaws

@@ -1,5 +1,5 @@
 -- A line that is as it has to be for a fault not to apply has not that fault.
-use Rattle.std.proofs.Common.{◌≡◌, ℕ, zero, suc, ◌+◌, ◌<◌, ◌≤◌, List, [], ◌∷◌, length, take, Some, refl, ⊎_elim, arith}
+use Rattle.std.proofs.Common.{◌≡◌, ℕ, zero, suc, ◌+◌, ◌<◌, ◌≤◌, List, [], ◌∷◌, length, take, MatchOption, Option, Some, None, refl, ⊎_elim, arith}
 use Rattle.std.specs.List.{filter}
 use Rattle.std.proofs.lemmas.List.Elements.{All-contains}
 use Rattle.nal_term.specs.Trees.{FormulaTree}
@@ -144,3 +144,8 @@ first_fault lines goal k l stands place fault number met applies = record {
   applies = applies;
   first = λ other below. met_refutes lines goal k l other (met other (omega (arith, below, number)));
 }
+
+-- the first fault of a line, or that none applies to it
+pub fault_told : (lines : List LineTree) (goal : FormulaTree) (k : ℕ) (o : Option Fault) → MatchOption o (IsSoundAt lines goal k) (λ fault. HasFault lines goal k fault) → MatchOption o (IsFaultless lines goal k) (λ fault. HasFault lines goal k fault)
+fault_told lines goal k None sound = sound_faultless lines goal k sound
+fault_told lines goal k (Some fault) has = has

@@ -1,15 +1,8 @@
--- How far a journal was made anew, and which records were judged so far.
-use Rattle.std.specs.Prelude.{◌≡◌, ◌<◌, ℕ, List, Contains, All, Some, length, take, slice_get}
+-- The order in which records are judged.
+use Rattle.std.specs.Prelude.{◌≡◌, ◌<◌, ℕ, List, Contains, All, Some, length, slice_get}
 use Rattle.std.specs.List.Sorted.{IsNonDecreasingBy}
-use Rattle.policy_history.specs.Values.{History, entry_trees}
 use Rattle.audit_check.specs.declared.audits.Place.{Place}
 use Rattle.audit_check.specs.declared.records.Record.{Record}
-
--- the journal has the head of the whole one, and its first n entries
-pub record IsBeginning (part whole : History) (n : ℕ) : Type 0 where
-  pub head : part.head ≡ whole.head
-  pub entries : entry_trees part.entries ≡ take n (entry_trees whole.entries)
-  pub count : length part.entries ≡ n
 
 -- the place is that of a record, with the record's point
 abbrev pub IsPlaceOf : List Record → Place → Type 0

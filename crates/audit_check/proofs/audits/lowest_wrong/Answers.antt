@@ -3,7 +3,7 @@ use Rattle.std.proofs.lemmas.Option.{get_or_from_slice_get, slice_get-get_or, sl
 use Rattle.std.proofs.lemmas.List.{length-map}
 use Rattle.policy_history.specs.Events.{entry_tree}
 use Rattle.audit_check.specs.Audits.{IsWithin}
-use Rattle.audit_check.specs.Inner.Replays.{IsBeginning}
+use Rattle.audit_check.specs.Beginnings.{IsBeginning}
 use Rattle.audit_check.proofs.audits.lowest_wrong.Goals.{After-nth-recorded, else-not-branch, then-not-branch}
 use Rattle.policy_history.specs.Values.{entry_trees}
 use Rattle.audit_check.specs.declared.audits.Place.{Place}

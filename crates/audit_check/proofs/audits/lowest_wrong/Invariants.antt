@@ -1,7 +1,7 @@
 use Rattle.std.proofs.Common.{◌≤◌, ◌<◌, ℕ, length, get_or}
 use Rattle.policy_history.specs.Values.{entry_trees}
 use Rattle.audit_check.specs.declared.audits.Place.{Place}
-use Rattle.audit_check.specs.Inner.Replays.{IsBeginning}
+use Rattle.audit_check.specs.Beginnings.{IsBeginning}
 use Rattle.audit_check.proofs.Ordered.{AreJudged}
 use Rattle.audit_check.proofs.audits.lowest_wrong.Given as goal
 

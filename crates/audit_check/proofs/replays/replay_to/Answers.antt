@@ -6,7 +6,7 @@ use Rattle.policy_history.specs.declared.heads.Head.{Head}
 use Rattle.policy_history.specs.Events.{EntryTree, entry_tree}
 use Rattle.policy_history.specs.Machine.{IsAccepted, replay}
 use Rattle.policy_history.specs.Values.{entry_trees}
-use Rattle.audit_check.proofs.Replaying.{accepted_at, take_one_more}
+use Rattle.policy_history.proofs.ForCallers.{accepted_at, take_one_more}
 use Rattle.audit_check.proofs.replays.replay_to.Goals.{After-index-entries-index}
 use Rattle.audit_check.proofs.replays.replay_to.Goals as goal
 

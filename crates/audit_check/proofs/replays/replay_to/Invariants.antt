@@ -1,4 +1,4 @@
-use Rattle.audit_check.specs.Inner.Replays.{IsBeginning}
+use Rattle.audit_check.specs.Beginnings.{IsBeginning}
 use Rattle.audit_check.proofs.replays.replay_to.Given as goal
 
 abbrev pub invariant-loop-index : goal.invariant-loop-index
