@@ -17,7 +17,7 @@ use Rattle.audit_check.specs.Records.{yes_before}
 pub record AllSay (ls : List LineTree) : Type 0 where
   pub each : (i : ℕ) (l : LineTree) → slice_get ls i ≡ Some l → is_ask l ≡ true → IsSays l.formula
 
-say_later : (x : LineTree) (ls : List LineTree) → AllSay (x ∷ ls) → AllSay ls
+pub say_later : (x : LineTree) (ls : List LineTree) → AllSay (x ∷ ls) → AllSay ls
 say_later x ls say = record { each = λ i l at asks. say.each (suc i) l at asks }
 
 passes_ask : (l : LineTree) → is_ask l ≡ true → l.rule ≡ Ask
@@ -31,7 +31,7 @@ pub ask_passes : (l : LineTree) → l.rule ≡ Ask → is_ask l ≡ true
 ask_passes l r = rw r refl
 
 -- a statement is asked, and those behind it only after a Yes
-one_ask : (bound : List (TermTree × ℕ)) (f : FormulaTree) (b : Bool) (later : List Asked) → IsSays f → length (ask_first bound f b later) ≡ suc (length (cond b later []))
+pub one_ask : (bound : List (TermTree × ℕ)) (f : FormulaTree) (b : Bool) (later : List Asked) → IsSays f → length (ask_first bound f b later) ≡ suc (length (cond b later []))
 one_ask bound (says p s) b later say = refl
 one_ask bound _ b later say = absurd (cc say.2)
 
@@ -41,25 +41,25 @@ no_line_0 : (ls : List LineTree) (ys : List Bool) → ¬ IsAnsweredNo ls ys 0
 no_line_0 ls ys n = cc n.1
 
 module _ (x : LineTree) (ls : List LineTree) where
-  first_no : (ys : List Bool) → is_ask x ≡ true → (slice_get ys 0 ≡ Some true → ⊥) → IsAnsweredNo (x ∷ ls) ys 1
+  pub first_no : (ys : List Bool) → is_ask x ≡ true → (slice_get ys 0 ≡ Some true → ⊥) → IsAnsweredNo (x ∷ ls) ys 1
   first_no ys e unaffirmed = (x, refl, passes_ask x e, unaffirmed)
 
-  first_yes : (ys : List Bool) → ¬ IsAnsweredNo (x ∷ ls) (true ∷ ys) 1
+  pub first_yes : (ys : List Bool) → ¬ IsAnsweredNo (x ∷ ls) (true ∷ ys) 1
   first_yes ys n = n.3 refl
 
-  first_other : (ys : List Bool) → is_ask x ≡ false → ¬ IsAnsweredNo (x ∷ ls) ys 1
+  pub first_other : (ys : List Bool) → is_ask x ≡ false → ¬ IsAnsweredNo (x ∷ ls) ys 1
   first_other ys e n = let same : x ≡ n.0 = cc n.1 in let asks : is_ask x ≡ true = rw same (ask_passes n.0 n.2) in cc (e, asks)
 
-  shift : (y : Bool) (ys : List Bool) (j : ℕ) → is_ask x ≡ true → IsAnsweredNo ls ys (suc j) → IsAnsweredNo (x ∷ ls) (y ∷ ys) (suc (suc j))
+  pub shift : (y : Bool) (ys : List Bool) (j : ℕ) → is_ask x ≡ true → IsAnsweredNo ls ys (suc j) → IsAnsweredNo (x ∷ ls) (y ∷ ys) (suc (suc j))
   shift y ys j e n = (n.0, n.1, n.2, λ yes. n.3 (rw e at yes))
 
-  unshift : (y : Bool) (ys : List Bool) (j : ℕ) → is_ask x ≡ true → IsAnsweredNo (x ∷ ls) (y ∷ ys) (suc (suc j)) → IsAnsweredNo ls ys (suc j)
+  pub unshift : (y : Bool) (ys : List Bool) (j : ℕ) → is_ask x ≡ true → IsAnsweredNo (x ∷ ls) (y ∷ ys) (suc (suc j)) → IsAnsweredNo ls ys (suc j)
   unshift y ys j e n = (n.0, n.1, n.2, λ yes. n.3 (rw e yes))
 
-  past : (ys : List Bool) (j : ℕ) → is_ask x ≡ false → IsAnsweredNo ls ys (suc j) → IsAnsweredNo (x ∷ ls) ys (suc (suc j))
+  pub past : (ys : List Bool) (j : ℕ) → is_ask x ≡ false → IsAnsweredNo ls ys (suc j) → IsAnsweredNo (x ∷ ls) ys (suc (suc j))
   past ys j e n = (n.0, n.1, n.2, λ yes. n.3 (rw e at yes))
 
-  unpast : (ys : List Bool) (j : ℕ) → is_ask x ≡ false → IsAnsweredNo (x ∷ ls) ys (suc (suc j)) → IsAnsweredNo ls ys (suc j)
+  pub unpast : (ys : List Bool) (j : ℕ) → is_ask x ≡ false → IsAnsweredNo (x ∷ ls) ys (suc (suc j)) → IsAnsweredNo ls ys (suc j)
   unpast ys j e n = (n.0, n.1, n.2, λ yes. n.3 (rw e yes))
 
   -- the first that is not answered Yes, where the line in front is
@@ -101,13 +101,13 @@ module _ (bound : List (TermTree × ℕ)) where
   asked_past : (x : LineTree) (ls : List LineTree) (ys : List Bool) → is_ask x ≡ false → asked (x ∷ ls) ys ≡ asked ls ys
   asked_past x ls ys e = rw e refl
 
-  asked_none : (x : LineTree) (ls : List LineTree) → AllSay (x ∷ ls) → is_ask x ≡ true → asked (x ∷ ls) [] ≡ 1
+  pub asked_none : (x : LineTree) (ls : List LineTree) → AllSay (x ∷ ls) → is_ask x ≡ true → asked (x ∷ ls) [] ≡ 1
   asked_none x ls say e = rw e (one_ask bound x.formula false (asks_for bound (filter is_ask ls) []) (say.each 0 x refl e))
 
-  asked_no : (x : LineTree) (ls : List LineTree) (ys : List Bool) → AllSay (x ∷ ls) → is_ask x ≡ true → asked (x ∷ ls) (false ∷ ys) ≡ 1
+  pub asked_no : (x : LineTree) (ls : List LineTree) (ys : List Bool) → AllSay (x ∷ ls) → is_ask x ≡ true → asked (x ∷ ls) (false ∷ ys) ≡ 1
   asked_no x ls ys say e = rw e (one_ask bound x.formula false (asks_for bound (filter is_ask ls) ys) (say.each 0 x refl e))
 
-  asked_yes : (x : LineTree) (ls : List LineTree) (ys : List Bool) → AllSay (x ∷ ls) → is_ask x ≡ true → asked (x ∷ ls) (true ∷ ys) ≡ suc (asked ls ys)
+  pub asked_yes : (x : LineTree) (ls : List LineTree) (ys : List Bool) → AllSay (x ∷ ls) → is_ask x ≡ true → asked (x ∷ ls) (true ∷ ys) ≡ suc (asked ls ys)
   asked_yes x ls ys say e = rw e (one_ask bound x.formula true (asks_for bound (filter is_ask ls) ys) (say.each 0 x refl e))
 
   -- ---- where all are answered Yes

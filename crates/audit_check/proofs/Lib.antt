@@ -4,3 +4,4 @@ pub mod Opened
 pub mod Settled
 pub mod Unknowns
 pub mod Ordered
+pub mod ForCallers
