@@ -1,0 +1,2 @@
+-- The words of the private functions.
+pub mod Steps

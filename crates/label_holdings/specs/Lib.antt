@@ -1,0 +1,4 @@
+pub mod Entries
+pub mod Tenures
+pub mod Holdings
+pub mod Inner
