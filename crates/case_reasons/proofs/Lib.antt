@@ -1,0 +1,11 @@
+pub mod LastEntries
+pub mod Tracking
+pub mod Tables
+pub mod Objects
+pub mod Goals
+pub mod Proofs
+pub mod Faults
+pub mod LineLists
+pub mod Asks
+pub mod Told
+pub mod Recorded
