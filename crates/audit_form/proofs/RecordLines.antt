@@ -1,5 +1,5 @@
 -- The line of a record: its words, and that it is of one record.
-use Rattle.std.proofs.Common.{◌≡◌, ◌<◌, ◌^◌, ℕ, List, ◌++◌, length, codes, Some, refl, sym, ap, subst, ◌∙◌, arith}
+use Rattle.std.proofs.Common.{◌≡◌, ◌<◌, ◌≤◌, ◌^◌, ℕ, List, ◌++◌, length, codes, Some, refl, sym, ap, subst, ◌∙◌, arith}
 use Rattle.std.specs.Fmt.{decimal}
 use Rattle.std.proofs.lemmas.Fmt.{decimal_injective}
 use Rattle.policy_history.specs.declared.heads.Head.{Head}
@@ -8,7 +8,8 @@ use Rattle.policy_history.specs.PolicyLines.{spaced}
 use Rattle.journal_text.specs.Inner.PolicyReading.{IsUnspaced}
 use Rattle.journal_text.proofs.PolicyCuts.{cut_same, name_unspaced, number_unspaced}
 use Rattle.nal_term.specs.Names.{IsName}
-use Rattle.audit_check.specs.Audits.{IsWithin}
+use Rattle.audit_form.specs.CallLines.{IsCallLine}
+use Rattle.audit_form.specs.declared.record_lines.Call.{Call}
 use Rattle.audit_check.specs.declared.records.Answers.{Answers}
 use Rattle.audit_check.specs.declared.records.Record.{Record}
 use Rattle.audit_check.specs.declared.records.Recorded.{Recorded}
@@ -50,41 +51,74 @@ one_cut line at name op object told a n o b t p q =
     let z = cut_same object told b t y.1 p.object_plain q.object_plain in
     record { at_is = w.0; name_is = x.0; op_is = y.0; object_is = z.0; told_is = z.1 }
 
-module _ (h : Head) (es : List EntryTree) (short : length es < 2 ^ 64) (line : List ℕ) (r : Record) (l : IsRecordLine h es line r) where
-  pub words_in : AreWords line (decimal r.at) l.name r.op r.object (told_text r.answers r.verdict)
+module _ (h : Head) (es : List EntryTree) (short : length es < 2 ^ 64) (line : List ℕ) (c : Call) (rest : List ℕ) (l : IsCallLine h es line c rest) where
+  pub words_in : AreWords line (decimal c.at) l.name c.op c.object rest
   words_in = record {
     formed = l.formed;
-    at_plain = number_unspaced r.at (let point = l.within.point in omega (arith, point, short));
+    at_plain = number_unspaced c.at (let point = l.point in omega (arith, point, short));
     name_plain = name_unspaced l.name l.named;
-    op_plain = name_unspaced r.op l.op;
-    object_plain = name_unspaced r.object l.object;
+    op_plain = name_unspaced c.op l.op;
+    object_plain = name_unspaced c.object l.object;
   }
 
-  pub told_in : IsToldText (told_text r.answers r.verdict) r.answers r.verdict
-  told_in = record { formed = refl; few = l.few; lines = l.lines }
-
-  -- the words that were cut are those of the record
-  pub cut_in : (at name op object told : List ℕ) → AreWords line at name op object told → WordsSame at name op object told (decimal r.at) l.name r.op r.object (told_text r.answers r.verdict)
-  cut_in at name op object told w = one_cut line at name op object told (decimal r.at) l.name r.op r.object (told_text r.answers r.verdict) w words_in
-
-  pub told_same : (at name op object told : List ℕ) → AreWords line at name op object told → IsToldText told r.answers r.verdict
-  told_same at name op object told w = subst (λ (t : List ℕ). IsToldText t r.answers r.verdict) (sym (cut_in at name op object told w).told_is) told_in
+  -- the words that were cut are those of the call
+  pub cut_in : (at name op object told : List ℕ) → AreWords line at name op object told → WordsSame at name op object told (decimal c.at) l.name c.op c.object rest
+  cut_in at name op object told w = one_cut line at name op object told (decimal c.at) l.name c.op c.object rest w words_in
 
 some_same : {A : Type 0} {x y : A} → Some x ≡ Some y → x ≡ y
 some_same e = cc
 
--- a line is of one record
-pub one_record : (h : Head) (es : List EntryTree) → length es < 2 ^ 64 → (line : List ℕ) (r s : Record) → IsRecordLine h es line r → IsRecordLine h es line s → s ≡ r
-one_record h es short line r s l m =
-    let w = cut_in h es short line s m (decimal r.at) l.name r.op r.object (told_text r.answers r.verdict) (words_in h es short line r l) in
-    let point = l.within.point in
-    let other = m.within.point in
-    let at : s.at ≡ r.at = decimal_injective s.at r.at (omega (arith, other, short)) (omega (arith, point, short)) (sym w.at_is) in
-    let principal : s.principal ≡ r.principal = some_same (sym m.principal ∙ ap (numbered h.principals) (sym w.name_is) ∙ l.principal) in
-    let op : s.op ≡ r.op = sym w.op_is in
-    let object : s.object ≡ r.object = sym w.object_is in
-    let told = one_told (told_text s.answers s.verdict) s.answers r.answers s.verdict r.verdict (told_in h es short line s m) (record { formed = sym w.told_is; few = l.few; lines = l.lines }) in
-    λ i. record { at = at i; principal = principal i; op = op i; object = object i; answers = told.0 i; verdict = told.1 i }
+-- a line begins with one call
+pub one_call : (h : Head) (es : List EntryTree) → length es < 2 ^ 64 → (line : List ℕ) (c d : Call) (rest behind : List ℕ) → IsCallLine h es line c rest → IsCallLine h es line d behind → (d ≡ c) × (behind ≡ rest)
+one_call h es short line c d rest behind l m =
+    let w = cut_in h es short line d behind m (decimal c.at) l.name c.op c.object rest (words_in h es short line c rest l) in
+    let point = l.point in
+    let other = m.point in
+    let at : d.at ≡ c.at = decimal_injective d.at c.at (omega (arith, other, short)) (omega (arith, point, short)) (sym w.at_is) in
+    let principal : d.principal ≡ c.principal = some_same (sym m.principal ∙ ap (numbered h.principals) (sym w.name_is) ∙ l.principal) in
+    let op : d.op ≡ c.op = sym w.op_is in
+    let object : d.object ≡ c.object = sym w.object_is in
+    (λ i. record { at = at i; principal = principal i; op = op i; object = object i }, sym w.told_is)
+
+-- ---- The call of a record
+
+abbrev pub call_of : Record → Call
+call_of r = record { at = r.at; principal = r.principal; op = r.op; object = r.object }
+
+-- the record's line begins with its call, behind which the rest of it stands
+pub call_in : (h : Head) (es : List EntryTree) (line : List ℕ) (r : Record) → IsRecordLine h es line r → IsCallLine h es line (call_of r) (told_text r.answers r.verdict)
+call_in h es line r l = record { name = l.name; formed = l.formed; principal = l.principal; point = l.within.point; within = l.within.principal; named = l.named; op = l.op; object = l.object }
+
+pub told_in : (h : Head) (es : List EntryTree) (line : List ℕ) (r : Record) → IsRecordLine h es line r → IsToldText (told_text r.answers r.verdict) r.answers r.verdict
+told_in h es line r l = record { formed = refl; few = l.few; lines = l.lines }
+
+-- a call, and behind it what was answered to it, are the line of a record
+pub record_made : (h : Head) (es : List EntryTree) (line : List ℕ) (c : Call) (rest : List ℕ) (a : Answers) (v : Recorded) → IsCallLine h es line c rest → IsToldText rest a v
+    → IsRecordLine h es line (record { at = c.at; principal = c.principal; op = c.op; object = c.object; answers = a; verdict = v })
+record_made h es line c rest a v l t = record {
+  name = l.name;
+  formed = l.formed ∙ ap (λ (x : List ℕ). spaced (decimal c.at) (spaced l.name (spaced c.op (spaced c.object x)))) t.formed;
+  principal = l.principal;
+  within = record { point = l.point; principal = l.within };
+  named = l.named;
+  op = l.op;
+  object = l.object;
+  few = t.few;
+  lines = t.lines;
+}
+
+-- another record of the line has this call, and the rest tells its answer
+pub other_told : (h : Head) (es : List EntryTree) (line : List ℕ) (c : Call) (rest : List ℕ)
+    → ((d : Call) (behind : List ℕ) → IsCallLine h es line d behind → (d ≡ c) × (behind ≡ rest)) → (r : Record) → IsRecordLine h es line r → IsToldText rest r.answers r.verdict
+other_told h es line c rest only r l = subst (λ (t : List ℕ). IsToldText t r.answers r.verdict) (only (call_of r) (told_text r.answers r.verdict) (call_in h es line r l)).1 (told_in h es line r l)
+
+pub one_record : (h : Head) (es : List EntryTree) (line : List ℕ) (c : Call) (rest : List ℕ) (a : Answers) (v : Recorded)
+    → ((d : Call) (behind : List ℕ) → IsCallLine h es line d behind → (d ≡ c) × (behind ≡ rest)) → IsToldText rest a v
+    → (r : Record) → IsRecordLine h es line r → r ≡ record { at = c.at; principal = c.principal; op = c.op; object = c.object; answers = a; verdict = v }
+one_record h es line c rest a v only t r l =
+    let call : call_of r ≡ c = (only (call_of r) (told_text r.answers r.verdict) (call_in h es line r l)).0 in
+    let told = one_told rest r.answers a r.verdict v (other_told h es line c rest only r l) t in
+    λ i. record { at = (call i).at; principal = (call i).principal; op = (call i).op; object = (call i).object; answers = told.0 i; verdict = told.1 i }
 
 -- ---- Lines that have not so many words
 
@@ -127,21 +161,19 @@ told_made text letters rest behind a v cut sign la bv = record {
   lines = bv.numbered;
 }
 
--- ---- What was read is the record of the line
+-- ---- What was read is the call of the line
 
-pub record_made : (h : Head) (es : List EntryTree) (line at name op object told : List ℕ) (r : Record) → AreWords line at name op object told → at ≡ decimal r.at → numbered h.principals name ≡ Some r.principal
-    → IsWithin h es r → IsName name → r.op ≡ op → IsName op → r.object ≡ object → IsName object → IsToldText told r.answers r.verdict → IsRecordLine h es line r
-record_made h es line at name op object told r w at_is principal within named op_is op_named object_is object_named t = record {
+pub call_made : (h : Head) (es : List EntryTree) (line at name op object told : List ℕ) (c : Call) → AreWords line at name op object told → at ≡ decimal c.at → numbered h.principals name ≡ Some c.principal
+    → c.at ≤ length es → c.principal < length h.principals → IsName name → c.op ≡ op → IsName op → c.object ≡ object → IsName object → IsCallLine h es line c told
+call_made h es line at name op object told c w at_is principal point within named op_is op_named object_is object_named = record {
   name = name;
   formed =
-      w.formed ∙ ap (λ (x : List ℕ). spaced x (spaced name (spaced op (spaced object told)))) at_is ∙ ap (λ (x : List ℕ). spaced (decimal r.at) (spaced name (spaced x (spaced object told)))) (sym op_is)
-      ∙ ap (λ (x : List ℕ). spaced (decimal r.at) (spaced name (spaced r.op (spaced x told)))) (sym object_is)
-      ∙ ap (λ (x : List ℕ). spaced (decimal r.at) (spaced name (spaced r.op (spaced r.object x)))) t.formed;
+      w.formed ∙ ap (λ (x : List ℕ). spaced x (spaced name (spaced op (spaced object told)))) at_is ∙ ap (λ (x : List ℕ). spaced (decimal c.at) (spaced name (spaced x (spaced object told)))) (sym op_is)
+      ∙ ap (λ (x : List ℕ). spaced (decimal c.at) (spaced name (spaced c.op (spaced x told)))) (sym object_is);
   principal = principal;
+  point = point;
   within = within;
   named = named;
   op = subst IsName (sym op_is) op_named;
   object = subst IsName (sym object_is) object_named;
-  few = t.few;
-  lines = t.lines;
 }

@@ -1,3 +1,3 @@
--- Words that only the contracts of private functions use. No statement about an input rests on them but by what they unfold to.
+-- Words that only the contracts of private functions use, and of those that read a part of an input. No statement about an input rests on them but by what they unfold to.
 pub mod Verdicts
 pub mod Reading

@@ -1,5 +1,6 @@
 pub mod VerdictTexts
 pub mod RecordLines
+pub mod CallLines
 pub mod AuditForm
 pub mod Answers
 pub mod Inner

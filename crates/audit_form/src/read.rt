@@ -79,8 +79,9 @@ pub fn read_audit(alloc: Global, text: &[u8]) -> Result<AuditForm, AuditError>
     }
 }
 
-/// Reads the policy behind the first line.
-fn read_policy(alloc: Global, text: &[u8]) -> Result<PolicyFront, AuditError>
+/// Reads the policy behind the first line of an input, which has at most 67,108,864 bytes. `Wrong` exactly where no policy stands
+/// there, with the lowest line of the input that is wrong.
+pub fn read_policy(alloc: Global, text: &[u8]) -> Result<PolicyFront, AuditError>
     requires { length text.now ≤ most_bytes }
     ensures ok { IfOk result (λ front. IsFront most_session text.now front.journal.head (entry_trees front.journal.entries) front.lines front.rest.now) }
     ensures only { IfOk result (λ front. (h : Head) (es : List EntryTree) (n : ℕ) (rest : List ℕ) → IsFront most_session text.now h es n rest

@@ -6,6 +6,7 @@ ghost use Rattle.policy_history.specs.Values.{entry_trees};
 ghost use Rattle.audit_check.specs.declared.records.Answers as given;
 ghost use Rattle.audit_check.specs.declared.records.Record as call;
 ghost use Rattle.audit_check.specs.declared.records.Recorded as answer;
+ghost use Rattle.audit_form.specs.CallLines.{IsCallLine};
 ghost use Rattle.audit_form.specs.Inner.Reading.{AreWords, IsToldText};
 ghost use Rattle.audit_form.specs.RecordLines.{IsRecordLine};
 
@@ -18,6 +19,17 @@ use nal_term::{Name, NameError};
 use policy_history::{Head, Journal};
 use std::alloc::Global;
 use text_lines::{after_word, read_number};
+
+/// Who asked for what, at which point of a journal: what stands first in the line of a record.
+#[derive(Drop)]
+pub struct Call {
+    /// How many entries the journal had.
+    pub at: u64,
+    /// The number of the principal that asked.
+    pub principal: u32,
+    pub op: Name,
+    pub object: Name,
+}
 
 /// The words of a line: the first four, and what follows them.
 #[derive(Clone, Copy)]
@@ -34,7 +46,39 @@ pub struct Words<'a> {
 pub fn read_record(alloc: Global, journal: &Journal, line: &[u8]) -> Result<Record, LineError>
     ensures ok { IfOk result (λ r. IsRecordLine journal.now.head (entry_trees journal.now.entries) line.now r) }
     ensures only { IfOk result (λ r. (other : call.Record) → IsRecordLine journal.now.head (entry_trees journal.now.entries) line.now other → other ≡ r) }
-    ensures wrong { IfErr result (λ e. e ≢ LineError.Memory → (other : call.Record) → ¬ IsRecordLine journal.now.head (entry_trees journal.now.entries) line.now other) }
+    ensures wrong { IfErr result (λ e. e ≢ LineError.Memory → (other : call.Record)
+        → ¬ IsRecordLine journal.now.head (entry_trees journal.now.entries) line.now other) }
+{
+    let (call, told) = match read_call(alloc, journal, line) {
+        Ok(read) => read,
+        Err(error) => return Err(error),
+    };
+    let Some((answers, verdict)) = read_told(told) else {
+        return Err(LineError::Wrong);
+    };
+    Ok(Record {
+        at: call.at,
+        principal: call.principal,
+        op: call.op,
+        object: call.object,
+        answers,
+        verdict,
+    })
+}
+
+/// Reads the call with which a line behind this policy begins, and gives what follows it. `Wrong` exactly where the line begins
+/// with none: also where its point is past the journal's end, or its principal is none of the head's.
+pub fn read_call<'a>(
+    alloc: Global,
+    journal: &Journal,
+    line: &'a [u8],
+) -> Result<(Call, &'a [u8]), LineError>
+    ensures ok { IfOk result (λ read. IsCallLine journal.now.head (entry_trees journal.now.entries) line.now read.0 read.1.now) }
+    ensures only { IfOk result (λ read. (other : Call) (rest : List ℕ)
+        → IsCallLine journal.now.head (entry_trees journal.now.entries) line.now other rest
+        → (other ≡ read.0) × (rest ≡ read.1.now)) }
+    ensures wrong { IfErr result (λ e. e ≢ LineError.Memory → (other : Call) (rest : List ℕ)
+        → ¬ IsCallLine journal.now.head (entry_trees journal.now.entries) line.now other rest) }
 {
     let count = journal.count();
     let Some(words) = words_of(line) else {
@@ -46,9 +90,6 @@ pub fn read_record(alloc: Global, journal: &Journal, line: &[u8]) -> Result<Reco
     if at > count {
         return Err(LineError::Wrong);
     }
-    let Some((answers, verdict)) = read_told(words.told) else {
-        return Err(LineError::Wrong);
-    };
     let principal = match principal_named(alloc, journal.head(), words.name) {
         Ok(principal) => principal,
         Err(error) => return Err(error),
@@ -61,14 +102,15 @@ pub fn read_record(alloc: Global, journal: &Journal, line: &[u8]) -> Result<Reco
         Ok(object) => object,
         Err(error) => return Err(error),
     };
-    Ok(Record {
-        at,
-        principal,
-        op,
-        object,
-        answers,
-        verdict,
-    })
+    Ok((
+        Call {
+            at,
+            principal,
+            op,
+            object,
+        },
+        words.told,
+    ))
 }
 
 /// The words of a line. None exactly where it has not so many.

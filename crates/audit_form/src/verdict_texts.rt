@@ -167,7 +167,8 @@ fn read_fault(name: &[u8]) -> Option<Fault>
         .find(|fault| fault_name(*fault).as_bytes() == name)
 }
 
-fn fault_name(fault: Fault) -> &'static str
+/// The name of a fault. `docs/FORMATS.md`, "Reply lines", states the names.
+pub fn fault_name(fault: Fault) -> &'static str
     ensures { result.now ≡ fault_name fault }
 {
     match fault {

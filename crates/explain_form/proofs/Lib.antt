@@ -1,0 +1,3 @@
+pub mod QuestionLines
+pub mod LineTexts
+pub mod Reading

@@ -1,0 +1,5 @@
+pub mod QuestionLines
+pub mod ExplainForm
+pub mod ExplainedTexts
+pub mod Answers
+pub mod Inner
