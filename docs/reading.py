@@ -22,6 +22,7 @@ COMMANDS = {
     "trust": ["answer_commands/Trusts"],
     "prove": ["answer_commands/Proves"],
     "audit": ["answer_commands/Audits"],
+    "explain": ["answer_commands/Explains"],
     "recover": ["answer_commands/Recovers"],
     "script": ["script_command/Scripts"],
     "serve": ["service_commands/Services", "nexus_serve/TrueReports"],

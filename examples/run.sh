@@ -1,5 +1,5 @@
 #!/usr/bin/env bash
-# Runs each example of `nexus check`, `script`, `trust`, `prove`, `audit` and `recover` and compares what it prints, byte for byte, and its exit
+# Runs each example of `nexus check`, `script`, `trust`, `prove`, `audit`, `explain` and `recover` and compares what it prints, byte for byte, and its exit
 # status; has `nexus check` check each proof that was found; then the other ways in which the program ends; then plays `nexus serve`,
 # where there is a Python of 3.9 or later; then the commands of README and TOUR, the recipes of docs/OPERATING.md, the client for
 # programs, and the manual page; then the client in Go, what stands beside web
@@ -17,7 +17,7 @@ trap 'rm -rf "$work"' EXIT
 
 passed=0
 failed=0
-for folder in "$examples"/check/*/ "$examples"/script/*/ "$examples"/trust/*/ "$examples"/prove/*/ "$examples"/audit/*/ "$examples"/recover/*/; do
+for folder in "$examples"/check/*/ "$examples"/script/*/ "$examples"/trust/*/ "$examples"/prove/*/ "$examples"/audit/*/ "$examples"/explain/*/ "$examples"/recover/*/; do
     name=$(basename "$folder")
     command=$(basename "$(dirname "$folder")")
     "$program" "$command" <"$folder/input" >"$work/output"
@@ -123,6 +123,23 @@ done
 : >"$work/output"
 "$program" drill 0 1 1 >/dev/full
 expect 'a load on threads whose line cannot be written' 5 ''
+"$program" explain more <"$examples/explain/no_goal_is_set/input" >"$work/output"
+expect 'a word too many of an explanation' 2 ''
+: >"$work/output"
+"$program" explain <"$examples/explain/no_goal_is_set/input" >/dev/full
+expect 'an explanation that cannot be written' 5 ''
+"$program" explain </dev/null >"$work/output"
+expect 'an explanation without a line' 3 'refused line 1'
+# As many records as there may be, and one more. Five lines stand before the first.
+records() {
+    printf 'nexus audit 1\nnexus 2\nprincipal alice pa\n1 alice object f\nend\n'
+    yes '1 alice read f - : denied GoalUnset' | head -n "$1"
+    echo end
+}
+records 65536 | "$program" audit >"$work/output"
+expect 'as many records as there may be' 0 'audited 65536'
+records 65537 | "$program" audit >"$work/output"
+expect 'a record too many' 3 'refused line 65542'
 head -c 67108865 /dev/zero | tr '\0' a >"$work/large"
 "$program" check <"$work/large" >"$work/output"
 expect 'an input of one byte too many' 3 'refused size'

@@ -5,7 +5,7 @@ that is opened anywhere but in the files that are to be read for it. Prints each
     tools/outside.py [FOLDER]
 
 A function that waits for ever meets any contract, and each function over a network has a bound that lets it open a socket.
-`docs/GUARANTEES.md` names the files that may.
+The READMEs of the two crates below say what is to be read there.
 """
 
 import re

@@ -1,6 +1,6 @@
 #!/usr/bin/env python3
 """Plays what docs/OPERATING.md says and no input alone can show: an authority that is asked each time, how a service is stopped and what
-is in its text then, and a denial that is asked again. And each reply that the document shows has to be one that an example gives, and
+is in its text then, and a denial that is explained. And each reply that the document shows has to be one that an example gives, and
 what the examples of man/nexus.1 show has to be what is written.
 
     examples/operating/play.py PROGRAM
@@ -177,23 +177,33 @@ def play_signal(work: Path) -> None:
 
 
 def play_why() -> None:
-    """The denials of a recipe, asked again at their points from its policy text."""
+    """The denials of a recipe, explained at their points from its policy text, which lacks its last line; first the one that the document
+    shows, by its line."""
     recipe = FOLDER / "read_only"
     text = "nexus 2\n" + (recipe / "output").read_text().split("nexus 2\n", 1)[1]
-    with tempfile.NamedTemporaryFile("w") as policy:
-        policy.write(text.removesuffix("end\n"))
-        policy.flush()
+    heading = "## Why was it denied"
+    line = shell_of(heading)
+    check("that the document has one line for it", (line.count("\n"), "8 bob write ledger -" in line), (0, True))
+    answer = DOCUMENT.read_text().split("    $ " + line + "\n", 1)[1].split("\n\n", 1)[0]
+    owned = "object 1 owner\n"
+    may_write = owned + "goal 3 : owner says may_write(bob)\n"
+    with tempfile.TemporaryDirectory() as work:
+        (Path(work) / "after").write_text(text.removesuffix("end\n"))
         for words, wanted in [
-            ("6 bob write ledger", "denied 6 NoProof"),
-            ("7 bob write ledger", "denied 7 Line 1 NotGoal"),
-            ("8 bob write ledger", "denied 8 LabelMissing 1"),
-            ("8 bob add ledger", "denied 8 GoalUnset"),
-            ("11 bob read ledger", "allowed 11 0 0"),
-            ("0 bob read ledger", "refused 0 NoSuchObject"),
+            ("8 bob write ledger -", "".join(shown.removeprefix("    ") + "\n" for shown in answer.splitlines())),
+            ("6 bob write ledger -", "denied 6 NoProof\n" + may_write + "proof -\n"),
+            ("7 bob write ledger -", "denied 7 Line 1 NotGoal\n" + may_write + "proof 7\n1 label : owner says may_read(bob) ; NotGoal\n"),
+            ("8 bob write ledger -", "denied 8 LabelMissing 1\n" + may_write + "proof 8\n1 label : owner says may_write(bob) ; missing\n"),
+            ("8 bob add ledger -", "denied 8 GoalUnset\n" + owned + "goal -\nproof -\n"),
+            (
+                "11 bob read ledger -",
+                "allowed 11\n" + owned + "goal 2 : owner says may_read(bob)\nproof 6\n1 label : owner says may_read(bob) ; held 4 5\n",
+            ),
+            ("0 bob read ledger -", "refused 0 NoSuchObject\n"),
         ]:
-            asked = [str(FOLDER / "why.sh"), policy.name, *words.split()]
-            got = subprocess.run(asked, env={**os.environ, "NEXUS": program}, stdout=subprocess.PIPE, timeout=60).stdout.decode()
-            check(f"why {words}", got, wanted + "\n")
+            asked = line.replace("8 bob write ledger -", words).replace("./nexus", shlex.quote(program))
+            ended = subprocess.run(["sh", "-c", asked], cwd=work, stdout=subprocess.PIPE, timeout=60)
+            check(f"why {words}", (ended.returncode, ended.stdout.decode()), (0 if wanted.startswith("allowed") else 1, wanted))
 
 
 def shown(section: str) -> list[tuple[str, str]]:

@@ -7,4 +7,5 @@ pub mod Trusts
 pub mod Proves
 pub mod Recovers
 pub mod Audits
+pub mod Explains
 pub mod Inner

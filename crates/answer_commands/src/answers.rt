@@ -1,9 +1,10 @@
-//! The answers of `trust`, `prove`, `audit` and `recover`.
+//! The answers of `trust`, `prove`, `audit`, `explain` and `recover`.
 ghost use Rattle.std.specs.Prelude.{◌≡◌, ◌≢◌, IfErr, OnOk};
 
 use crate::answering::{Answer, AnswerError};
 use audit_check::Audited;
 use audit_form::{AuditError, Told, audit_of, told_line};
+use explain_form::{ExplainError, ExplanationText, explanation_of};
 use journal_text::{PolicyError, print_policy, read_cut};
 use nx_io::Bytes;
 use policy_history::Journal;
@@ -125,6 +126,38 @@ impl Answer for Told {
             Audited::Right => 0,
             Audited::Wrong { .. } => 1,
         }
+    }
+}
+
+impl Answer for ExplanationText {
+    ghost use Rattle.explain_form.specs.Answers.{IsToldOf};
+    ghost use Rattle.explain_form.specs.ExplainForm.{IsWrongLine};
+    ghost use Rattle.answer_commands.specs.Explains.{HasExplainForm, explain_output, explain_status};
+
+    ghost formed = { HasExplainForm };
+
+    ghost told = { IsToldOf };
+
+    ghost wrong = { IsWrongLine };
+
+    ghost written = { explain_output };
+
+    ghost ends = { explain_status };
+
+    fn of(alloc: Global, text: &[u8]) -> Result<ExplanationText, AnswerError> {
+        match explanation_of(alloc, text) {
+            Ok(told) => Ok(told),
+            Err(ExplainError::Wrong { line }) => Err(AnswerError::Wrong { line }),
+            Err(ExplainError::Memory) => Err(AnswerError::Memory),
+        }
+    }
+
+    fn output(&self, alloc: Global) -> Result<Bytes, AllocError> {
+        Bytes::of(alloc, self.text.as_slice())
+    }
+
+    fn status(&self) -> u8 {
+        if self.allowed { 0 } else { 1 }
     }
 }
 

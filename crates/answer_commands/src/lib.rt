@@ -1,4 +1,4 @@
-//! The commands that read one input and write one answer to it: `check`, `trust`, `prove`, `audit` and `recover`.
+//! The commands that read one input and write one answer to it: `check`, `trust`, `prove`, `audit`, `explain` and `recover`.
 #![tactic(auto)]
 
 mod answering;

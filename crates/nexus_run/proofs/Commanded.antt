@@ -3,11 +3,12 @@ use Rattle.std.proofs.Common.{◌≡◌, ◌==◌, ◌∷◌, false, ℕ, List, 
 use Rattle.std.proofs.lemmas.Bool.Decides.{Decides-eqb}
 use Rattle.policy_history.specs.Values.{History}
 use Rattle.run_streams.specs.Runs.{SinkRun, SourceRun}
-use Rattle.nexus_run.specs.declared.commands.Command.TheVariants.{Check, Script, Core, Trust, Prove, Audit, Recover, Drill}
-use Rattle.nexus_run.specs.Commands.{IsDrill, IsLoad, IsPlain, audit_words, check_words, core_words, drill_words, prove_words, recover_words, script_words, trust_words}
+use Rattle.nexus_run.specs.declared.commands.Command.TheVariants.{Check, Script, Core, Trust, Prove, Audit, Explain, Recover, Drill}
+use Rattle.nexus_run.specs.Commands.{IsDrill, IsLoad, IsPlain, audit_words, check_words, core_words, drill_words, explain_words, prove_words, recover_words, script_words, trust_words}
 use Rattle.nexus_run.specs.Commanded.{RunsCommand}
 use Rattle.nexus_run.specs.LoadRuns.{RunsCore, RunsDrill, no_memory as load_memory}
 use Rattle.answer_commands.specs.Audits.{RunsAudit}
+use Rattle.answer_commands.specs.Explains.{RunsExplain}
 use Rattle.answer_commands.specs.CheckRuns.{RunsCheck, no_memory as check_memory}
 use Rattle.answer_commands.specs.Proves.{RunsProve}
 use Rattle.answer_commands.specs.Recovers.{RunsRecover}
@@ -29,6 +30,7 @@ none_commanded none = record {
   trust = λ e. absurd (none (Trust, tt, e));
   prove = λ e. absurd (none (Prove, tt, e));
   audit = λ e. absurd (none (Audit, tt, e));
+  explain = λ e. absurd (none (Explain, tt, e));
   recover = λ e. absurd (none (Recover, tt, e));
   core = λ number steps e within. absurd (none (Core number steps, within, e));
   drill = λ number workers calls e within. absurd (none (Drill number workers calls, within, e));
@@ -52,6 +54,7 @@ check_commanded are runs = record {
   trust = λ e. absurd (other_letter check_words trust_words are e refl);
   prove = λ e. absurd (other_letter check_words prove_words are e refl);
   audit = λ e. absurd (other_letter check_words audit_words are e refl);
+  explain = λ e. absurd (other_letter check_words explain_words are e refl);
   recover = λ e. absurd (other_letter check_words recover_words are e refl);
   core = λ number steps e within. absurd (cc (sym are ∙ e));
   drill = λ number workers calls e within. absurd (cc (sym are ∙ e));
@@ -65,6 +68,7 @@ script_commanded are runs = record {
   trust = λ e. absurd (other_letter script_words trust_words are e refl);
   prove = λ e. absurd (other_letter script_words prove_words are e refl);
   audit = λ e. absurd (other_letter script_words audit_words are e refl);
+  explain = λ e. absurd (other_letter script_words explain_words are e refl);
   recover = λ e. absurd (other_letter script_words recover_words are e refl);
   core = λ number steps e within. absurd (cc (sym are ∙ e));
   drill = λ number workers calls e within. absurd (cc (sym are ∙ e));
@@ -78,6 +82,7 @@ trust_commanded are runs = record {
   trust = λ e. runs;
   prove = λ e. absurd (other_letter trust_words prove_words are e refl);
   audit = λ e. absurd (other_letter trust_words audit_words are e refl);
+  explain = λ e. absurd (other_letter trust_words explain_words are e refl);
   recover = λ e. absurd (other_letter trust_words recover_words are e refl);
   core = λ number steps e within. absurd (cc (sym are ∙ e));
   drill = λ number workers calls e within. absurd (cc (sym are ∙ e));
@@ -91,6 +96,7 @@ prove_commanded are runs = record {
   trust = λ e. absurd (other_letter prove_words trust_words are e refl);
   prove = λ e. runs;
   audit = λ e. absurd (other_letter prove_words audit_words are e refl);
+  explain = λ e. absurd (other_letter prove_words explain_words are e refl);
   recover = λ e. absurd (other_letter prove_words recover_words are e refl);
   core = λ number steps e within. absurd (cc (sym are ∙ e));
   drill = λ number workers calls e within. absurd (cc (sym are ∙ e));
@@ -104,7 +110,22 @@ audit_commanded are runs = record {
   trust = λ e. absurd (other_letter audit_words trust_words are e refl);
   prove = λ e. absurd (other_letter audit_words prove_words are e refl);
   audit = λ e. runs;
+  explain = λ e. absurd (other_letter audit_words explain_words are e refl);
   recover = λ e. absurd (other_letter audit_words recover_words are e refl);
+  core = λ number steps e within. absurd (cc (sym are ∙ e));
+  drill = λ number workers calls e within. absurd (cc (sym are ∙ e));
+}
+
+pub explain_commanded : {words : List (List ℕ)} {source : SourceRun} {sink : SinkRun} {panel : PanelRun} {journal : Option History} {status : ℕ} → words ≡ explain_words
+    → RunsExplain source sink status → RunsCommand words source sink panel journal status
+explain_commanded are runs = record {
+  check = λ e. absurd (other_letter explain_words check_words are e refl);
+  script = λ e. absurd (other_letter explain_words script_words are e refl);
+  trust = λ e. absurd (other_letter explain_words trust_words are e refl);
+  prove = λ e. absurd (other_letter explain_words prove_words are e refl);
+  audit = λ e. absurd (other_letter explain_words audit_words are e refl);
+  explain = λ e. runs;
+  recover = λ e. absurd (other_letter explain_words recover_words are e refl);
   core = λ number steps e within. absurd (cc (sym are ∙ e));
   drill = λ number workers calls e within. absurd (cc (sym are ∙ e));
 }
@@ -117,6 +138,7 @@ recover_commanded are runs = record {
   trust = λ e. absurd (other_letter recover_words trust_words are e refl);
   prove = λ e. absurd (other_letter recover_words prove_words are e refl);
   audit = λ e. absurd (other_letter recover_words audit_words are e refl);
+  explain = λ e. absurd (other_letter recover_words explain_words are e refl);
   recover = λ e. runs;
   core = λ number steps e within. absurd (cc (sym are ∙ e));
   drill = λ number workers calls e within. absurd (cc (sym are ∙ e));
@@ -130,6 +152,7 @@ core_commanded {sink = sink} {status = status} m n are mine runs = record {
   trust = λ e. absurd (cc (sym are ∙ e));
   prove = λ e. absurd (cc (sym are ∙ e));
   audit = λ e. absurd (cc (sym are ∙ e));
+  explain = λ e. absurd (cc (sym are ∙ e));
   recover = λ e. absurd (cc (sym are ∙ e));
   core = λ number steps e within. (let same = core_same number steps m n within mine (sym e ∙ are) in rw (same.0, same.1) runs);
   drill = λ number workers calls e within. absurd (cc (sym are ∙ e));
@@ -143,6 +166,7 @@ drill_commanded {source = source} {sink = sink} {status = status} l m n are mine
   trust = λ e. absurd (cc (sym are ∙ e));
   prove = λ e. absurd (cc (sym are ∙ e));
   audit = λ e. absurd (cc (sym are ∙ e));
+  explain = λ e. absurd (cc (sym are ∙ e));
   recover = λ e. absurd (cc (sym are ∙ e));
   core = λ number steps e within. absurd (cc (sym are ∙ e));
   drill = λ number workers calls e within. (let same = drill_same number workers calls l m n within mine (sym e ∙ are) in rw (same.0, same.1, same.2) runs);
@@ -158,6 +182,7 @@ memory_commanded {source = source} {sink = sink} {panel = panel} {status = statu
   trust = λ e. runs_answer (λ answer is e three. apart status 6 3 six three refl) (answer_memory six none still still_too);
   prove = λ e. runs_answer (λ answer is e three. apart status 6 3 six three refl) (answer_memory six none still still_too);
   audit = λ e. runs_answer (λ answer is e three. apart status 6 3 six three refl) (answer_memory six none still still_too);
+  explain = λ e. runs_answer (λ answer is e three. apart status 6 3 six three refl) (answer_memory six none still still_too);
   recover = λ e. runs_answer (λ answer is e three. apart status 6 3 six three refl) (answer_memory six none still still_too);
   core = λ number steps e within. runs_load (load_memory six none still_too);
   drill = λ number workers calls e within. runs_load (load_memory six none still_too);

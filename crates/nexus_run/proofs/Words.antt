@@ -11,10 +11,10 @@ use Rattle.std.proofs.lemmas.Str.{IsUtf8-from_ascii}
 use Rattle.std.proofs.lemmas.Str.Ascii.{IsAscii-from_all}
 use Rattle.std.specs.Prelude.{nat_le, ◌&&◌}
 use Rattle.nal_term.specs.Secrets.{is_secret_byte}
-use Rattle.nexus_run.specs.Commands.{IsCommand, IsDrill, IsLoad, IsWithin, audit_words, check_words, client_words, command_words, core_words, drill_words, prove_words, recover_words, script_words, serve_words, trust_words}
+use Rattle.nexus_run.specs.Commands.{IsCommand, IsDrill, IsLoad, IsWithin, audit_words, check_words, client_words, command_words, core_words, drill_words, explain_words, prove_words, recover_words, script_words, serve_words, trust_words}
 use Rattle.service_commands.specs.Services.{IsAddress, IsService}
 use Rattle.nexus_run.specs.declared.commands.Command.{Command}
-use Rattle.nexus_run.specs.declared.commands.Command.TheVariants.{Check, Script, Core, Trust, Prove, Audit, Recover, Drill}
+use Rattle.nexus_run.specs.declared.commands.Command.TheVariants.{Check, Script, Core, Trust, Prove, Audit, Explain, Recover, Drill}
 
 -- one text more
 pub next_text : {T W : Type 0} (f : T → List ℕ) (g : W → List ℕ) (ts us : List T) (ws : List W) (t : T) (w : W) (k : ℕ) → map f ts ≡ take k (map g ws)
@@ -48,6 +48,10 @@ recover_words_are_texts = All-cons IsUtf8 (codes "recover") [] (codes "recover",
 audit_words_are_texts : All IsUtf8 audit_words
 unfolding lib.Utf8.encode
 audit_words_are_texts = All-cons IsUtf8 (codes "audit") [] (codes "audit", (refl, refl)) (All-nil IsUtf8)
+
+explain_words_are_texts : All IsUtf8 explain_words
+unfolding lib.Utf8.encode
+explain_words_are_texts = All-cons IsUtf8 (codes "explain") [] (codes "explain", (refl, refl)) (All-nil IsUtf8)
 
 core_is_text : IsUtf8 (codes "core")
 unfolding lib.Utf8.encode
@@ -198,6 +202,7 @@ plain_is_text Script within = script_words_are_texts
 plain_is_text Trust within = trust_words_are_texts
 plain_is_text Prove within = prove_words_are_texts
 plain_is_text Audit within = audit_words_are_texts
+plain_is_text Explain within = explain_words_are_texts
 plain_is_text Recover within = recover_words_are_texts
 plain_is_text (Drill number workers calls) within = drill_words_are_texts number workers calls within
 plain_is_text (Core number steps) within = core_words_are_texts number steps within

@@ -2,9 +2,10 @@
 use Rattle.std.specs.Prelude.{◌≡◌, ℕ, List, Option}
 use Rattle.policy_history.specs.Values.{History}
 use Rattle.run_streams.specs.Runs.{SinkRun, SourceRun}
-use Rattle.nexus_run.specs.Commands.{IsDrill, IsLoad, audit_words, check_words, core_words, drill_words, prove_words, recover_words, script_words, trust_words}
+use Rattle.nexus_run.specs.Commands.{IsDrill, IsLoad, audit_words, check_words, core_words, drill_words, explain_words, prove_words, recover_words, script_words, trust_words}
 use Rattle.nexus_run.specs.LoadRuns.{RunsCore, RunsDrill}
 use Rattle.answer_commands.specs.Audits.{RunsAudit}
+use Rattle.answer_commands.specs.Explains.{RunsExplain}
 use Rattle.answer_commands.specs.CheckRuns.{RunsCheck}
 use Rattle.answer_commands.specs.Proves.{RunsProve}
 use Rattle.answer_commands.specs.Recovers.{RunsRecover}
@@ -18,6 +19,7 @@ pub record RunsCommand (words : List (List ℕ)) (source : SourceRun) (sink : Si
   pub trust : words ≡ trust_words → RunsTrust source sink status
   pub prove : words ≡ prove_words → RunsProve source sink status
   pub audit : words ≡ audit_words → RunsAudit source sink status
+  pub explain : words ≡ explain_words → RunsExplain source sink status
   pub recover : words ≡ recover_words → RunsRecover source sink status
   pub core : (number steps : ℕ) → words ≡ core_words number steps → IsLoad number steps → RunsCore number steps sink status
   pub drill : (number workers calls : ℕ) → words ≡ drill_words number workers calls → IsDrill number workers calls → RunsDrill number workers calls sink status

@@ -3,7 +3,7 @@ use Rattle.std.specs.Prelude.{◌≡◌, ◌≢◌, ◌<◌, ◌≤◌, ◌^◌,
 use Rattle.std.specs.Fmt.{decimal}
 use Rattle.service_commands.specs.Services.{IsAddress, IsService}
 use Rattle.nexus_run.specs.declared.commands.Command.{Command}
-use Rattle.nexus_run.specs.declared.commands.Command.TheVariants.{Check, Script, Core, Trust, Prove, Audit, Recover, Drill}
+use Rattle.nexus_run.specs.declared.commands.Command.TheVariants.{Check, Script, Core, Trust, Prove, Audit, Explain, Recover, Drill}
 
 abbrev pub check_words : List (List ℕ)
 check_words = codes "check" ∷ []
@@ -19,6 +19,9 @@ prove_words = codes "prove" ∷ []
 
 abbrev pub audit_words : List (List ℕ)
 audit_words = codes "audit" ∷ []
+
+abbrev pub explain_words : List (List ℕ)
+explain_words = codes "explain" ∷ []
 
 abbrev pub recover_words : List (List ℕ)
 recover_words = codes "recover" ∷ []
@@ -53,6 +56,7 @@ command_words Script = script_words
 command_words Trust = trust_words
 command_words Prove = prove_words
 command_words Audit = audit_words
+command_words Explain = explain_words
 command_words Recover = recover_words
 command_words (Core number steps) = core_words number steps
 command_words (Drill number workers calls) = drill_words number workers calls

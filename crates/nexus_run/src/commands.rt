@@ -32,6 +32,8 @@ pub enum Command {
     Prove,
     /// Holds recorded verdicts against a policy.
     Audit,
+    /// Says why a call has its verdict.
+    Explain,
     /// Makes a policy text of one that was cut.
     Recover,
     /// Takes so many steps of a load that is drawn from a number.
@@ -132,6 +134,8 @@ pub fn command_of(words: &[&str]) -> Option<Command>
         Some(Command::Prove)
     } else if is_word(words, "audit") {
         Some(Command::Audit)
+    } else if is_word(words, "explain") {
+        Some(Command::Explain)
     } else if is_word(words, "recover") {
         Some(Command::Recover)
     } else {

@@ -11,6 +11,7 @@ use crate::load::{drill, load};
 use answer_commands::{Found, Recovered, answer_input, check};
 use audit_form::Told;
 use authority_ask::Panel;
+use explain_form::ExplanationText;
 use nx_io::{Sink, Source};
 use script_command::{PlainEnd, script};
 use std::alloc::Global;
@@ -20,21 +21,23 @@ use std::sync::Wait;
 use std::thread::Threads;
 use trust_check::Trust;
 
-/// Runs a command that is neither a service nor a client: `check` reads one input from the source and writes its outcome to the
-/// sink; `script` reads a policy and the requests of sessions, answers each, and writes the replies and then the policy as they
-/// left it; `trust` reads what an owner assumes and a goal, and writes whether the untrusted can reach it; `prove` reads labels and
-/// a goal, and writes a proof by a chain of delegations; `audit` reads a policy text and recorded verdicts, and writes whether each
-/// is right; `recover` reads a policy text that may be cut, and writes it whole; `core` reads nothing, and writes the line of a
-/// generated load; and so does `drill`, whose load runs on threads.
+/// Runs a command that is neither a service nor a client: `check` reads one input from the source and writes its
+/// outcome to the sink; `script` reads a policy and the requests of sessions, answers each, and writes the replies and
+/// then the policy as they left it; `trust` reads what an owner assumes and a goal, and writes whether the untrusted
+/// can reach it; `prove` reads labels and a goal, and writes a proof by a chain of delegations; `audit` reads a policy
+/// text and recorded verdicts, and writes whether each is right; `explain` reads a policy text and a call, and writes
+/// its verdict and what that comes from; `recover` reads a policy text that may be cut, and writes it whole; `core`
+/// reads nothing, and writes the line of a generated load; and so does `drill`, whose load runs on threads.
 ///
-/// The status is 0 where all was done (of `check` at `allowed`, of `trust` at `safe`, of `prove` at a proof, of `audit` where each
-/// record is right), 1 at `denied`, where a goal is not safe, where there is no chain and where a record is wrong, 2 where the words are not those of a command, which then reads and writes nothing,
-/// 3 where the input is refused, 4 where the source failed, 5 where the sink failed, 6 where memory ran out, and 8 where an
-/// authority could not be reached. At 4, 6 and 8 nothing was written, and at 5 a proper part of what was to be.
-/// `docs/FORMATS.md`, "Statuses", states this.
+/// The status is 0 where all was done (of `check` at `allowed`, of `trust` at `safe`, of `explain` at `allowed`, of
+/// `prove` at a proof, of `audit` where each record is right), 1 at `denied`, where a goal is not safe, where there is
+/// no chain and where a record is wrong, 2 where the words are not those of a command, which then reads and writes
+/// nothing, 3 where the input is refused, 4 where the source failed, 5 where the sink failed, 6 where memory ran out,
+/// and 8 where an authority could not be reached. At 4, 6 and 8 nothing was written, and at 5 a proper part of what was
+/// to be. `docs/FORMATS.md`, "Statuses", states this.
 ///
-/// The input is what the source gives in this call. It is read to its first end, unless it is too large. The panel is handed
-/// back; only `script` uses it.
+/// The input is what the source gives in this call. It is read to its first end, unless it is too large. The panel is
+/// handed back; only `script` uses it.
 pub fn run_plain<R, S: Source, K: Sink, P: Panel>(
     rt: &R,
     alloc: Global,
@@ -85,6 +88,11 @@ where
         },
         Some(Command::Audit) => PlainEnd {
             status: answer_input::<Told, S, K>(alloc, input, output),
+            journal: None,
+            panel,
+        },
+        Some(Command::Explain) => PlainEnd {
+            status: answer_input::<ExplanationText, S, K>(alloc, input, output),
             journal: None,
             panel,
         },

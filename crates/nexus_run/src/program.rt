@@ -24,23 +24,26 @@ use std::rt::Clock;
 use std::sync::Wait;
 use std::thread::Threads;
 
-/// Runs the program: `check` reads one input from the source and writes its outcome to the sink; `script` reads a policy and
-/// the requests of sessions, answers each, and writes the replies and then the policy as they left it; `trust` reads what an
-/// owner assumes and a goal, and writes whether the untrusted can reach it; `prove` reads labels and a goal, and writes a proof by
-/// a chain of delegations; `audit` reads a policy text and recorded verdicts, and writes whether each is right; `recover` reads a
-/// policy text that may be cut, and writes it whole; `core` and `drill` read nothing, and write the line of a generated load, which
-/// `drill` runs on threads; `client` reads request lines, sends each over a link to an address, and writes the line of its reply
-/// before the next is sent; `serve` reads a policy, listens at an address, serves the sessions of its workers, and writes the
-/// policy text as the journal grows.
+/// Runs the program: `check` reads one input from the source and writes its outcome to the sink; `script` reads a
+/// policy and the requests of sessions, answers each, and writes the replies and then the policy as they left it;
+/// `trust` reads what an owner assumes and a goal, and writes whether the untrusted can reach it; `prove` reads labels
+/// and a goal, and writes a proof by a chain of delegations; `audit` reads a policy text and recorded verdicts, and
+/// writes whether each is right; `explain` reads a policy text and a call, and writes its verdict and what that comes
+/// from; `recover` reads a policy text that may be cut, and writes it whole; `core` and `drill` read nothing, and write
+/// the line of a generated load, which `drill` runs on threads; `client` reads request lines, sends each over a link to
+/// an address, and writes the line of its reply before the next is sent; `serve` reads a policy, listens at an address,
+/// serves the sessions of its workers, and writes the policy text as the journal grows.
 ///
-/// The status is 0 where all was done (of `check` at `allowed`, of `trust` at `safe`, of `prove` at a proof, of `audit` where each
-/// record is right), 1 at `denied`, where a goal is not safe, where there is no chain and where a record is wrong, 2 where the words are not those of a command, which then reads and writes nothing,
-/// 3 where the input is refused, 4 where the source failed, 5 where the sink failed, 6 where memory ran out, 7 where the door or a
-/// share of it failed, or the link of a client, 8 where an authority could not be reached, and 9 where the link of a client ended
-/// before a whole reply or gave what is no reply. `docs/FORMATS.md`, "Statuses", states this.
+/// The status is 0 where all was done (of `check` at `allowed`, of `trust` at `safe`, of `explain` at `allowed`, of
+/// `prove` at a proof, of `audit` where each record is right), 1 at `denied`, where a goal is not safe, where there is
+/// no chain and where a record is wrong, 2 where the words are not those of a command, which then reads and writes
+/// nothing, 3 where the input is refused, 4 where the source failed, 5 where the sink failed, 6 where memory ran out, 7
+/// where the door or a share of it failed, or the link of a client, 8 where an authority could not be reached, and 9
+/// where the link of a client ended before a whole reply or gave what is no reply. `docs/FORMATS.md`, "Statuses",
+/// states this.
 ///
-/// The input is what the source gives in this call. It is read to its first end, unless it is too large. Door and panel are
-/// handed back; only `serve` and `client` use the door, and only `script` and `serve` the panel.
+/// The input is what the source gives in this call. It is read to its first end, unless it is too large. Door and panel
+/// are handed back; only `serve` and `client` use the door, and only `script` and `serve` the panel.
 pub fn run<R, S: Source, K, D, P, G>(
     rt: &R,
     alloc: Global,

@@ -2,7 +2,7 @@ use Rattle.std.specs.Prelude.{option_map}
 use Rattle.policy_history.specs.Values.{entry_trees}
 use Rattle.proof_lines.specs.Lines.{line_trees}
 use Rattle.answer_commands.proofs.ForCallers.{runs_as, runs_check}
-use Rattle.nexus_run.proofs.Commanded.{audit_commanded, check_commanded, core_commanded, drill_commanded, none_commanded, prove_commanded, recover_commanded, script_commanded, trust_commanded}
+use Rattle.nexus_run.proofs.Commanded.{audit_commanded, check_commanded, core_commanded, drill_commanded, explain_commanded, none_commanded, prove_commanded, recover_commanded, script_commanded, trust_commanded}
 use Rattle.nexus_run.proofs.LoadEnds.{runs_load}
 use Rattle.script_command.proofs.ForCallers.{runs_script}
 use Rattle.nexus_run.proofs.plain.run_plain.Goals as goal
@@ -24,6 +24,9 @@ returns-in-Some-Prove-clause-command g c = prove_commanded (rw c.in-Some-Prove.f
 
 pub returns-in-Some-Audit-clause-command : goal.returns-in-Some-Audit-clause-command
 returns-in-Some-Audit-clause-command g c = audit_commanded (rw c.in-Some-Audit.field-0-is at c.in-Some-Audit.ensures).1 c.answer_input-in-Some-Audit.ensures.runs
+
+pub returns-in-Some-Explain-clause-command : goal.returns-in-Some-Explain-clause-command
+returns-in-Some-Explain-clause-command g c = explain_commanded (rw c.in-Some-Explain.field-0-is at c.in-Some-Explain.ensures).1 c.answer_input-in-Some-Explain.ensures.runs
 
 pub returns-in-Some-Recover-clause-command : goal.returns-in-Some-Recover-clause-command
 returns-in-Some-Recover-clause-command g c = recover_commanded (rw c.in-Some-Recover.field-0-is at c.in-Some-Recover.ensures).1 (runs_as (λ recovered. record { head = recovered.journal.head; entries = entry_trees recovered.journal.entries }) c.answer_input-in-Some-Recover.ensures.runs)
