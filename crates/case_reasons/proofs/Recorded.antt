@@ -1,5 +1,5 @@
 -- The record of an explained call.
-use Rattle.std.proofs.Common.{◌≡◌, ◌++◌, ℕ, zero, suc, List, [], ◌∷◌, length, filter, Bool, false, Option, Some, None, refl, sym, ap, subst, ◌∙◌, length-append, arith}
+use Rattle.std.proofs.Common.{◌≡◌, ◌++◌, ℕ, zero, suc, List, [], ◌∷◌, length, filter, take, Bool, false, Option, Some, None, refl, sym, ap, subst, ◌∙◌, length-append, arith}
 use Rattle.std.specs.Prelude.{◌↔◌}
 use Rattle.nal_term.specs.Trees.{TermTree, FormulaTree}
 use Rattle.proof_lines.specs.Lines.{LineTree}
@@ -10,6 +10,7 @@ use Rattle.nal_rules.specs.Verdicts.{CaseTree, IsVerdict}
 use Rattle.nal_rules.specs.declared.verdicts.Verdict.{Verdict}
 use Rattle.object_table.specs.Objects.{number_of}
 use Rattle.policy_history.specs.declared.heads.Head.{Head}
+use Rattle.policy_history.specs.Events.{EntryTree}
 use Rattle.policy_history.specs.Judged.{case_at}
 use Rattle.policy_history.specs.Machine.{replay}
 use Rattle.policy_history.specs.States.{State}
@@ -24,7 +25,6 @@ use Rattle.case_reasons.specs.declared.explanations.Explained.{Explained}
 use Rattle.case_reasons.specs.declared.explanations.Explained.TheVariants.{NoObject, Known}
 use Rattle.case_reasons.specs.Explanations.{IsExplained}
 use Rattle.case_reasons.specs.Laws.{AreAsked, ExplainedAreRecorded, recorded_of}
-use Rattle.case_reasons.proofs.Tracking.{take_whole}
 
 told_same : {v w : Verdict} → Told v ≡ Told w → v ≡ w
 told_same e = cc
@@ -68,10 +68,10 @@ right_by_parts : (h : Head) (s : State) (p : ℕ) (op object : List ℕ) (answer
 right_by_parts h s p op object answers n r who which given number is = rw (is, ← who, ← which, ← given) ((λ right. right), λ right. right)
 
 pub explained_are_recorded : ExplainedAreRecorded
-explained_are_recorded h es p op object answers x r explained of asked = rw (of.at, take_whole es, of.object_is) (by x explained (number_of (replay h es).objects object) refl asked)
+explained_are_recorded h all point p op object answers x r explained of asked = rw (of.at, of.object_is) (by x explained (number_of (replay h es).objects object) refl asked)
   where
-    s : State
-    s = replay h es
+    es : List EntryTree
+    es = take point all
 
     by : (x : Explained) → IsExplained h es p op object answers x → (n : Option ℕ) → number_of (replay h es).objects object ≡ n → AreAsked h es p op answers n
         → IsRightOn h (replay h es) r (number_of (replay h es).objects object) ↔ (r.verdict ≡ recorded_of x)

@@ -1,8 +1,8 @@
 //! The law of explanations.
 ghost use Rattle.case_reasons.specs.Laws.{ExplainedAreRecorded};
 
-/// The record of an explained call, with just the answers that were asked for, is right where it tells the verdict that the
-/// explanation does, and only there. The call does nothing.
+/// The record of a call that is explained at a point of a journal, with just the answers that were asked for, is right at that point
+/// where it tells the verdict that the explanation does, and only then. The call does nothing.
 pub fn explained_calls_are_recorded()
     ensures { ExplainedAreRecorded }
 {}

@@ -14,7 +14,8 @@ use std::alloc::{AllocError, Global};
 pub struct Tenure {
     /// The number of the principal that holds it. None where nobody does: it was deleted, or the entry said none.
     pub holder: Option<u32>,
-    /// The last entry by which another principal transferred it to its holder; that which said it where there is none.
+    /// The last entry by which another principal transferred it to its holder; that which said it where there is none. Where nobody
+    /// holds it, this says nothing.
     pub received: u64,
 }
 
