@@ -8,7 +8,7 @@ use journal_text::{event_of, policy_line, read_request};
 use nx_io::MemSink;
 use policy_book::{Book, NalMatter};
 use policy_history::{Event, Head};
-use std::alloc::Global;
+use std::alloc::{AllocError, Global};
 use verdict_words::{Board, Pass};
 
 /// Writes the change that a request line asks for.
@@ -37,8 +37,14 @@ pub fn change(
 
 // The event that a request line asks for. None where it asks for none, or there is no memory.
 fn event_in(alloc: Global, line: &str) -> Option<Event> {
-    let request = read_request(alloc, line.as_bytes()).ok()?;
-    event_of(alloc, &request).ok()?
+    match read_request(alloc, line.as_bytes()) {
+        Ok(request) => {
+            let event = event_of(alloc, &request);
+            drop(request);
+            event.unwrap_or(None)
+        }
+        Err(_) => None,
+    }
 }
 
 fn change_to(
@@ -61,7 +67,10 @@ fn change_to(
     let name = head.principals.name(principal);
     match policy_line(alloc, pass.session(), name, &event) {
         Ok(line) => write(book, board, pass, principal, event, line.as_slice()),
-        Err(_) => (pass, Told::NoMemory),
+        Err(AllocError) => {
+            drop(event);
+            (pass, Told::NoMemory)
+        }
     }
 }
 

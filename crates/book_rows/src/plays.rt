@@ -16,95 +16,72 @@ use std::net::{Net, TcpListener, TcpStream};
 use std::rt::Clock;
 use verdict_words::{Board, Pass};
 
-/// Steps over a book of this policy, whose sink takes a byte a call, holds so many, and fails at this call, from 1; and what it
-/// must have been sent at the end. Each step stands on a line: the name of the first principal or another, a request's line, an
-/// arrow, and what the session is told.
+/// Steps over a book of this policy, whose sink takes a byte a call, holds so many, and fails at this call, from 1. Each step stands
+/// on a line: the name of the first principal or another, a request's line, an arrow, and what the session is told.
 #[derive(Clone, Copy)]
 pub struct Play<'a> {
     pub policy: &'a [u8],
     pub room: usize,
     pub fails: u64,
     pub steps: &'a str,
-    pub sent: &'a [u8],
 }
 
-/// What comes of steps: the place of the first that is told something else, and what; and how many entries each pass has seen
-/// once both are met at the end.
-#[derive(Clone, Copy, Debug, PartialEq, Eq)]
-pub struct Taken {
-    pub wrong: Option<(u64, Told)>,
-    pub seen: [u64; 2],
+// What comes of steps: the place of the first that is told something else, and what; and how many entries each pass has seen
+// once both are met at the end.
+#[derive(Clone, Copy)]
+struct Taken {
+    wrong: Option<(u64, Told)>,
+    seen: [u64; 2],
 }
 
-/// What comes of a play: how many entries the journal has, whether a write has failed, how often the sink has failed, and whether
-/// it was sent what it must be.
-#[derive(Clone, Copy, Debug, PartialEq, Eq)]
-pub struct Outcome {
-    pub taken: Taken,
-    pub entries: u64,
-    pub is_broken: bool,
-    pub faults: u64,
-    pub is_sent: bool,
-}
-
-/// All is told and sent as it must be, both passes see the whole journal, and nothing goes to a sink that has failed.
-pub fn as_told(entries: u64, is_broken: bool) -> Option<Outcome> {
-    let taken = Taken {
-        wrong: None,
-        seen: [entries; 2],
-    };
-    Some(Outcome {
-        taken,
-        entries,
-        is_broken,
-        faults: u64::from(is_broken),
-        is_sent: true,
-    })
-}
-
-/// Plays the steps. None is want of memory, or a policy that is none, has fewer than two principals, or great session numbers.
-pub fn outcome_of<R: Net<Listener = TcpListener, Stream = TcpStream> + Clock>(
+/// Plays the steps: the first step that is told something else, how many entries each pass has seen and how many the journal has,
+/// whether a write has failed and how often the sink has; and on the next lines what the sink was sent, with `end` behind it. An
+/// `Err` is want of memory, or a policy that is none, has fewer than two principals, or great session numbers.
+pub fn told<R: Net<Listener = TcpListener, Stream = TcpStream> + Clock>(
     rt: &R,
     alloc: Global,
     play: &Play,
-) -> Option<Outcome> {
-    let sink = MemSink::new(alloc, play.room, 1, &[play.fails]).ok()?;
+) -> Result<String, AllocError> {
+    let sink = MemSink::new(alloc, play.room, 1, &[play.fails])?;
     match read_policy(alloc, play.policy) {
-        Ok(journal) => outcome_over(rt, alloc, journal, sink, play),
-        Err(_) => None,
+        Ok(journal) => told_over(rt, alloc, journal, sink, play.steps),
+        Err(_) => Err(AllocError),
     }
 }
 
-fn outcome_over<R: Net<Listener = TcpListener, Stream = TcpStream> + Clock>(
+fn told_over<R: Net<Listener = TcpListener, Stream = TcpStream> + Clock>(
     rt: &R,
     alloc: Global,
     journal: Journal,
     sink: MemSink,
-    play: &Play,
-) -> Option<Outcome> {
+    steps: &str,
+) -> Result<String, AllocError> {
     match front_of(alloc, &journal) {
-        Some(text) => outcome_with(rt, alloc, journal, sink, text.as_slice(), play),
-        None => None,
+        Some(text) => told_with(rt, alloc, journal, sink, text.as_slice(), steps),
+        None => {
+            drop(journal);
+            Err(AllocError)
+        }
     }
 }
 
-fn outcome_with<R: Net<Listener = TcpListener, Stream = TcpStream> + Clock>(
+fn told_with<R: Net<Listener = TcpListener, Stream = TcpStream> + Clock>(
     rt: &R,
     alloc: Global,
     journal: Journal,
     sink: MemSink,
     text: &[u8],
-    play: &Play,
-) -> Option<Outcome>
+    steps: &str,
+) -> Result<String, AllocError>
     requires sessions { greatest_of (entry_trees journal.entries) ≤ 1000 }
     requires principals { 2 ≤ length journal.head.principals }
     requires text { text.now ≡ front journal.head (entry_trees journal.entries) }
 {
     match journal.head().copy(alloc) {
-        Ok(head) => outcome_in(rt, alloc, journal, sink, &head, text, play),
+        Ok(head) => told_in(rt, alloc, journal, sink, &head, text, steps),
         Err(AllocError) => {
             drop(journal);
-            None
+            Err(AllocError)
         }
     }
 }
@@ -132,25 +109,25 @@ fn without_end(alloc: Global, text: &[u8]) -> Option<Vec<u8>>
     Vec::from_slice(alloc, &text[..count]).ok()
 }
 
-fn outcome_in<R: Net<Listener = TcpListener, Stream = TcpStream> + Clock>(
+fn told_in<R: Net<Listener = TcpListener, Stream = TcpStream> + Clock>(
     rt: &R,
     alloc: Global,
     journal: Journal,
     sink: MemSink,
     head: &Head,
     text: &[u8],
-    play: &Play,
-) -> Option<Outcome>
+    steps: &str,
+) -> Result<String, AllocError>
     requires sessions { greatest_of (entry_trees journal.entries) ≤ 1000 }
     requires principals { 2 ≤ length journal.head.principals }
     requires head { head.now ≡ journal.head }
     requires text { text.now ≡ front journal.head (entry_trees journal.entries) }
 {
     match Book::make(alloc, journal, sink) {
-        Ok(made) => Some(opened(rt, alloc, made, head, text, play)),
+        Ok(made) => opened(rt, alloc, made, head, text, steps),
         Err((journal, _, AllocError)) => {
             drop(journal);
-            None
+            Err(AllocError)
         }
     }
 }
@@ -168,8 +145,8 @@ fn opened<R: Net<Listener = TcpListener, Stream = TcpStream> + Clock>(
     made: (Board<NalMatter>, Book<MemSink>),
     head: &Head,
     text: &[u8],
-    play: &Play,
-) -> Outcome
+    steps: &str,
+) -> Result<String, AllocError>
     requires closed { made.1.is_open ≡ false }
     requires unbroken { made.1.is_broken ≡ false }
     requires board { made.1.board ≡ made.0 }
@@ -179,10 +156,12 @@ fn opened<R: Net<Listener = TcpListener, Stream = TcpStream> + Clock>(
     requires room { made.1.next ≤ 1001 }
 {
     let (board, mut book) = made;
-    match book.open(text) {
-        Reach::Ready => served(rt, alloc, &board, book, head, play),
-        Reach::Failed => ended(book, NOTHING, play),
-    }
+    let taken = match book.open(text) {
+        Reach::Ready => served(rt, alloc, &board, &mut book, head, steps),
+        Reach::Failed => NOTHING,
+    };
+    drop(board);
+    ended(alloc, book, &taken)
 }
 
 // Plays the steps over an open book.
@@ -190,42 +169,48 @@ fn served<R: Net<Listener = TcpListener, Stream = TcpStream> + Clock>(
     rt: &R,
     alloc: Global,
     board: &Board<NalMatter>,
-    book: Book<MemSink>,
+    book: &mut Book<MemSink>,
     head: &Head,
-    play: &Play,
-) -> Outcome
-    requires opened { book.is_open ≡ true }
-    requires board { book.board ≡ board.now }
-    requires principals { 2 ≤ length (head_of book).principals }
-    requires head { head.now ≡ head_of book }
-    requires room { book.next ≤ 1001 }
+    steps: &str,
+) -> Taken
+    requires opened { book.old.is_open ≡ true }
+    requires board { book.old.board ≡ board.now }
+    requires principals { 2 ≤ length (head_of book.old).principals }
+    requires head { head.now ≡ head_of book.old }
+    requires room { book.old.next ≤ 1001 }
 {
-    let mut book = book;
     let first = book.enter(board);
     let second = book.enter(board);
-    let taken = step_all(
-        rt,
-        alloc,
-        &mut book,
-        board,
-        head,
-        (first, second),
-        play.steps,
-    );
-    ended(book, taken, play)
+    step_all(rt, alloc, book, board, head, (first, second), steps)
 }
 
 // What is left of a book.
-fn ended(book: Book<MemSink>, taken: Taken, play: &Play) -> Outcome {
+fn ended(alloc: Global, book: Book<MemSink>, taken: &Taken) -> Result<String, AllocError> {
     let is_broken = book.broken();
     let (journal, sink) = book.into_parts();
-    Outcome {
-        taken,
-        entries: journal.count(),
-        is_broken,
-        faults: sink.faults(),
-        is_sent: sink.sent() == play.sent,
-    }
+    let entries = journal.count();
+    drop(journal);
+    let left = ended_told(alloc, entries, is_broken, &sink, taken);
+    drop(sink);
+    left
+}
+
+fn ended_told(
+    alloc: Global,
+    entries: u64,
+    is_broken: bool,
+    sink: &MemSink,
+    taken: &Taken,
+) -> Result<String, AllocError> {
+    let Taken {
+        wrong,
+        seen: [first, second],
+    } = taken;
+    let sent = str::from_utf8(sink.sent()).unwrap_or("no text");
+    let faults = sink.faults();
+    format!(in alloc;
+        "{wrong:?}, seen {first} {second}, entries {entries}, broken {is_broken}, faults {faults}\n{sent}end"
+    )
 }
 
 // Lets two sessions take the steps, and meets both passes.
