@@ -14,7 +14,7 @@ use crate::policies::{event, name as name_of, written};
 use crate::tables::number;
 use found::{found, label};
 use journal_text::{event_of, read_policy, read_request};
-use policy_history::{Event, Journal};
+use policy_history::{Due, Event, Journal, Refusal};
 use session_wire::Request;
 use std::alloc::{AllocError, Global};
 
@@ -41,6 +41,15 @@ fn principal(alloc: Global, journal: &Journal, name: &str) -> Result<u32, AllocE
     }
 }
 
+// The number of what was due, where that is told.
+fn due_told(alloc: Global, due: Due, told: Due) -> Result<String, AllocError> {
+    if told == due {
+        format!(in alloc; "{}", due.number)
+    } else {
+        format!(in alloc; "{due:?} {told:?}")
+    }
+}
+
 // What a change comes to; one that is accepted is added.
 fn offered(
     alloc: Global,
@@ -52,16 +61,20 @@ fn offered(
     requires { principal < length journal.old.head.principals }
 {
     match journal.decide(session, principal, &event) {
-        Err(refusal) => format!(in alloc; "{refusal:?}"),
-        Ok(due) => {
-            let spare = journal.reserve(&event)?;
-            let told = journal.append(session, principal, event, spare);
-            if told == due {
-                format!(in alloc; "{}", due.number)
-            } else {
-                format!(in alloc; "{due:?} {told:?}")
-            }
+        Err(refusal) => {
+            drop(event);
+            format!(in alloc; "{refusal:?}")
         }
+        Ok(due) => match journal.reserve(&event) {
+            Ok(spare) => {
+                let told = journal.append(session, principal, event, spare);
+                due_told(alloc, due, told)
+            }
+            Err(AllocError) => {
+                drop(event);
+                Err(AllocError)
+            }
+        },
     }
 }
 
@@ -79,10 +92,10 @@ fn answered(
             format!(in alloc; "{:?}", journal.principal_of(name, secret))
         }
         Request::Call { op, object, .. } => found(alloc, journal, principal, op, object),
-        _ => match event_of(alloc, request) {
-            Ok(Some(event)) => offered(alloc, journal, session, principal, event),
-            _ => Err(AllocError),
-        },
+        _ => {
+            let event = event_of(alloc, request)?.ok_or(AllocError)?;
+            offered(alloc, journal, session, principal, event)
+        }
     }
 }
 
@@ -97,7 +110,11 @@ fn tried(alloc: Global, journal: &mut Journal, line: &str) -> Result<String, All
     let (session, who, request) = words(line);
     let principal = principal(alloc, journal, who)?;
     match read_request(alloc, request.as_bytes()) {
-        Ok(request) => answered(alloc, journal, session, principal, &request),
+        Ok(request) => {
+            let told = answered(alloc, journal, session, principal, &request);
+            drop(request);
+            told
+        }
         Err(_) => Err(AllocError),
     }
 }
@@ -112,13 +129,31 @@ fn measured(
     let (session, who, request) = words(line);
     let principal = principal(alloc, journal, who)?;
     let event = event(alloc, request)?;
-    if what == "touch" {
-        return format!(in alloc; "{:?}", journal.region_of(principal, &event));
-    }
-    match journal.decide(session, principal, &event) {
+    let told = if what == "touch" {
+        format!(in alloc; "{:?}", journal.region_of(principal, &event))
+    } else {
+        bytes_told(alloc, journal.decide(session, principal, &event))
+    };
+    drop(event);
+    told
+}
+
+fn bytes_told(alloc: Global, decided: Result<Due, Refusal>) -> Result<String, AllocError> {
+    match decided {
         Ok(due) => format!(in alloc; "{}", due.bytes),
         Err(refusal) => format!(in alloc; "{refusal:?}"),
     }
+}
+
+// What a line comes to with this in place of `#`.
+fn tried_at(
+    alloc: Global,
+    journal: &mut Journal,
+    line: &str,
+    place: &str,
+) -> Result<String, AllocError> {
+    let line = line.replace(alloc, '#', place)?;
+    tried(alloc, journal, line.as_str())
 }
 
 // Two numbers, and the change of which each number from the first up to the second is tried in place of `#`: `each` where each
@@ -128,11 +163,7 @@ fn series(alloc: Global, journal: &mut Journal, text: &str) -> Result<String, Al
     let (end, line) = rest.split_once(" ").unwrap_or(("", ""));
     for place in number(first)..number(end) {
         let place = format!(in alloc; "{place}")?;
-        let told = tried(
-            alloc,
-            journal,
-            line.replace(alloc, '#', place.as_str())?.as_str(),
-        )?;
+        let told = tried_at(alloc, journal, line, place.as_str())?;
         if told != place {
             return format!(in alloc; "{place} {told}");
         }
@@ -152,13 +183,16 @@ fn step(alloc: Global, journal: &mut Journal, line: &str) -> Result<String, Allo
     }
 }
 
+// A text as a row shows it.
+fn shown(alloc: Global, text: String) -> Result<String, AllocError> {
+    text.as_str().replace(alloc, '\n', "|")
+}
+
 // The first row that comes to something else, with what it comes to. Nothing where there is none.
 fn first_other_on(alloc: Global, journal: &mut Journal, rows: &str) -> Result<String, AllocError> {
     for row in rows.lines() {
         let (line, wanted) = row.split_once(" -> ").unwrap_or((row, ""));
-        let told = step(alloc, journal, line)?
-            .as_str()
-            .replace(alloc, '\n', "|")?;
+        let told = shown(alloc, step(alloc, journal, line)?)?;
         if told.as_str() != wanted {
             return format!(in alloc; "{line} -> {told}");
         }
@@ -166,8 +200,8 @@ fn first_other_on(alloc: Global, journal: &mut Journal, rows: &str) -> Result<St
     Ok(String::new(alloc))
 }
 
-// As `first_other_on`, on a new journal; its head stands above the rows.
-fn first_other_in(alloc: Global, part: &str) -> Result<String, AllocError> {
+/// As `first_other_on`, on a new journal; its head stands above the rows.
+pub fn first_other(alloc: Global, part: &str) -> Result<String, AllocError> {
     let (head, rows) = part.split_once("\n").unwrap_or((part, ""));
     let policy = head.replace(alloc, '|', "\n")?;
     match journal(alloc, policy.as_str()) {
@@ -178,16 +212,4 @@ fn first_other_in(alloc: Global, part: &str) -> Result<String, AllocError> {
         }
         Err(AllocError) => Err(AllocError),
     }
-}
-
-// As `first_other_in`, of a table, with the title above the row.
-fn first_other(alloc: Global, table: &str) -> Result<String, AllocError> {
-    for part in table.split("\n\n") {
-        let (title, rest) = part.split_once("\n").unwrap_or((part, ""));
-        let other = first_other_in(alloc, rest)?;
-        if !other.is_empty() {
-            return format!(in alloc; "{title}: {other}");
-        }
-    }
-    Ok(String::new(alloc))
 }

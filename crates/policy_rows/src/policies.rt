@@ -83,10 +83,11 @@ pub fn read_head(alloc: Global, counts: &str) -> Result<String, AllocError> {
 /// The change that a request's line asks for.
 pub fn event(alloc: Global, line: &str) -> Result<Event, AllocError> {
     match read_request(alloc, line.as_bytes()) {
-        Ok(request) => match event_of(alloc, &request) {
-            Ok(Some(event)) => Ok(event),
-            _ => Err(AllocError),
-        },
+        Ok(request) => {
+            let event = event_of(alloc, &request);
+            drop(request);
+            event?.ok_or(AllocError)
+        }
         Err(_) => Err(AllocError),
     }
 }
@@ -104,7 +105,11 @@ pub fn line_of(alloc: Global, text: &str) -> Result<String, AllocError> {
     let (session, rest) = text.split_once(" ").unwrap_or(("", ""));
     let (who, request) = rest.split_once(" ").unwrap_or(("", ""));
     let name = name(alloc, who)?;
-    let event = event(alloc, request)?;
-    let line = policy_line(alloc, number(session), &name, &event)?;
-    text_of(alloc, line.as_slice())
+    line_with(alloc, number(session), &name, event(alloc, request)?)
+}
+
+fn line_with(alloc: Global, session: u64, name: &Name, event: Event) -> Result<String, AllocError> {
+    let line = policy_line(alloc, session, name, &event);
+    drop(event);
+    text_of(alloc, line?.as_slice())
 }

@@ -1,6 +1,7 @@
 //! The loop over a table of texts.
-use crate::{cut_texts, machines, policies, replies, request_lines};
+use crate::{cut_texts, journals, machines, policies, replies, request_lines};
 use std::alloc::{AllocError, Global};
+use std::process::Abort;
 use text_lines::read_number;
 
 // What a row comes to, by the call that it tries.
@@ -40,17 +41,28 @@ fn first_other_of(alloc: Global, call: &str, rows: &str) -> Result<String, Alloc
     Ok(String::new(alloc))
 }
 
-/// As `first_other_of`, of a table, with the title above the row.
-pub fn first_other(alloc: Global, table: &str) -> Result<String, AllocError> {
+// As `first_other_of`, of a table, with the title above the row.
+fn first_other(alloc: Global, table: &str) -> Result<String, AllocError> {
     for part in table.split("\n\n") {
         let (title, rows) = part.split_once("\n").unwrap_or((part, ""));
         let (call, _) = title.split_once(": ").unwrap_or(("", ""));
-        let other = first_other_of(alloc, call, rows)?;
+        let other = if call == "journal" {
+            journals::first_other(alloc, rows)?
+        } else {
+            first_other_of(alloc, call, rows)?
+        };
         if !other.is_empty() {
             return format!(in alloc; "{title}: {other}");
         }
     }
     Ok(String::new(alloc))
+}
+
+/// Asserts that each row of a table comes to what stands behind its arrow.
+pub fn holds<R: Abort>(rt: &R, alloc: Global, table: &str) -> Result<(), AllocError> {
+    let other = first_other(alloc, table)?;
+    assert_eq!(rt; other.as_str(), "");
+    Ok(())
 }
 
 /// The number that a text writes, or 0.

@@ -5,6 +5,7 @@ use crate::tables::{number, text_of};
 use nal_parse::{print_formula, print_term};
 use nal_rules::Case;
 use nal_term::Name;
+use nx_io::Bytes;
 use policy_history::{Found, Journal};
 use std::alloc::{AllocError, Global};
 
@@ -19,7 +20,11 @@ pub fn found(
     requires { principal < length journal.now.head.principals }
 {
     match journal.case_of(alloc, principal, op, object) {
-        Ok(found) => found_told(alloc, &found),
+        Ok(found) => {
+            let told = found_told(alloc, &found);
+            drop(found);
+            told
+        }
         Err(AllocError) => Err(AllocError),
     }
 }
@@ -34,7 +39,7 @@ fn found_told(alloc: Global, found: &Found) -> Result<String, AllocError> {
         } => {
             let mut line = format!(in alloc; "object {object}")?;
             if let Some(number) = number {
-                line.push_str(format!(in alloc; " case {number}")?.as_str())?;
+                push(&mut line, format!(in alloc; " case {number}"))?;
             }
             push_case(alloc, &mut line, case)?;
             Ok(line)
@@ -44,40 +49,34 @@ fn found_told(alloc: Global, found: &Found) -> Result<String, AllocError> {
 
 fn push_case(alloc: Global, line: &mut String, case: &Case) -> Result<(), AllocError> {
     if let Some(goal) = &case.goal {
-        push(
-            alloc,
-            line,
-            " goal ",
-            print_formula(alloc, goal)?.as_slice(),
-        )?;
+        push_bytes(line, " goal ", print_formula(alloc, goal))?;
     }
     if let Some(proof) = &case.proof {
-        line.push_str(format!(in alloc; " proof {}", proof.count())?.as_str())?;
+        push(line, format!(in alloc; " proof {}", proof.count()))?;
     }
     for label in case.labels.as_slice() {
-        push(
-            alloc,
-            line,
-            " label ",
-            print_formula(alloc, label)?.as_slice(),
-        )?;
+        push_bytes(line, " label ", print_formula(alloc, label))?;
     }
     for binding in case.bound.as_slice() {
-        push(
-            alloc,
-            line,
-            " bound ",
-            print_term(alloc, &binding.principal)?.as_slice(),
-        )?;
-        line.push_str(format!(in alloc; " {}", binding.port)?.as_str())?;
+        push_bytes(line, " bound ", print_term(alloc, &binding.principal))?;
+        push(line, format!(in alloc; " {}", binding.port))?;
     }
     Ok(())
 }
 
-fn push(alloc: Global, line: &mut String, word: &str, bytes: &[u8]) -> Result<(), AllocError> {
-    let text = text_of(alloc, bytes)?;
-    line.push_str(word)?;
+fn push(line: &mut String, text: Result<String, AllocError>) -> Result<(), AllocError> {
+    let text = text?;
     line.push_str(text.as_str())
+}
+
+fn push_bytes(
+    line: &mut String,
+    word: &str,
+    bytes: Result<Bytes, AllocError>,
+) -> Result<(), AllocError> {
+    let bytes = bytes?;
+    line.push_str(word)?;
+    line.push_str(str::from_utf8(bytes.as_slice()).unwrap_or("no text"))
 }
 
 /// A label, by the numbers of its holder and of its place, or `none`.

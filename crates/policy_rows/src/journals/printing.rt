@@ -1,8 +1,8 @@
 //! What is written of a policy, of each kind of a change.
-use super::first_other;
+use crate::tables::holds;
 use std::alloc::AllocError;
 
-const TABLE: &str = "a policy is written
+const TABLE: &str = "journal: a policy is written
 nexus 2|principal alice pa|principal bob pb|authority 3 clock|end|
 7 alice object f -> 0
 7 alice goal read f : alice  says (ok) -> 0
@@ -20,6 +20,5 @@ text -> nexus 2|principal alice pa|principal bob pb|authority 3 clock|\
 
 #[test]
 fn a_policy_is_written(rt: HostRuntime) -> Result<(), AllocError> {
-    assert_eq!(rt; first_other(rt.alloc(), TABLE)?.as_str(), "");
-    Ok(())
+    holds(&rt, rt.alloc(), TABLE)
 }

@@ -1,8 +1,8 @@
 //! Each refusal, also where a later one applies too.
-use super::first_other;
+use crate::tables::holds;
 use std::alloc::AllocError;
 
-const TABLE: &str = "an owner alone sets goals
+const TABLE: &str = "journal: an owner alone sets goals
 nexus 2|principal alice pw|principal bob pw|end|
 1 alice object f -> 0
 1 bob goal read f : true -> NotOwner
@@ -20,7 +20,7 @@ nexus 2|principal alice pw|principal bob pw|end|
 1 bob object g -> 1
 count -> 4
 
-labels are their holders
+journal: labels are their holders
 nexus 2|principal alice pw|principal bob pw|end|
 1 alice say alice : ok -> 1
 1 alice say alice.disk : ok -> 2
@@ -38,7 +38,7 @@ nexus 2|principal alice pw|principal bob pw|end|
 1 bob delete 1 -> NoSuchLabel
 1 bob say bob : ok -> 6
 
-proofs and bindings are their subjects
+journal: proofs and bindings are their subjects
 nexus 2|principal alice pw|principal bob pw|authority 1 mem|end|
 1 alice object f -> 0
 1 bob proof read g : proof -> NoSuchObject
@@ -65,6 +65,5 @@ nexus 2|principal alice pw|principal bob pw|authority 1 mem|end|
 
 #[test]
 fn refusals_come_in_their_order(rt: HostRuntime) -> Result<(), AllocError> {
-    assert_eq!(rt; first_other(rt.alloc(), TABLE)?.as_str(), "");
-    Ok(())
+    holds(&rt, rt.alloc(), TABLE)
 }
