@@ -1,5 +1,4 @@
 -- Words that only the contracts of private functions use. No statement about a board rests on them.
-pub mod Flags
 pub mod Steps
 pub mod Settling
 pub mod Seats

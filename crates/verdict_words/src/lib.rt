@@ -22,8 +22,6 @@ mod registers;
 mod seat;
 mod settle;
 mod steps;
-#[cfg(test)]
-mod tests;
 mod views;
 
 pub use board::Board;

@@ -1,5 +1,5 @@
 use Rattle.std.specs.Prelude.{Some}
-use Rattle.verdict_words.proofs.tests.two_threads.told.Given as goal
+use Rattle.board_rows.proofs.two_threads.told.Given as goal
 
 -- the board that was made, and its sessions
 abbrev pub ghosts-serve_both : goal.ghosts-serve_both

@@ -1,7 +1,7 @@
 use Rattle.std.proofs.Common.{rules, sym, ap, ◌∙◌, length}
 use Rattle.verdict_words.specs.Rule.{last_met}
 use Rattle.verdict_words.proofs.ForCallers.{last_met_now}
-use Rattle.verdict_words.proofs.tests.two_threads.Desk.raise.Goals as goal
+use Rattle.board_rows.proofs.two_threads.Desk.raise.Goals as goal
 
 pub returns-then-at-ge-MOST-clause-pass : goal.returns-then-at-ge-MOST-clause-pass
 returns-then-at-ge-MOST-clause-pass g c =

@@ -4,13 +4,13 @@ ghost use Rattle.verdict_words.specs.Histories.{own};
 ghost use Rattle.verdict_words.specs.Rule.{last_met};
 ghost use Rattle.verdict_words.specs.Values.{met_seen};
 
-use super::{ALLOWED, Flag, Flags, case_place};
-use crate::{Board, BookSeat, Look, Naming, Pass};
+use crate::flags::{ALLOWED, Flag, Flags, case_place};
 use std::marker::{Brand, Model, PhantomData};
 use std::process::Abort;
 use std::sync::{Mutex, Wait};
 use std::test::Fail;
 use std::thread::{Threads, join};
+use verdict_words::{Board, BookSeat, Look, Naming, Pass};
 
 const MOST: u64 = 262_144;
 
@@ -24,7 +24,7 @@ pub struct Desk<N: Naming<Flag, ()>> {
 
 impl<N: Naming<Flag, ()>> Model for Desk<N> {
     ghost use Rattle.std.specs.Prelude.{◌≡◌, List, [], Some, None};
-    ghost use Rattle.verdict_words.specs.declared.tests.Flag.{Flag};
+    ghost use Rattle.board_rows.specs.declared.flags.Flag.{Flag};
 
     ghost Value = { List Flag };
 
@@ -134,13 +134,18 @@ fn told<R: Threads + Wait + Abort + Sync>(
     requires one { (one.board ≡ board.now) × (met_seen one ≡ []) }
     requires two { (two.board ≡ board.now) × (met_seen two ≡ []) }
 {
-    let (_seat, one, two) = serve_both::<Brand, R>(rt, board, seat, one, two);
-    for (pass, raised, touched, other) in [one, two] {
-        assert!(rt; raised);
-        assert_eq!(rt; pass.at(), 2);
-        assert_eq!(rt; touched, Look::Miss);
-        assert!(rt; matches!(other, Look::Hit { .. }));
-    }
+    let (seat, one, two) = serve_both::<Brand, R>(rt, board, seat, one, two);
+    let are_told = is_told(&one) && is_told(&two);
+    drop(one);
+    drop(two);
+    drop(seat);
+    assert!(rt; are_told);
+}
+
+// The flag was raised, the pass has seen both, a look at the case of the flag misses, and one at another case hits.
+fn is_told(served: &(Pass<Flags>, bool, Look, Look)) -> bool {
+    let (pass, raised, touched, other) = served;
+    *raised && pass.at() == 2 && *touched == Look::Miss && matches!(other, Look::Hit { .. })
 }
 
 #[test]
@@ -153,5 +158,6 @@ fn two_sessions_tell_the_same_under_every_schedule(rt: HostRuntime) -> Result<()
     board.fill(&mut one, &case_place(8), 0, &ALLOWED);
     board.fill(&mut one, &case_place(100), 0, &ALLOWED);
     told(&rt, &board, seat, one, two);
+    drop(board);
     Ok(())
 }

@@ -3,7 +3,7 @@ use Rattle.verdict_words.specs.Histories.{own}
 use Rattle.verdict_words.specs.Rule.{last_met}
 use Rattle.verdict_words.specs.Values.{met_seen}
 use Rattle.verdict_words.proofs.ForCallers.{prefix_length, take_whole, last_met_kept, met_seen_kept}
-use Rattle.verdict_words.proofs.tests.two_threads.serve.Goals as goal
+use Rattle.board_rows.proofs.two_threads.serve.Goals as goal
 
 none_before : {E : Type 0} (session : E → ℕ) (met more : List E) (s : ℕ) → met ≡ [] → own session met s ++ more ≡ more
 none_before session met more s none_met = subst (λ l. own session l s ++ more ≡ more) (sym none_met) refl
