@@ -1,8 +1,8 @@
 // Devices as their callers meet them: generic code over each, and the answers of single calls.
 mod doors;
-mod links;
+pub mod links;
 mod over_tcp;
-mod streams;
+pub mod streams;
 
 // Whoever serves peers hands their links and its doors to threads.
 fn crosses<T: Send>(_value: &T) {}

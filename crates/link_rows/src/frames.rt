@@ -2,7 +2,8 @@
 // hand, after docs/FORMATS.md, "Frames".
 ghost use Rattle.std.specs.Prelude.{◌≤◌};
 
-use crate::texts::is_told;
+use crate::tables::hold;
+use crate::texts::number;
 use nx_io::{Bytes, MemLink};
 use session_wire::{
     FrameReader, Framed, ReplyRead, Request, read_reply, write_reply, write_request,
@@ -21,8 +22,15 @@ fn digit(byte: u8) -> u8
     }
 }
 
-// The bytes that a text spells, two digits each.
+// The bytes that a text spells: the frame of Unbind with a text of so many letters, or two digits each.
 fn bytes_of(alloc: Global, text: &str) -> Result<Vec<u8>, AllocError> {
+    match text.strip_prefix("unbind ") {
+        Some(letters) => unbind_frame(alloc, letters.parse::<u16>().unwrap_or(0)),
+        None => spelled(alloc, text),
+    }
+}
+
+fn spelled(alloc: Global, text: &str) -> Result<Vec<u8>, AllocError> {
     let mut bytes = Vec::new(alloc);
     let mut high = None;
     for byte in text.as_bytes() {
@@ -45,7 +53,11 @@ fn read_all(
     fails: &[u64],
 ) -> Result<String, AllocError> {
     match MemLink::new(alloc, bytes, 0, piece.max(1), fails, &[]) {
-        Ok(mut link) => read_link(alloc, &mut link),
+        Ok(mut link) => {
+            let told = read_link(alloc, &mut link);
+            drop(link);
+            told
+        }
         Err(AllocError) => Err(AllocError),
     }
 }
@@ -56,10 +68,15 @@ fn read_link(alloc: Global, link: &mut MemLink) -> Result<String, AllocError> {
     for _ in 0..3u64 {
         let framed = reader.next(link);
         if !matches!(&framed, Framed::Request(_)) {
-            return told_last(alloc, count, &framed, link.left().len());
+            drop(reader);
+            let told = told_last(alloc, count, &framed, link.left().len());
+            drop(framed);
+            return told;
         }
+        drop(framed);
         count = count.saturating_add(1);
     }
+    drop(reader);
     format!(in alloc; "3 More {}", link.left().len())
 }
 
@@ -111,72 +128,96 @@ ff0000000505 -> 0 Bad(TooLong, 0) 2
 000000080500047361797300 -> 0 Bad(BadField, 5) 0
 0000000a010003626f6200027077000000050500016678 -> 1 Bad(Trailing, 22) 0
 0000000a010003626f620002707700008401 -> 1 Bad(TooLong, 14) 0
-0000000a010003626f620002707700000000 -> 1 Bad(BadKind, 18) 0";
+0000000a010003626f620002707700000000 -> 1 Bad(BadKind, 18) 0
+unbind 33790 -> 0 Bad(TooLong, 0) 33793";
 
-// Whether the link tells so in pieces of each length.
-fn is_told_in_pieces(alloc: Global, bytes: &[u8], wanted: &str) -> bool {
+// What is read of the bytes in pieces of each length; where that differs, all of it.
+fn read_in_pieces(alloc: Global, bytes: &[u8]) -> Result<String, AllocError> {
+    let mut told = String::new(alloc);
     for piece in PIECES {
-        if !is_told(read_all(alloc, bytes, piece, &[]), wanted) {
-            return false;
-        }
+        let next = read_all(alloc, bytes, piece, &[])?;
+        push_other(&mut told, next.as_str())?;
     }
-    true
+    Ok(told)
 }
 
-fn row_holds(alloc: Global, row: &str) -> bool {
-    let (text, wanted) = row.split_once(" -> ").unwrap_or(("", ""));
-    match bytes_of(alloc, text) {
-        Ok(bytes) => is_told_in_pieces(alloc, bytes.as_slice(), wanted),
-        Err(AllocError) => false,
+// Adds a text behind another.
+fn push_other(told: &mut String, next: &str) -> Result<(), AllocError> {
+    if told.as_str() == next {
+        return Ok(());
     }
+    told.push_str(next)
+}
+
+/// What is read of the bytes that a text spells.
+pub fn requests_told(alloc: Global, text: &str) -> Result<String, AllocError> {
+    let bytes = bytes_of(alloc, text)?;
+    read_in_pieces(alloc, bytes.as_slice())
 }
 
 #[test]
-fn each_fault_is_told_at_its_place(rt: HostRuntime) {
-    for row in STREAMS.lines() {
-        assert!(rt; row_holds(rt.alloc(), row), "{row}");
-    }
+fn each_fault_is_told_at_its_place(rt: HostRuntime) -> Result<(), AllocError> {
+    hold(&rt, rt.alloc(), "requests", STREAMS)
 }
 
 const TWO_FRAMES: &str = "0000000a010003626f6200027077000000120c0004726561640001660000000000000007";
 
-fn cuts_hold(alloc: Global, bytes: &[u8]) -> bool {
-    for cut in 0..=bytes.len() {
-        let wanted = match cut {
-            0 => "0 End 0",
-            1..14 => "0 Torn 0",
-            14 => "1 End 0",
-            15..36 => "1 Torn 0",
-            _ => "2 End 0",
-        };
-        if !is_told_in_pieces(alloc, &bytes[..cut], wanted) {
-            return false;
-        }
+// The first number of bytes of a cut, and the last, and what is then read.
+const CUTS: &str = "0 0 -> 0 End 0
+1 13 -> 0 Torn 0
+14 14 -> 1 End 0
+15 35 -> 1 Torn 0
+36 36 -> 2 End 0";
+
+// The bytes of a piece, and the take that fails: the second take fails after three bytes, and the third behind the first frame.
+const FAILING: &str = "3 2 -> 0 ReadFault 33
+40000 3 -> 1 ReadFault 22";
+
+/// What is read of the two frames where they are cut behind so many bytes, from the first number up to and with the second.
+pub fn cut_told(alloc: Global, text: &str) -> Result<String, AllocError> {
+    let (first, last) = text.split_once(' ').unwrap_or((text, text));
+    let bytes = bytes_of(alloc, TWO_FRAMES)?;
+    let mut told = String::new(alloc);
+    for cut in number(first)..=number(last) {
+        let left = bytes.as_slice().get(..cut).unwrap_or(&[]);
+        let next = read_in_pieces(alloc, left)?;
+        push_other(&mut told, next.as_str())?;
     }
-    // The second take fails, after three bytes; the third does, behind the first frame.
-    is_told(read_all(alloc, bytes, 3, &[2]), "0 ReadFault 33")
-        && is_told(read_all(alloc, bytes, 40_000, &[3]), "1 ReadFault 22")
+    Ok(told)
+}
+
+/// What is read of the two frames in pieces of so many bytes where this take fails.
+pub fn failing_told(alloc: Global, text: &str) -> Result<String, AllocError> {
+    let (piece, take) = text.split_once(' ').unwrap_or((text, ""));
+    let bytes = bytes_of(alloc, TWO_FRAMES)?;
+    read_all(
+        alloc,
+        bytes.as_slice(),
+        number(piece),
+        &[number(take) as u64],
+    )
 }
 
 #[test]
-fn a_cut_stream_ends_at_an_edge_or_within_a_frame(rt: HostRuntime) {
-    let bytes = bytes_of(rt.alloc(), TWO_FRAMES);
-    assert!(rt; matches!(&bytes, Ok(bytes) if cuts_hold(rt.alloc(), bytes.as_slice())));
+fn a_cut_stream_ends_at_an_edge_or_within_a_frame(rt: HostRuntime) -> Result<(), AllocError> {
+    hold(&rt, rt.alloc(), "cut requests", CUTS)?;
+    hold(&rt, rt.alloc(), "failing requests", FAILING)
 }
 
-// The frame of a request of each kind, in the order of the kinds.
-const REQUESTS: &str = "0000000a010003626f6200027077
-0000000a020001610004623a2063
-0000000c030102030405060708000162
-0000000904ffffffffffffffff
-00000005050002665f
-0000000f060004726561640001660003617c62
-0000000a07000472656164000166
-0000000c080004726561640001660000
-0000000a09000472656164000166
-0000000f0a00046e74703f0000000000000100
-000000040b0001ff
-000000120c0004726561640001660000000000000007";
+// The frame of a request of each kind, and the number of its kind.
+const REQUESTS: &str = "0000000a010003626f6200027077 -> 1
+0000000a020001610004623a2063 -> 2
+0000000c030102030405060708000162 -> 3
+0000000904ffffffffffffffff -> 4
+00000005050002665f -> 5
+0000000f060004726561640001660003617c62 -> 6
+0000000a07000472656164000166 -> 7
+0000000c080004726561640001660000 -> 8
+0000000a09000472656164000166 -> 9
+0000000f0a00046e74703f0000000000000100 -> 10
+000000040b0001ff -> 11
+000000120c0004726561640001660000000000000007 -> 12
+unbind 33789 -> 11";
 
 fn kind_of(request: &Request) -> u64 {
     match request {
@@ -195,26 +236,44 @@ fn kind_of(request: &Request) -> u64 {
     }
 }
 
-// The kind of the request that is read of a frame, if its frame is this one again.
-fn read_and_write(alloc: Global, frame: &[u8]) -> Option<u64> {
-    match MemLink::new(alloc, frame, 0, 40_000, &[], &[]) {
-        Ok(mut link) => kind_on(alloc, frame, &mut link),
-        Err(AllocError) => None,
+/// The kind of the request that is read of a frame, if its frame is this one again.
+pub fn request_told(alloc: Global, text: &str) -> Result<String, AllocError> {
+    let frame = bytes_of(alloc, text)?;
+    match MemLink::new(alloc, frame.as_slice(), 0, 40_000, &[], &[]) {
+        Ok(mut link) => {
+            let told = kind_told(alloc, frame.as_slice(), &mut link);
+            drop(link);
+            told
+        }
+        Err(AllocError) => Err(AllocError),
     }
 }
 
-fn kind_on(alloc: Global, frame: &[u8], link: &mut MemLink) -> Option<u64> {
-    let mut reader = FrameReader::new(alloc).ok()?;
-    match reader.next(link) {
-        Framed::Request(request) => kind_if(&request, write_request(alloc, &request), frame),
-        _ => None,
-    }
+fn kind_told(alloc: Global, frame: &[u8], link: &mut MemLink) -> Result<String, AllocError> {
+    let mut reader = FrameReader::new(alloc)?;
+    let framed = reader.next(link);
+    drop(reader);
+    let told = match &framed {
+        Framed::Request(request) => {
+            kind_if(alloc, request, write_request(alloc, request), frame)
+        }
+        _ => String::from_str(alloc, "no request"),
+    };
+    drop(framed);
+    told
 }
 
-fn kind_if(request: &Request, written: Result<Bytes, AllocError>, frame: &[u8]) -> Option<u64> {
-    match written {
-        Ok(written) if written.as_slice() == frame => Some(kind_of(request)),
-        _ => None,
+fn kind_if(
+    alloc: Global,
+    request: &Request,
+    written: Result<Bytes, AllocError>,
+    frame: &[u8],
+) -> Result<String, AllocError> {
+    let written = written?;
+    if written.as_slice() == frame {
+        format!(in alloc; "{}", kind_of(request))
+    } else {
+        String::from_str(alloc, "another frame")
     }
 }
 
@@ -230,33 +289,9 @@ fn unbind_frame(alloc: Global, letters: u16) -> Result<Vec<u8>, AllocError> {
     Ok(frame)
 }
 
-fn is_kind(alloc: Global, frame: Result<Vec<u8>, AllocError>, kind: u64) -> bool {
-    match frame {
-        Ok(frame) => read_and_write(alloc, frame.as_slice()) == Some(kind),
-        Err(AllocError) => false,
-    }
-}
-
-fn is_too_long(alloc: Global, frame: Result<Vec<u8>, AllocError>) -> bool {
-    match frame {
-        Ok(frame) => {
-            let told = read_all(alloc, frame.as_slice(), 40_000, &[]);
-            is_told(told, "0 Bad(TooLong, 0) 33793")
-        }
-        Err(AllocError) => false,
-    }
-}
-
 #[test]
-fn requests_are_read_and_written(rt: HostRuntime) {
-    let alloc = rt.alloc();
-    let mut kind = 0u64;
-    for text in REQUESTS.lines() {
-        kind = kind.wrapping_add(1);
-        assert!(rt; is_kind(alloc, bytes_of(alloc, text), kind), "{text}");
-    }
-    assert!(rt; is_kind(alloc, unbind_frame(alloc, 33_789), 11));
-    assert!(rt; is_too_long(alloc, unbind_frame(alloc, 33_790)));
+fn requests_are_read_and_written(rt: HostRuntime) -> Result<(), AllocError> {
+    hold(&rt, rt.alloc(), "request", REQUESTS)
 }
 
 // Bytes, what is read of them, and how many bytes are left: each reply; then lengths that no reply has, of which four bytes
@@ -289,24 +324,25 @@ fn read_one(
     fails: &[u64],
 ) -> Result<String, AllocError> {
     match MemLink::new(alloc, bytes, 0, piece.max(1), fails, &[]) {
-        Ok(mut link) => told_of_reply(alloc, &mut link),
+        Ok(mut link) => {
+            let told = told_of_reply(alloc, bytes, &mut link);
+            drop(link);
+            told
+        }
         Err(AllocError) => Err(AllocError),
     }
 }
 
-fn told_of_reply(alloc: Global, link: &mut MemLink) -> Result<String, AllocError> {
+fn told_of_reply(alloc: Global, bytes: &[u8], link: &mut MemLink) -> Result<String, AllocError> {
     let read = read_reply(link);
-    format!(in alloc; "{read:?} {}", link.left().len())
-}
-
-// Whether the bytes begin with the frame of the reply that is read of them.
-fn is_written_back(alloc: Global, bytes: &[u8]) -> bool {
-    match MemLink::new(alloc, bytes, 0, 40_000, &[], &[]) {
-        Ok(mut link) => begins_with(bytes, &read_reply(&mut link)),
-        Err(AllocError) => false,
+    if begins_with(bytes, &read) {
+        format!(in alloc; "{read:?} {}", link.left().len())
+    } else {
+        String::from_str(alloc, "another frame")
     }
 }
 
+// Whether the bytes begin with the frame of the reply that was read of them.
 fn begins_with(bytes: &[u8], read: &ReplyRead) -> bool {
     let ReplyRead::Reply(reply) = read else {
         return true;
@@ -316,39 +352,52 @@ fn begins_with(bytes: &[u8], read: &ReplyRead) -> bool {
     bytes.starts_with(&frame[..count])
 }
 
-fn is_reply(alloc: Global, bytes: &[u8], wanted: &str) -> bool {
+/// What is read of the bytes in pieces of each length; where that differs, all of it.
+pub fn reply_told(alloc: Global, text: &str) -> Result<String, AllocError> {
+    let bytes = bytes_of(alloc, text)?;
+    let mut told = String::new(alloc);
     for piece in PIECES {
-        if !is_told(read_one(alloc, bytes, piece, &[]), wanted) {
-            return false;
-        }
+        let next = read_one(alloc, bytes.as_slice(), piece, &[])?;
+        push_other(&mut told, next.as_str())?;
     }
-    is_written_back(alloc, bytes)
-}
-
-fn reply_row_holds(alloc: Global, row: &str) -> bool {
-    let (text, wanted) = row.split_once(" -> ").unwrap_or(("", ""));
-    match bytes_of(alloc, text) {
-        Ok(bytes) => is_reply(alloc, bytes.as_slice(), wanted),
-        Err(AllocError) => false,
-    }
-}
-
-fn cut_replies_hold(alloc: Global, bytes: &[u8]) -> bool {
-    for cut in 1..bytes.len() {
-        if !is_told(read_one(alloc, &bytes[..cut], 3, &[]), "Torn 0") {
-            return false;
-        }
-    }
-    is_told(read_one(alloc, bytes, 3, &[2]), "ReadFault 18")
+    Ok(told)
 }
 
 const WELCOME: &str = "000000114100000000000000010000000000000000";
 
+/// What is read of a reply's frame in pieces of three bytes, where it is cut behind so many bytes and this take fails.
+pub fn reply_cut_told(alloc: Global, text: &str) -> Result<String, AllocError> {
+    let (cut, take) = text.split_once(' ').unwrap_or((text, ""));
+    let bytes = bytes_of(alloc, WELCOME)?;
+    let left = bytes.as_slice().get(..number(cut)).unwrap_or(&[]);
+    read_one(alloc, left, 3, &[number(take) as u64])
+}
+
+// So many bytes of a frame of 21, in pieces of three bytes, and the take that fails, 0 where none does.
+const REPLY_CUTS: &str = "1 0 -> Torn 0
+2 0 -> Torn 0
+3 0 -> Torn 0
+4 0 -> Torn 0
+5 0 -> Torn 0
+6 0 -> Torn 0
+7 0 -> Torn 0
+8 0 -> Torn 0
+9 0 -> Torn 0
+10 0 -> Torn 0
+11 0 -> Torn 0
+12 0 -> Torn 0
+13 0 -> Torn 0
+14 0 -> Torn 0
+15 0 -> Torn 0
+16 0 -> Torn 0
+17 0 -> Torn 0
+18 0 -> Torn 0
+19 0 -> Torn 0
+20 0 -> Torn 0
+21 2 -> ReadFault 18";
+
 #[test]
-fn replies_are_read_and_written(rt: HostRuntime) {
-    for row in REPLIES.lines() {
-        assert!(rt; reply_row_holds(rt.alloc(), row), "{row}");
-    }
-    let bytes = bytes_of(rt.alloc(), WELCOME);
-    assert!(rt; matches!(&bytes, Ok(bytes) if cut_replies_hold(rt.alloc(), bytes.as_slice())));
+fn replies_are_read_and_written(rt: HostRuntime) -> Result<(), AllocError> {
+    hold(&rt, rt.alloc(), "reply", REPLIES)?;
+    hold(&rt, rt.alloc(), "cut reply", REPLY_CUTS)
 }

@@ -1,5 +1,5 @@
 // What the guard finds of a case, call by call, over a panel whose answers are given beforehand.
-use crate::texts::is_told;
+use crate::tables::hold;
 use authority_ask::{Ask, MemPanel};
 use guard_core::judge;
 use nal_parse::{parse_formula, parse_term};
@@ -8,7 +8,6 @@ use proof_lines::Proof;
 use proof_text::read_proof;
 use std::alloc::{AllocError, Global};
 use std::net::{Net, TcpListener, TcpStream};
-use std::process::Abort;
 use std::rt::Clock;
 
 // A delegation on a predicate, and an authority that is asked for it.
@@ -117,10 +116,12 @@ fn add_all(alloc: Global, trial: &mut Trial, row: &str) -> bool {
     true
 }
 
-fn told<R>(rt: &R, alloc: Global, row: &str) -> Result<String, AllocError>
-where
-    R: Net<Listener = TcpListener, Stream = TcpStream> + Clock + Abort,
-{
+/// What so many calls find of a case, each with how often was asked in all.
+pub fn told<R: Net<Listener = TcpListener, Stream = TcpStream> + Clock>(
+    rt: &R,
+    alloc: Global,
+    row: &str,
+) -> Result<String, AllocError> {
     let mut trial = Trial {
         calls: 0,
         case: Case {
@@ -131,32 +132,36 @@ where
         },
         answers: Vec::new(alloc),
     };
-    if add_all(alloc, &mut trial, row) {
+    let told = if add_all(alloc, &mut trial, row) {
         found(rt, alloc, &trial)
     } else {
         String::from_str(alloc, "no case")
-    }
+    };
+    drop(trial);
+    told
 }
 
-fn found<R>(rt: &R, alloc: Global, trial: &Trial) -> Result<String, AllocError>
-where
-    R: Net<Listener = TcpListener, Stream = TcpStream> + Clock + Abort,
-{
+fn found<R: Net<Listener = TcpListener, Stream = TcpStream> + Clock>(
+    rt: &R,
+    alloc: Global,
+    trial: &Trial,
+) -> Result<String, AllocError> {
     match MemPanel::new(alloc, trial.answers.as_slice(), &[], &[]) {
-        Ok(mut panel) => found_by(rt, alloc, trial, &mut panel),
+        Ok(mut panel) => {
+            let found = found_by(rt, alloc, trial, &mut panel);
+            drop(panel);
+            found
+        }
         Err(AllocError) => Err(AllocError),
     }
 }
 
-fn found_by<R>(
+fn found_by<R: Net<Listener = TcpListener, Stream = TcpStream> + Clock>(
     rt: &R,
     alloc: Global,
     trial: &Trial,
     panel: &mut MemPanel,
-) -> Result<String, AllocError>
-where
-    R: Net<Listener = TcpListener, Stream = TcpStream> + Clock + Abort,
-{
+) -> Result<String, AllocError> {
     let mut told = String::new(alloc);
     for _ in 0..trial.calls {
         let found = judge(rt, alloc, &trial.case, panel);
@@ -166,27 +171,15 @@ where
     Ok(told)
 }
 
-fn try_out<R>(rt: &R, alloc: Global, trials: &str)
-where
-    R: Net<Listener = TcpListener, Stream = TcpStream> + Clock + Abort,
-{
-    for row in trials.lines() {
-        let (input, wanted) = row.split_once(" -> ").unwrap_or(("", "two columns"));
-        assert!(rt; is_told(told(rt, alloc, input), wanted), "{row}");
-    }
-}
-
 #[test]
-fn the_guard_asks_no_more_than_it_needs(rt: HostRuntime) {
-    try_out(&rt, rt.alloc(), TRIALS);
+fn the_guard_asks_no_more_than_it_needs(rt: HostRuntime) -> Result<(), AllocError> {
+    hold(&rt, rt.alloc(), "guard", TRIALS)
 }
 
 // No text spells a proof without lines.
+const NO_LINES: &str = "calls 1|goal true|proof EMPTY -> Ok(Denied(NoProof)) 0,";
+
 #[test]
-fn a_proof_without_lines_is_none(rt: HostRuntime) {
-    try_out(
-        &rt,
-        rt.alloc(),
-        "calls 1|goal true|proof EMPTY -> Ok(Denied(NoProof)) 0,",
-    );
+fn a_proof_without_lines_is_none(rt: HostRuntime) -> Result<(), AllocError> {
+    hold(&rt, rt.alloc(), "guard", NO_LINES)
 }

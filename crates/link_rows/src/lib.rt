@@ -11,4 +11,6 @@ mod guarding;
 #[cfg(test)]
 mod panels;
 #[cfg(test)]
+mod tables;
+#[cfg(test)]
 mod texts;

@@ -17,7 +17,11 @@ fn answer<R: Net<Listener = TcpListener, Stream = TcpStream> + Clock>(
     door: &mut MemDoor,
 ) -> Result<String, AllocError> {
     match door.next(rt) {
-        Next::Link(link) => told_of_link(alloc, &link),
+        Next::Link(link) => {
+            let told = told_of_link(alloc, &link);
+            drop(link);
+            told
+        }
         Next::NoMore => String::from_str(alloc, "NoMore"),
         Next::Failed => String::from_str(alloc, "Failed"),
     }
@@ -61,7 +65,11 @@ fn share_answers<R: Net<Listener = TcpListener, Stream = TcpStream> + Clock>(
     door: &mut MemDoor,
 ) -> Result<String, AllocError> {
     match door.share() {
-        Shared::Made(mut share) => three_answers(rt, alloc, &mut share),
+        Shared::Made(mut share) => {
+            let answers = three_answers(rt, alloc, &mut share);
+            drop(share);
+            answers
+        }
         Shared::Failed => String::from_str(alloc, "Failed"),
         Shared::NoMemory => Err(AllocError),
     }
@@ -89,7 +97,24 @@ fn dials<R: Net<Listener = TcpListener, Stream = TcpStream> + Clock>(
     rt: &R,
     door: &mut MemDoor,
 ) -> bool {
-    matches!(door.dial(rt, b"peer"), Dial::Link(_))
+    let dial = door.dial(rt, b"peer");
+    let is_link = matches!(&dial, Dial::Link(_));
+    drop(dial);
+    is_link
+}
+
+// Whether the shares answer so, one after the other.
+fn shares_answer<R: Net<Listener = TcpListener, Stream = TcpStream> + Clock>(
+    rt: &R,
+    alloc: Global,
+    door: &mut MemDoor,
+) -> bool {
+    for wanted in SHARES.lines() {
+        if !is_told(share_answers(rt, alloc, door), wanted) {
+            return false;
+        }
+    }
+    true
 }
 
 fn shares_in_turn<R>(rt: &R, alloc: Global, door: &mut MemDoor)
@@ -97,15 +122,27 @@ where
     R: Net<Listener = TcpListener, Stream = TcpStream> + Clock + Abort,
 {
     crosses(door);
-    assert!(rt; listens(rt, door));
-    for wanted in SHARES.lines() {
-        assert!(rt; is_told(share_answers(rt, alloc, door), wanted), "{wanted}");
-    }
+    assert!(rt; listens(rt, door) && shares_answer(rt, alloc, door));
     assert!(rt; is_told(answer(rt, alloc, door), "NoMore"));
 
     // One dial gives the link.
     assert!(rt; dials(rt, door) && !dials(rt, door));
     assert!(rt; door.gave() == 0 && door.faults() == 2);
+}
+
+fn shares_of_a_door<R>(rt: &R, alloc: Global) -> Result<(), AllocError>
+where
+    R: Net<Listener = TcpListener, Stream = TcpStream> + Clock + Abort,
+{
+    let mut door = door(alloc)?;
+    shares_in_turn(rt, alloc, &mut door);
+    drop(door);
+    let place = Place::Missed {
+        session: 1,
+        principal: 0,
+    };
+    OpenGate.at(rt, place);
+    Ok(())
 }
 
 // What four shares answer, one after the other.
@@ -115,15 +152,6 @@ Failed c1 d2
 NoMore NoMore NoMore";
 
 #[test]
-fn shares_have_the_links_of_their_plans(rt: HostRuntime) {
-    let door = door(rt.alloc());
-    assert!(rt; door.is_ok());
-    if let Ok(mut door) = door {
-        shares_in_turn(&rt, rt.alloc(), &mut door);
-    }
-    let place = Place::Missed {
-        session: 1,
-        principal: 0,
-    };
-    OpenGate.at(&rt, place);
+fn shares_have_the_links_of_their_plans(rt: HostRuntime) -> Result<(), AllocError> {
+    shares_of_a_door(&rt, rt.alloc())
 }

@@ -31,7 +31,11 @@ fn ends<R: Net<Listener = TcpListener, Stream = TcpStream> + Clock>(
     address: &[u8],
 ) -> Option<(TcpLink, TcpLink)> {
     match door.share() {
-        Shared::Made(mut share) => ends_by(rt, door, &mut share, address),
+        Shared::Made(mut share) => {
+            let ends = ends_by(rt, door, &mut share, address);
+            drop(share);
+            ends
+        }
         Shared::Failed | Shared::NoMemory => None,
     }
 }
@@ -51,7 +55,10 @@ fn ends_by<R: Net<Listener = TcpListener, Stream = TcpStream> + Clock>(
 fn with_given(dialed: TcpLink, given: Next<TcpLink>) -> Option<(TcpLink, TcpLink)> {
     match given {
         Next::Link(given) => Some((dialed, given)),
-        Next::NoMore | Next::Failed => None,
+        Next::NoMore | Next::Failed => {
+            drop(dialed);
+            None
+        }
     }
 }
 
@@ -142,28 +149,71 @@ where
     R: Net<Listener = TcpListener, Stream = TcpStream> + Clock + Abort,
 {
     crosses(door);
-    let both = ends(rt, door, address);
-    assert!(rt; both.is_some());
-    if let Some((mut dialed, mut given)) = both {
-        all_done(rt, &mut dialed, &mut given);
-    }
+    let are_done = match ends(rt, door, address) {
+        Some((mut dialed, mut given)) => {
+            all_done(rt, &mut dialed, &mut given);
+            drop(dialed);
+            drop(given);
+            true
+        }
+        None => false,
+    };
+    assert!(rt; are_done);
+}
+
+fn go_both_ways<R>(rt: &R, alloc: Global)
+where
+    R: Net<Listener = TcpListener, Stream = TcpStream> + Clock + Abort,
+{
+    let mut door = TcpDoor::new();
+    let does_listen = match listening(rt, alloc, &mut door) {
+        Ok(Some(address)) => {
+            connected(rt, &mut door, address.as_bytes());
+            true
+        }
+        _ => false,
+    };
+    drop(door);
+    assert!(rt; does_listen);
 }
 
 #[test]
 fn bytes_go_both_ways_over_tcp(rt: HostRuntime) {
+    go_both_ways(&rt, rt.alloc());
+}
+
+fn gives_nothing<R: Net<Listener = TcpListener, Stream = TcpStream> + Clock>(
+    rt: &R,
+    door: &mut TcpDoor,
+) -> bool {
+    let next = door.next(rt);
+    let fails = matches!(&next, Next::Failed);
+    drop(next);
+    fails
+}
+
+fn reaches_nobody<R: Net<Listener = TcpListener, Stream = TcpStream> + Clock>(
+    rt: &R,
+    door: &mut TcpDoor,
+) -> bool {
+    let dial = door.dial(rt, b"127.0.0.1:1");
+    let fails = matches!(&dial, Dial::Failed);
+    drop(dial);
+    fails
+}
+
+// Each call is counted as a fault.
+fn fails_at_each_call<R: Net<Listener = TcpListener, Stream = TcpStream> + Clock>(rt: &R) -> bool {
     let mut door = TcpDoor::new();
-    let address = listening(&rt, rt.alloc(), &mut door);
-    assert!(rt; matches!(&address, Ok(Some(_))));
-    if let Ok(Some(address)) = address {
-        connected(&rt, &mut door, address.as_bytes());
-    }
+    let fails = gives_nothing(rt, &mut door)
+        && reaches_nobody(rt, &mut door)
+        && door.listen(rt, b"no address") == Reach::Failed
+        && door.faults() == 3;
+    drop(door);
+    fails
 }
 
 #[test]
 fn a_door_fails_where_nobody_is(rt: HostRuntime) {
-    let mut door = TcpDoor::new();
-    assert!(rt; matches!(door.next(&rt), Next::Failed));
-    assert!(rt; matches!(door.dial(&rt, b"127.0.0.1:1"), Dial::Failed));
-    assert!(rt; door.listen(&rt, b"no address") == Reach::Failed);
-    assert!(rt; door.faults() == 3);
+    assert!(rt; fails_at_each_call(&rt));
 }

@@ -1,5 +1,6 @@
 // Sources and sinks: generic code over each, and the answers of single calls.
-use crate::texts::{is_told, letters, number, numbers, text_of};
+use crate::tables::hold;
+use crate::texts::{letters, number, numbers, text_of};
 use nx_io::{
     Bytes, Discard, Got, MemSink, MemSource, Put, Reach, Sink, Source, StdSink, StdSource, send_all,
 };
@@ -33,7 +34,7 @@ abcdefgh 8 - 8 1 5 -> Failed abcd 0 0 1
 abcdefgh 8 - 5 8 - -> Failed abcde 0 0 1
 - 8 1 8 8 - -> Ready  0 1 0";
 
-fn told(alloc: Global, row: &str) -> Result<String, AllocError> {
+pub fn told(alloc: Global, row: &str) -> Result<String, AllocError> {
     let words: Vec<&str> = row.split(' ').collect(alloc)?;
     match words.as_slice() {
         [left, read, reads, room, write, writes] => {
@@ -58,7 +59,11 @@ fn told_of_source(
 ) -> Result<String, AllocError> {
     let fails = numbers(alloc, fails)?;
     match MemSource::new(alloc, letters(left), piece.max(1), fails.as_slice()) {
-        Ok(mut source) => told_of_sink(alloc, &mut source, room, sink),
+        Ok(mut source) => {
+            let told = told_of_sink(alloc, &mut source, room, sink);
+            drop(source);
+            told
+        }
         Err(AllocError) => Err(AllocError),
     }
 }
@@ -71,7 +76,11 @@ fn told_of_sink(
 ) -> Result<String, AllocError> {
     let fails = numbers(alloc, fails)?;
     match MemSink::new(alloc, room, piece.max(1), fails.as_slice()) {
-        Ok(mut sink) => sent_on(alloc, source, &mut sink),
+        Ok(mut sink) => {
+            let told = sent_on(alloc, source, &mut sink);
+            drop(sink);
+            told
+        }
         Err(AllocError) => Err(AllocError),
     }
 }
@@ -88,63 +97,50 @@ fn sent_on(
 }
 
 #[test]
-fn memory_devices_send_on_and_fail_where_they_are_told(rt: HostRuntime) {
-    for row in DEVICES.lines() {
-        let (input, wanted) = row.split_once(" -> ").unwrap_or(("", "two columns"));
-        assert!(rt; is_told(told(rt.alloc(), input), wanted), "{row}");
-    }
+fn memory_devices_send_on_and_fail_where_they_are_told(rt: HostRuntime) -> Result<(), AllocError> {
+    hold(&rt, rt.alloc(), "devices", DEVICES)
 }
 
-// A reader that answers by a script: first these errors, and then these parts, of which an empty one is an end. Then
-// no more comes.
+// A reader that answers by a script, a word a call: `other` and `interrupted` are errors, and any other word is what is read, of which
+// an empty one is an end. Then no more comes.
 #[derive(Drop)]
-struct Scripted {
-    errors: &'static [ErrorKind],
-    parts: &'static [&'static [u8]],
+struct Scripted<'a> {
+    script: &'a str,
     calls: usize,
 }
 
-impl Scripted {
-    fn new(errors: &'static [ErrorKind], parts: &'static [&'static [u8]]) -> Scripted {
-        Scripted {
-            errors,
-            parts,
-            calls: 0,
-        }
-    }
-}
-
-impl Read for Scripted {
+impl<'a> Read for Scripted<'a> {
     fn read(&mut self, buffer: &mut [u8]) -> io::Result<usize> {
-        let call = self.calls;
-        self.calls = call.saturating_add(1);
-        if call < self.errors.len() {
-            return Err(io::Error::from(self.errors[call]));
-        }
-        let Some(part) = self.parts.get(call - self.errors.len()) else {
-            return Ok(0);
+        let part = match self.script.split(',').nth(self.calls) {
+            Some("other") => Err(io::Error::from(ErrorKind::Other)),
+            Some("interrupted") => Err(io::Error::from(ErrorKind::Interrupted)),
+            Some(part) => Ok(part.as_bytes()),
+            None => Ok(b"".as_slice()),
         };
+        self.calls = self.calls.saturating_add(1);
+        let part = part?;
         let count = part.len().min(buffer.len());
         buffer[..count].copy_from_slice(&part[..count]);
         Ok(count)
     }
 }
 
-// A writer that answers by a script: first these errors, and then it takes two bytes at most.
+// A writer that answers by a script, a word a call: `broken` and `interrupted` are errors. Then it takes two bytes at most.
 #[derive(Drop)]
-struct Reluctant {
-    errors: &'static [ErrorKind],
+struct Reluctant<'a> {
+    script: &'a str,
     calls: usize,
 }
 
-impl Write for Reluctant {
+impl<'a> Write for Reluctant<'a> {
     fn write(&mut self, piece: &[u8]) -> io::Result<usize> {
-        let call = self.calls;
-        self.calls = call.saturating_add(1);
-        if call < self.errors.len() {
-            return Err(io::Error::from(self.errors[call]));
+        let word = self.script.split(',').nth(self.calls);
+        self.calls = self.calls.saturating_add(1);
+        match word {
+            Some("broken") => Err(io::Error::from(ErrorKind::BrokenPipe)),
+            Some("interrupted") => Err(io::Error::from(ErrorKind::Interrupted)),
+            _ => Ok(piece.len().min(2)),
         }
-        Ok(piece.len().min(2))
     }
 
     fn flush(&mut self) -> io::Result<()> {
@@ -152,11 +148,71 @@ impl Write for Reluctant {
     }
 }
 
+/// What so many reads of four bytes at most by a script come to, each with how often the source has failed.
+pub fn read_by(alloc: Global, row: &str) -> Result<String, AllocError> {
+    let (count, script) = row.split_once(' ').unwrap_or(("", ""));
+    let mut source = StdSource::new(Scripted { script, calls: 0 });
+    let mut told = String::new(alloc);
+    for _ in 0..number(count) {
+        let got = source.read(&mut [0; 4]);
+        push(&mut told, format!(in alloc; "{got:?} {},", source.faults()))?;
+    }
+    Ok(told)
+}
+
+fn push(told: &mut String, text: Result<String, AllocError>) -> Result<(), AllocError> {
+    let text = text?;
+    told.push_str(text.as_str())
+}
+
+/// What these calls over a script come to, each with how often the sink has failed: `send` is of all bytes of a word, and `write` one
+/// write of them.
+pub fn written_by(alloc: Global, row: &str) -> Result<String, AllocError> {
+    let (script, calls) = row.split_once(": ").unwrap_or(("", row));
+    let mut sink = StdSink::new(Reluctant { script, calls: 0 });
+    let mut told = String::new(alloc);
+    for call in calls.split(',') {
+        push(&mut told, call_told(alloc, &mut sink, call))?;
+    }
+    Ok(told)
+}
+
+fn call_told(
+    alloc: Global,
+    sink: &mut StdSink<Reluctant>,
+    call: &str,
+) -> Result<String, AllocError> {
+    match call.split_once(' ') {
+        Some(("send", piece)) => {
+            let reach = send_all(sink, piece.as_bytes());
+            format!(in alloc; "{reach:?} {},", sink.faults())
+        }
+        Some(("write", piece)) if !piece.is_empty() => {
+            let put = sink.write(piece.as_bytes());
+            format!(in alloc; "{put:?} {},", sink.faults())
+        }
+        _ => Err(AllocError),
+    }
+}
+
+// No clause can say that the reader of std has failed: only that a fault was counted, and once. A call that a signal interrupts is no
+// fault. A terminal gives bytes again after its end was told.
+const READERS: &str = "3 other,ab -> Failed 1,Bytes(2) 1,End 1,
+1 interrupted,interrupted,ab -> Bytes(2) 0,
+3 ab,,cd -> Bytes(2) 0,End 0,Bytes(2) 0,";
+
 #[test]
-fn readers_and_writers_of_std_serve(rt: HostRuntime) {
-    let mut written = Vec::new(rt.alloc());
-    assert!(rt; is_sent_on(&mut written));
-    assert!(rt; written.as_slice() == b"some bytes".as_slice());
+fn what_a_reader_gives_and_fails_is_told(rt: HostRuntime) -> Result<(), AllocError> {
+    hold(&rt, rt.alloc(), "reader", READERS)
+}
+
+// A write that fails once is told and counted once.
+const WRITERS: &str = "broken: send abcd,write abcd,send cd -> Failed 1,Bytes(2) 1,Ready 1,
+interrupted,interrupted: write abcd -> Bytes(2) 0,";
+
+#[test]
+fn what_a_writer_takes_and_fails_is_told(rt: HostRuntime) -> Result<(), AllocError> {
+    hold(&rt, rt.alloc(), "writer", WRITERS)
 }
 
 fn is_sent_on(written: &mut Vec<u8>) -> bool {
@@ -165,73 +221,25 @@ fn is_sent_on(written: &mut Vec<u8>) -> bool {
     forward(&mut source, &mut sink, 4) == Reach::Ready && source.faults() == 0 && sink.faults() == 0
 }
 
+fn is_written(alloc: Global) -> bool {
+    let mut written = Vec::new(alloc);
+    is_sent_on(&mut written) && written.as_slice() == b"some bytes".as_slice()
+}
+
+#[test]
+fn readers_and_writers_of_std_serve(rt: HostRuntime) {
+    assert!(rt; is_written(rt.alloc()));
+}
+
 // A slice takes what it has room for, and then nothing.
+fn is_filled(buffer: &mut [u8; 3]) -> bool {
+    let mut full = StdSink::new(buffer.as_mut_slice());
+    full.write(b"abcde") == Put::Bytes(3) && full.write(b"de") == Put::Failed && full.faults() == 1
+}
+
 #[test]
 fn a_slice_takes_what_it_has_room_for(rt: HostRuntime) {
-    let mut buffer = [0; 3];
-    let mut full = StdSink::new(buffer.as_mut_slice());
-    assert!(rt; full.write(b"abcde") == Put::Bytes(3));
-    assert!(rt; full.write(b"de") == Put::Failed);
-    assert!(rt; full.faults() == 1);
-}
-
-// No clause can say that the reader of std has failed: only that a fault was counted.
-#[test]
-fn a_read_that_fails_once_is_told_and_counted_once(rt: HostRuntime) {
-    let mut source = StdSource::new(Scripted::new(&[ErrorKind::Other], &[b"ab"]));
-    assert!(rt; reads(&mut source, Got::Failed));
-    assert!(rt; source.faults() == 1);
-    assert!(rt; reads(&mut source, Got::Bytes(2)));
-    assert!(rt; reads(&mut source, Got::End));
-    assert!(rt; source.faults() == 1);
-}
-
-// Whether this comes of a read of four bytes at most.
-fn reads(source: &mut StdSource<Scripted>, due: Got) -> bool {
-    source.read(&mut [0; 4]) == due
-}
-
-fn writes(sink: &mut StdSink<Reluctant>, due: Put) -> bool {
-    sink.write(b"abcd") == due
-}
-
-fn sends(sink: &mut StdSink<Reluctant>, piece: &[u8], due: Reach) -> bool {
-    send_all(sink, piece) == due
-}
-
-#[test]
-fn a_write_that_fails_once_is_told_and_counted_once(rt: HostRuntime) {
-    let mut sink = StdSink::new(Reluctant {
-        errors: &[ErrorKind::BrokenPipe],
-        calls: 0,
-    });
-    assert!(rt; sends(&mut sink, b"abcd", Reach::Failed));
-    assert!(rt; sink.faults() == 1);
-    assert!(rt; writes(&mut sink, Put::Bytes(2)));
-    assert!(rt; sends(&mut sink, b"cd", Reach::Ready));
-    assert!(rt; sink.faults() == 1);
-}
-
-#[test]
-fn a_call_that_a_signal_interrupts_is_no_fault(rt: HostRuntime) {
-    let twice = &[ErrorKind::Interrupted, ErrorKind::Interrupted];
-    let mut source = StdSource::new(Scripted::new(twice, &[b"ab"]));
-    assert!(rt; reads(&mut source, Got::Bytes(2)) && source.faults() == 0);
-    let mut sink = StdSink::new(Reluctant {
-        errors: twice,
-        calls: 0,
-    });
-    assert!(rt; writes(&mut sink, Put::Bytes(2)) && sink.faults() == 0);
-}
-
-// A terminal gives bytes again after its end was told.
-#[test]
-fn a_reader_may_have_more_after_its_end(rt: HostRuntime) {
-    let mut source = StdSource::new(Scripted::new(&[], &[b"ab", b"", b"cd"]));
-    assert!(rt; reads(&mut source, Got::Bytes(2)));
-    assert!(rt; reads(&mut source, Got::End));
-    assert!(rt; reads(&mut source, Got::Bytes(2)));
-    assert!(rt; source.faults() == 0);
+    assert!(rt; is_filled(&mut [0; 3]));
 }
 
 fn is_discarded(source: &mut MemSource) -> bool {
@@ -244,7 +252,11 @@ fn is_discarded(source: &mut MemSource) -> bool {
 #[test]
 fn what_is_discarded_is_taken_whole(rt: HostRuntime) {
     let is_whole = match MemSource::new(rt.alloc(), b"abcdefgh", 3, &[2]) {
-        Ok(mut source) => is_discarded(&mut source),
+        Ok(mut source) => {
+            let is_whole = is_discarded(&mut source);
+            drop(source);
+            is_whole
+        }
         Err(AllocError) => false,
     };
     assert!(rt; is_whole);

@@ -49,6 +49,7 @@ where
     match HostPanel::new(alloc, MemClock::new(time)) {
         Ok(mut panel) => {
             gives(rt, alloc, &mut panel, place);
+            drop(panel);
             true
         }
         Err(AllocError) => false,
@@ -79,7 +80,10 @@ where
 {
     match panel.share() {
         Shared::Made(mut share) => {
-            answers_three(rt, alloc, panel, due) && answers_three(rt, alloc, &mut share, due)
+            let both = answers_three(rt, alloc, panel, due)
+                && answers_three(rt, alloc, &mut share, due);
+            drop(share);
+            both
         }
         Shared::Failed | Shared::NoMemory => false,
     }
@@ -91,7 +95,10 @@ where
 {
     match HostPanel::new(alloc, MemClock::new(time)) {
         Ok(mut panel) => {
-            panel.reach(rt, 0, b"clock") == Reach::Ready && both_answer(rt, alloc, &mut panel, due)
+            let both = panel.reach(rt, 0, b"clock") == Reach::Ready
+                && both_answer(rt, alloc, &mut panel, due);
+            drop(panel);
+            both
         }
         Err(AllocError) => false,
     }
@@ -113,13 +120,23 @@ where
         && ask(rt, alloc, panel, 3, b"TimeNow = 5") == Ask::Down
 }
 
+fn new_has_bounds<R>(rt: &R, alloc: Global) -> bool
+where
+    R: Net<Listener = TcpListener, Stream = TcpStream> + SystemClock + Abort,
+{
+    match HostPanel::new(alloc, MemClock::new(Some(5))) {
+        Ok(mut panel) => {
+            let has_bounds = has_bounds(rt, alloc, &mut panel);
+            drop(panel);
+            has_bounds
+        }
+        Err(AllocError) => false,
+    }
+}
+
 #[test]
 fn ports_and_addresses_have_bounds(rt: HostRuntime) {
-    let panel = HostPanel::new(rt.alloc(), MemClock::new(Some(5)));
-    assert!(rt; panel.is_ok());
-    if let Ok(mut panel) = panel {
-        assert!(rt; has_bounds(&rt, rt.alloc(), &mut panel));
-    }
+    assert!(rt; new_has_bounds(&rt, rt.alloc()));
 }
 
 // Whether the time lies between the start of 2020 and that of 2200.
@@ -136,14 +153,29 @@ where
         && ask(rt, alloc, panel, 0, b"TimeNow < 1577836800") == Ask::No
 }
 
+fn panel_tells_the_time<R>(rt: &R, alloc: Global, clock: HostClock) -> bool
+where
+    R: Net<Listener = TcpListener, Stream = TcpStream> + SystemClock + Abort,
+{
+    match HostPanel::new(alloc, clock) {
+        Ok(mut panel) => {
+            let tells = tells_the_time(rt, alloc, &mut panel);
+            drop(panel);
+            tells
+        }
+        Err(AllocError) => false,
+    }
+}
+
+fn gives_the_time<R>(rt: &R, alloc: Global) -> bool
+where
+    R: Net<Listener = TcpListener, Stream = TcpStream> + SystemClock + Abort,
+{
+    let mut clock = HostClock::new();
+    is_now(clock.now(rt)) && is_now(clock.share().now(rt)) && panel_tells_the_time(rt, alloc, clock)
+}
+
 #[test]
 fn the_clock_of_the_system_gives_the_time(rt: HostRuntime) {
-    let mut clock = HostClock::new();
-    assert!(rt; is_now(clock.now(&rt)));
-    assert!(rt; is_now(clock.share().now(&rt)));
-    let panel = HostPanel::new(rt.alloc(), clock);
-    assert!(rt; panel.is_ok());
-    if let Ok(mut panel) = panel {
-        assert!(rt; tells_the_time(&rt, rt.alloc(), &mut panel));
-    }
+    assert!(rt; gives_the_time(&rt, rt.alloc()));
 }

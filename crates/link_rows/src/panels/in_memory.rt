@@ -1,7 +1,7 @@
 use super::answers;
 use authority_ask::{Ask, MemPanel, Panel};
 use nx_io::{Reach, Shared};
-use std::alloc::Global;
+use std::alloc::{AllocError, Global};
 use std::net::{Net, TcpListener, TcpStream};
 use std::process::Abort;
 use std::rt::Clock;
@@ -24,7 +24,9 @@ fn shares<R>(rt: &R, alloc: Global, panel: &mut MemPanel) -> bool
 where
     R: Net<Listener = TcpListener, Stream = TcpStream> + Clock + Abort,
 {
-    let fails = matches!(panel.share(), Shared::Failed);
+    let share = panel.share();
+    let fails = matches!(&share, Shared::Failed);
+    drop(share);
     fails && panel.faults() == 3 && share_answers(rt, alloc, panel)
 }
 
@@ -34,7 +36,9 @@ where
 {
     match panel.share() {
         Shared::Made(mut share) => {
-            answers(rt, alloc, &mut share, OK, "YDMY") && counts(&share, 4, 1)
+            let is_so = answers(rt, alloc, &mut share, OK, "YDMY") && counts(&share, 4, 1);
+            drop(share);
+            is_so
         }
         Shared::Failed | Shared::NoMemory => false,
     }
@@ -50,17 +54,22 @@ where
     R: Net<Listener = TcpListener, Stream = TcpStream> + Clock + Abort,
 {
     assert!(rt; reaches(rt, panel));
-    assert!(rt; answers(rt, alloc, panel, OK, "YDMYNN"));
-    assert!(rt; counts(panel, 6, 2));
+    assert!(rt; answers(rt, alloc, panel, OK, "YDMYNN") && counts(panel, 6, 2));
     assert!(rt; shares(rt, alloc, panel));
 }
 
-#[test]
-fn a_panel_in_memory_answers_as_it_was_told(rt: HostRuntime) {
+fn try_new<R>(rt: &R, alloc: Global) -> Result<(), AllocError>
+where
+    R: Net<Listener = TcpListener, Stream = TcpStream> + Clock + Abort,
+{
     let given = [Ask::Yes, Ask::Down, Ask::NoMemory, Ask::Yes];
-    let panel = MemPanel::new(rt.alloc(), &given, &[2], &[1]);
-    assert!(rt; panel.is_ok());
-    if let Ok(mut panel) = panel {
-        try_out(&rt, rt.alloc(), &mut panel);
-    }
+    let mut panel = MemPanel::new(alloc, &given, &[2], &[1])?;
+    try_out(rt, alloc, &mut panel);
+    drop(panel);
+    Ok(())
+}
+
+#[test]
+fn a_panel_in_memory_answers_as_it_was_told(rt: HostRuntime) -> Result<(), AllocError> {
+    try_new(&rt, rt.alloc())
 }

@@ -60,7 +60,11 @@ where
     R: Net<Listener = TcpListener, Stream = TcpStream> + SystemClock + Abort,
 {
     match panel.share() {
-        Shared::Made(mut share) => answers(rt, alloc, &mut share, OK, "N"),
+        Shared::Made(mut share) => {
+            let is_denied = answers(rt, alloc, &mut share, OK, "N");
+            drop(share);
+            is_denied
+        }
         Shared::Failed | Shared::NoMemory => false,
     }
 }
@@ -84,6 +88,7 @@ where
     match HostPanel::new(alloc, MemClock::new(Some(5))) {
         Ok(mut panel) => {
             asks_in_turn(rt, alloc, &mut panel, address);
+            drop(panel);
             true
         }
         Err(AllocError) => false,
@@ -104,7 +109,11 @@ where
     R: Net<Listener = TcpListener, Stream = TcpStream> + SystemClock + Abort,
 {
     match HostPanel::new(alloc, MemClock::new(Some(5))) {
-        Ok(mut panel) => is_lost(rt, alloc, &mut panel, address),
+        Ok(mut panel) => {
+            let is_lost = is_lost(rt, alloc, &mut panel, address);
+            drop(panel);
+            is_lost
+        }
         Err(AllocError) => false,
     }
 }
