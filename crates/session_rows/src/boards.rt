@@ -39,7 +39,10 @@ fn board_of_journal(
 {
     match front_of(alloc, &journal) {
         Some(text) => board_of_front(alloc, journal, text.as_slice(), sink),
-        None => None,
+        None => {
+            drop(journal);
+            None
+        }
     }
 }
 
@@ -79,7 +82,10 @@ fn board_of_front(
 {
     match Book::make(alloc, journal, sink) {
         Ok(made) => opened(made, text),
-        Err(_) => None,
+        Err((journal, _, AllocError)) => {
+            drop(journal);
+            None
+        }
     }
 }
 
@@ -99,6 +105,10 @@ fn opened(
     let (board, mut book) = made;
     match book.open(text) {
         Reach::Ready => Some((board, book)),
-        Reach::Failed => None,
+        Reach::Failed => {
+            drop(book);
+            drop(board);
+            None
+        }
     }
 }

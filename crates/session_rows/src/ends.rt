@@ -1,15 +1,14 @@
 //! Ends of sessions, and links that fail.
-use crate::tables::first_other;
+use crate::tables::holds;
 use std::alloc::AllocError;
 
 // More requests than a session may have, each of which is refused since nobody has said hello.
-const SPENT: &str =
-    "alice 40000|1048577 * object = 1048576 * refused 0 1 -> true Spent Closed Closed, asks 0, asking 0 missed 0 answered 1048576 entries 0.";
+const SPENT: &str = "play: a session is spent by its last request
+alice 40000|1048577 * object = 1048576 * refused 0 1 -> true Spent Closed Closed, asks 0, asking 0 missed 0 answered 1048576 entries 0.";
 
 #[test]
 fn a_session_is_spent_by_its_last_request(rt: HostRuntime) -> Result<(), AllocError> {
-    assert_eq!(rt; first_other(&rt, rt.alloc(), SPENT)?.as_str(), "");
-    Ok(())
+    holds(&rt, rt.alloc(), SPENT)
 }
 
 // A link may fail at each take: each frame takes two calls, and the last call is that which finds the end. The requests that
@@ -55,6 +54,5 @@ alice 40000|object #0 #0 #0 #1 #255 = refused 0 1 bad 12 -> true BadFrame { plac
 
 #[test]
 fn sessions_end_as_their_links_do(rt: HostRuntime) -> Result<(), AllocError> {
-    assert_eq!(rt; first_other(&rt, rt.alloc(), TABLE)?.as_str(), "");
-    Ok(())
+    holds(&rt, rt.alloc(), TABLE)
 }

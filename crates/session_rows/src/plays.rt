@@ -1,6 +1,5 @@
 //! Sessions over one board, one after another, and what comes of them.
 ghost use Rattle.std.specs.Prelude.{◌≡◌, ◌<◌, Some, true};
-ghost use Rattle.nx_io.specs.MemoryDoors.{IsFreshWire};
 ghost use Rattle.policy_book.specs.Books.{IsNamed};
 ghost use Rattle.session_rows.specs.Fresh.{IsNew};
 
@@ -9,7 +8,7 @@ use crate::frames::bytes_of;
 use crate::tables::number;
 use crate::talks::{Talk, link_of, talk_of};
 use authority_ask::{Ask, MemPanel};
-use nx_io::{Gate, MemLink, MemSink, Place};
+use nx_io::{Gate, MemSink, Place};
 use policy_book::{Book, BookNaming, NalMatter, Shelf};
 use session_core::{SessionEnd, serve_link};
 use std::alloc::{AllocError, Global};
@@ -80,6 +79,21 @@ fn answers_of(alloc: Global, words: &str) -> Result<Vec<Ask>, AllocError> {
     Ok(answers)
 }
 
+// A panel that gives the answers that the words name.
+fn panel_of(alloc: Global, words: &str) -> Result<MemPanel, AllocError> {
+    let answers = answers_of(alloc, words)?;
+    MemPanel::new(alloc, answers.as_slice(), &[], &[])
+}
+
+// The talks of three lines, of which one that is missing asks nothing.
+fn talks_of(alloc: Global, text: &str) -> Result<Vec<Talk>, AllocError> {
+    let (mut talks, mut lines) = (Vec::new(alloc), text.lines());
+    for _ in 0..3 {
+        talks.push(talk_of(alloc, lines.next().unwrap_or(""))?)?;
+    }
+    Ok(talks)
+}
+
 /// Plays three sessions, one after another. The first line names a policy, tells how much the sink of its book holds, and what
 /// the authorities answer; each of the next three is a talk, or no line for a session that is asked nothing.
 pub fn told<R: Net<Listener = TcpListener, Stream = TcpStream> + Clock + Wait>(
@@ -87,12 +101,18 @@ pub fn told<R: Net<Listener = TcpListener, Stream = TcpStream> + Clock + Wait>(
     alloc: Global,
     text: &str,
 ) -> Result<String, AllocError> {
-    let mut lines = text.lines();
-    let head = lines.next().unwrap_or("");
-    let first = talk_of(alloc, lines.next().unwrap_or(""))?;
-    let second = talk_of(alloc, lines.next().unwrap_or(""))?;
-    let third = talk_of(alloc, lines.next().unwrap_or(""))?;
-    let outcome = outcome_of(rt, alloc, head, [&first, &second, &third])?;
+    let (head, talks) = text.split_once("\n").unwrap_or((text, ""));
+    let (policy, rest) = head.split_once(" ").unwrap_or(("", ""));
+    let (room, answers) = rest.split_once(" ").unwrap_or((rest, ""));
+    let talks = talks_of(alloc, talks)?;
+    let mut panel = panel_of(alloc, answers)?;
+    let outcome = outcome_of(rt, alloc, policy, room, &mut panel, talks.as_slice());
+    drop(panel);
+    drop(talks);
+    outcome_told(alloc, &outcome?)
+}
+
+fn outcome_told(alloc: Global, outcome: &Outcome) -> Result<String, AllocError> {
     let Outcome {
         told,
         ends: [first, second, third],
@@ -111,14 +131,12 @@ pub fn told<R: Net<Listener = TcpListener, Stream = TcpStream> + Clock + Wait>(
 fn outcome_of<R: Net<Listener = TcpListener, Stream = TcpStream> + Clock + Wait>(
     rt: &R,
     alloc: Global,
-    head: &str,
-    talks: [&Talk; 3],
+    policy: &str,
+    room: &str,
+    panel: &mut MemPanel,
+    talks: &[Talk],
 ) -> Result<Outcome, AllocError> {
-    let (policy, rest) = head.split_once(" ").unwrap_or(("", ""));
-    let (room, answers) = rest.split_once(" ").unwrap_or((rest, ""));
     let policy = bytes_of(alloc, policy)?;
-    let answers = answers_of(alloc, answers)?;
-    let panel = MemPanel::new(alloc, answers.as_slice(), &[], &[])?;
     let sink = MemSink::new(alloc, number(room) as usize, 1000, &[])?;
     match board_of(alloc, policy.as_slice(), sink) {
         Some(made) => Ok(serve_all(rt, alloc, made, panel, talks)),
@@ -131,8 +149,8 @@ fn serve_all<R: Net<Listener = TcpListener, Stream = TcpStream> + Clock + Wait>(
     rt: &R,
     alloc: Global,
     made: (Board<NalMatter>, Book<MemSink>),
-    panel: MemPanel,
-    talks: [&Talk; 3],
+    panel: &mut MemPanel,
+    talks: &[Talk],
 ) -> Outcome
     requires opened { made.1.is_open ≡ true }
     requires board { made.1.board ≡ made.0 }
@@ -143,7 +161,9 @@ fn serve_all<R: Net<Listener = TcpListener, Stream = TcpStream> + Clock + Wait>(
     let second = book.enter(&board);
     let third = book.enter(&board);
     let passes = (first, second, third);
-    serve_passes::<Brand, R>(rt, alloc, &board, book, passes, panel, talks)
+    let outcome = serve_passes::<Brand, R>(rt, alloc, &board, book, passes, panel, talks);
+    drop(board);
+    outcome
 }
 
 fn serve_passes<N: BookNaming, R: Net<Listener = TcpListener, Stream = TcpStream> + Clock + Wait>(
@@ -152,8 +172,8 @@ fn serve_passes<N: BookNaming, R: Net<Listener = TcpListener, Stream = TcpStream
     board: &Board<NalMatter>,
     book: Book<MemSink>,
     passes: (Pass<NalMatter>, Pass<NalMatter>, Pass<NalMatter>),
-    panel: MemPanel,
-    talks: [&Talk; 3],
+    panel: &mut MemPanel,
+    talks: &[Talk],
 ) -> Outcome
     requires opened { book.is_open ≡ true }
     requires named { IsNamed N.board N.next N.start N.start_faults book }
@@ -162,15 +182,12 @@ fn serve_passes<N: BookNaming, R: Net<Listener = TcpListener, Stream = TcpStream
     requires second { IsNew board.now passes.1 }
     requires third { IsNew board.now passes.2 }
 {
-    let (mut panel, gate) = (panel, Counter::new());
+    let gate = Counter::new();
     let shelf: Mutex<Shelf<MemSink, N>> = Mutex::new(Shelf::new(book));
-    let [first, second, third] = talks;
-    let first = served(rt, alloc, board, &shelf, passes.0, &gate, &mut panel, first);
-    let second = served(
-        rt, alloc, board, &shelf, passes.1, &gate, &mut panel, second,
-    );
-    let third = served(rt, alloc, board, &shelf, passes.2, &gate, &mut panel, third);
-    let (journal, _sink) = shelf.into_inner().into_book().into_parts();
+    let (first, second, third) = (talks.get(0), talks.get(1), talks.get(2));
+    let first = served(rt, alloc, board, &shelf, passes.0, &gate, panel, first);
+    let second = served(rt, alloc, board, &shelf, passes.1, &gate, panel, second);
+    let third = served(rt, alloc, board, &shelf, passes.2, &gate, panel, third);
     Outcome {
         told: first.0 & second.0 & third.0,
         ends: [first.1, second.1, third.1],
@@ -178,12 +195,43 @@ fn serve_passes<N: BookNaming, R: Net<Listener = TcpListener, Stream = TcpStream
         asking: gate.asking.get(),
         answered: gate.answered.get(),
         asks: panel.asks(),
-        entries: journal.count(),
+        entries: entries_of(shelf.into_inner().into_book()),
     }
 }
 
-// Serves a session over the link of its talk: whether it is told what it should be and closes its link, and how it ends.
+// How many entries the journal of a book has.
+fn entries_of(book: Book<MemSink>) -> u64 {
+    let (journal, sink) = book.into_parts();
+    let entries = journal.count();
+    drop(journal);
+    drop(sink);
+    entries
+}
+
+// Serves a session over the link of a talk: whether it is told what it should be and closes its link, and how it ends.
 fn served<N: BookNaming, R: Net<Listener = TcpListener, Stream = TcpStream> + Clock + Wait>(
+    rt: &R,
+    alloc: Global,
+    board: &Board<NalMatter>,
+    shelf: &Mutex<Shelf<MemSink, N>>,
+    pass: Pass<NalMatter>,
+    gate: &Counter,
+    panel: &mut MemPanel,
+    talk: Option<&Talk>,
+) -> (bool, SessionEnd)
+    requires named { N.board ≡ Some board.now }
+    requires pass { IsNew board.now pass }
+{
+    match talk {
+        Some(talk) => served_to(rt, alloc, board, shelf, pass, gate, panel, talk),
+        None => {
+            drop(pass);
+            (false, SessionEnd::Memory)
+        }
+    }
+}
+
+fn served_to<N: BookNaming, R: Net<Listener = TcpListener, Stream = TcpStream> + Clock + Wait>(
     rt: &R,
     alloc: Global,
     board: &Board<NalMatter>,
@@ -197,28 +245,17 @@ fn served<N: BookNaming, R: Net<Listener = TcpListener, Stream = TcpStream> + Cl
     requires pass { IsNew board.now pass }
 {
     match link_of(alloc, talk, talk.asked.as_slice()) {
-        Ok(link) => served_over(rt, alloc, board, shelf, pass, link, gate, panel, talk),
-        Err(AllocError) => (false, SessionEnd::Memory),
+        Ok(link) => {
+            let report = serve_link(rt, alloc, board, shelf, pass, link, panel, gate);
+            let closed = report.link.is_closed();
+            let told = report.link.sent() == talk.told.as_slice();
+            let end = report.end;
+            drop(report);
+            (closed & told, end)
+        }
+        Err(AllocError) => {
+            drop(pass);
+            (false, SessionEnd::Memory)
+        }
     }
-}
-
-fn served_over<N: BookNaming, R: Net<Listener = TcpListener, Stream = TcpStream> + Clock + Wait>(
-    rt: &R,
-    alloc: Global,
-    board: &Board<NalMatter>,
-    shelf: &Mutex<Shelf<MemSink, N>>,
-    pass: Pass<NalMatter>,
-    link: MemLink,
-    gate: &Counter,
-    panel: &mut MemPanel,
-    talk: &Talk,
-) -> (bool, SessionEnd)
-    requires named { N.board ≡ Some board.now }
-    requires pass { IsNew board.now pass }
-    requires link { IsFreshWire link }
-{
-    let report = serve_link(rt, alloc, board, shelf, pass, link, panel, gate);
-    let closed = report.link.is_closed();
-    let told = report.link.sent() == talk.told.as_slice();
-    (closed & told, report.end)
 }

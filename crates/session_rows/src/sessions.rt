@@ -1,34 +1,52 @@
 //! Sessions over links in memory and a journal.
 use crate::frames::bytes_of;
-use crate::tables::{first_other, number};
+use crate::tables::{holds, number};
 use crate::talks::{Talk, link_of, talk_of};
 use authority_ask::MemPanel;
 use journal_text::read_policy;
+use nx_io::MemLink;
 use policy_history::Journal;
-use session_core::serve_on;
+use session_core::{SessionEnd, serve_on};
 use std::alloc::{AllocError, Global};
 use std::net::{Net, TcpListener, TcpStream};
 use std::rt::Clock;
 
-// Serves the next session of the journal over a link that gives these bytes: the end of the session, how many bytes it sent,
-// whether they begin the replies, and whether the link is closed.
-fn served<R: Net<Listener = TcpListener, Stream = TcpStream> + Clock>(
-    rt: &R,
+// What comes of a session: its end, how many bytes it sent, whether they begin the replies, and whether the link is closed.
+fn end_told(
     alloc: Global,
-    journal: &mut Journal,
+    end: SessionEnd,
+    link: &MemLink,
     talk: &Talk,
-    left: &[u8],
 ) -> Result<String, AllocError> {
-    let Some(session) = journal.greatest_session().checked_add(1) else {
-        return Err(AllocError);
-    };
-    let mut panel = MemPanel::new(alloc, &[], &[], &[])?;
-    let mut link = link_of(alloc, talk, left)?;
-    let end = serve_on(rt, alloc, journal, session, &mut link, &mut panel);
     let sent = link.sent().len();
     let same = talk.told.as_slice().starts_with(link.sent());
     let closed = link.is_closed();
     format!(in alloc; "{end:?} {sent} {same} {closed}.")
+}
+
+// Serves the next session of the journal over a link that gives the first of the bytes that are asked, at most so many.
+fn served<R: Net<Listener = TcpListener, Stream = TcpStream> + Clock>(
+    rt: &R,
+    alloc: Global,
+    journal: &mut Journal,
+    panel: &mut MemPanel,
+    talk: &Talk,
+    most: usize,
+) -> Result<String, AllocError> {
+    let session = journal.greatest_session();
+    if session == u64::MAX {
+        return Err(AllocError);
+    }
+    let asked = talk.asked.as_slice();
+    match link_of(alloc, talk, asked.get(..most).unwrap_or(asked)) {
+        Ok(mut link) => {
+            let end = serve_on(rt, alloc, journal, session + 1, &mut link, panel);
+            let told = end_told(alloc, end, &link, talk);
+            drop(link);
+            told
+        }
+        Err(AllocError) => Err(AllocError),
+    }
 }
 
 // Serves the talks of these lines, one after another over the journal.
@@ -36,14 +54,51 @@ fn all_served<R: Net<Listener = TcpListener, Stream = TcpStream> + Clock>(
     rt: &R,
     alloc: Global,
     journal: &mut Journal,
+    panel: &mut MemPanel,
     lines: &str,
+    most: usize,
 ) -> Result<String, AllocError> {
-    let mut told = String::new(alloc);
+    let mut all = String::new(alloc);
     for line in lines.lines() {
         let talk = talk_of(alloc, line)?;
-        told.push_str(served(rt, alloc, journal, &talk, talk.asked.as_slice())?.as_str())?;
+        let told = served(rt, alloc, journal, panel, &talk, most);
+        drop(talk);
+        all.push_str(told?.as_str())?;
     }
-    Ok(told)
+    Ok(all)
+}
+
+// As `all_served`, over a new journal of this policy.
+fn served_anew<R: Net<Listener = TcpListener, Stream = TcpStream> + Clock>(
+    rt: &R,
+    alloc: Global,
+    panel: &mut MemPanel,
+    policy: &str,
+    lines: &str,
+    most: usize,
+) -> Result<String, AllocError> {
+    let policy = bytes_of(alloc, policy)?;
+    match read_policy(alloc, policy.as_slice()) {
+        Ok(mut journal) => {
+            let told = all_served(rt, alloc, &mut journal, panel, lines, most);
+            drop(journal);
+            told
+        }
+        Err(_) => Err(AllocError),
+    }
+}
+
+fn told_of_most<R: Net<Listener = TcpListener, Stream = TcpStream> + Clock>(
+    rt: &R,
+    alloc: Global,
+    policy: &str,
+    lines: &str,
+    most: usize,
+) -> Result<String, AllocError> {
+    let mut panel = MemPanel::new(alloc, &[], &[], &[])?;
+    let told = served_anew(rt, alloc, &mut panel, policy, lines, most);
+    drop(panel);
+    told
 }
 
 /// What comes of sessions over a new journal. The first line names its policy, and each other is a talk.
@@ -53,29 +108,12 @@ pub fn told<R: Net<Listener = TcpListener, Stream = TcpStream> + Clock>(
     text: &str,
 ) -> Result<String, AllocError> {
     let (policy, lines) = text.split_once("\n").unwrap_or(("", ""));
-    let policy = bytes_of(alloc, policy)?;
-    match read_policy(alloc, policy.as_slice()) {
-        Ok(mut journal) => all_served(rt, alloc, &mut journal, lines),
-        Err(_) => Err(AllocError),
-    }
+    told_of_most(rt, alloc, policy, lines, usize::MAX)
 }
 
 // A session that is asked for an object, a goal, a label, a proof by it, and twice for a call.
 const WHOLE: &str = "1000 1000: hello object goal label proof call call = \
     welcome 1 0 done 1 0 done 2 0 done 3 3 done 4 0 allowed 4 0 0 allowed 4 0 0";
-
-// What comes of a session over a new journal and a link that gives these bytes.
-fn served_anew<R: Net<Listener = TcpListener, Stream = TcpStream> + Clock>(
-    rt: &R,
-    alloc: Global,
-    talk: &Talk,
-    left: &[u8],
-) -> Result<String, AllocError> {
-    match read_policy(alloc, b"nexus 1\nprincipal alice pa\nend\n") {
-        Ok(mut journal) => served(rt, alloc, &mut journal, talk, left),
-        Err(_) => Err(AllocError),
-    }
-}
 
 /// What comes of a session whose link is cut behind so many bytes of the requests, from the first number up to and with the
 /// second, if it is the same of each.
@@ -85,28 +123,25 @@ pub fn cut<R: Net<Listener = TcpListener, Stream = TcpStream> + Clock>(
     text: &str,
 ) -> Result<String, AllocError> {
     let (first, last) = text.split_once(" ").unwrap_or((text, text));
-    let talk = talk_of(alloc, WHOLE)?;
     let mut told = String::new(alloc);
     for place in number(first)..=number(last) {
-        let left = talk.asked.as_slice().get(..place as usize).unwrap_or(&[]);
-        let next = served_anew(rt, alloc, &talk, left)?;
+        let next = told_of_most(rt, alloc, "alice", WHOLE, place as usize)?;
         if told.is_empty() {
             told = next;
         } else if told != next {
-            return format!(in alloc; "{told} {place} {next}");
+            return format!(in alloc; "behind {place} {next}");
         }
     }
     Ok(told)
 }
 
 // Each of the requests is refused, since nobody has said hello.
-const SPENT: &str =
-    "alice|1000 22020117: 1048577 * object = welcome 1 0 done 1 0 done 2 0 done 3 3 done 4 0 allowed 4 0 0 allowed 4 0 0 -> Spent 22020096 false true.";
+const SPENT: &str = "serve: a session is spent by its last request
+alice|1000 22020117: 1048577 * object = welcome 1 0 done 1 0 done 2 0 done 3 3 done 4 0 allowed 4 0 0 allowed 4 0 0 -> Spent 22020096 false true.";
 
 #[test]
 fn a_session_is_spent_by_its_last_request(rt: HostRuntime) -> Result<(), AllocError> {
-    assert_eq!(rt; first_other(&rt, rt.alloc(), SPENT)?.as_str(), "");
-    Ok(())
+    holds(&rt, rt.alloc(), SPENT)
 }
 
 // Sessions end as their links do: a length that no payload has comes at once and behind a request. Each frame takes two calls,
@@ -188,6 +223,5 @@ fs_and_bob|\
 
 #[test]
 fn sessions_over_a_journal_are_told_and_end_so(rt: HostRuntime) -> Result<(), AllocError> {
-    assert_eq!(rt; first_other(&rt, rt.alloc(), TABLE)?.as_str(), "");
-    Ok(())
+    holds(&rt, rt.alloc(), TABLE)
 }

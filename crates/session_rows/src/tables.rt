@@ -3,6 +3,7 @@
 use crate::{plays, sessions};
 use std::alloc::{AllocError, Global};
 use std::net::{Net, TcpListener, TcpStream};
+use std::process::Abort;
 use std::rt::Clock;
 use std::sync::Wait;
 use text_lines::read_number;
@@ -45,14 +46,14 @@ fn first_other_of<R: Net<Listener = TcpListener, Stream = TcpStream> + Clock + W
     Ok(String::new(alloc))
 }
 
-/// As `first_other_of`, of a table, with the title above the row.
-pub fn first_other<R: Net<Listener = TcpListener, Stream = TcpStream> + Clock + Wait>(
+// As `first_other_of`, of a table, with the title above the row.
+fn first_other<R: Net<Listener = TcpListener, Stream = TcpStream> + Clock + Wait>(
     rt: &R,
     alloc: Global,
     table: &str,
 ) -> Result<String, AllocError> {
     for part in table.split("\n\n") {
-        let (title, rows) = part.split_once("\n").unwrap_or((part, ""));
+        let (title, rows) = part.split_once("\n").unwrap_or((part, "no row"));
         let (call, _) = title.split_once(": ").unwrap_or(("", ""));
         let other = first_other_of(rt, alloc, call, rows)?;
         if !other.is_empty() {
@@ -60,6 +61,17 @@ pub fn first_other<R: Net<Listener = TcpListener, Stream = TcpStream> + Clock + 
         }
     }
     Ok(String::new(alloc))
+}
+
+/// Asserts that each row of a table comes to what stands behind its arrow.
+pub fn holds<R: Net<Listener = TcpListener, Stream = TcpStream> + Clock + Wait + Abort>(
+    rt: &R,
+    alloc: Global,
+    table: &str,
+) -> Result<(), AllocError> {
+    let other = first_other(rt, alloc, table)?;
+    assert_eq!(rt; other.as_str(), "");
+    Ok(())
 }
 
 /// The number that a text writes, or 0.
