@@ -15,7 +15,8 @@ fn entry(
     board: &Board<Flags>,
     seat: &mut BookSeat<Flags>,
 ) -> Result<String, AllocError>
-    requires { seat.old ≡ record { board = board.now; entries = []; next = 1; turn = 0; lag = []; raised = None; known = [] } }
+    requires { seat.old
+        ≡ record { board = board.now; entries = []; next = 1; turn = 0; lag = []; raised = None; known = [] } }
 {
     let mut pass = board.enter(seat);
     board.fill(&mut pass, &case_place(5), 0, &ALLOWED);
@@ -46,7 +47,8 @@ fn registers(
     board: &Board<Flags>,
     seat: &mut BookSeat<Flags>,
 ) -> Result<String, AllocError>
-    requires { seat.old ≡ record { board = board.now; entries = []; next = 1; turn = 0; lag = []; raised = None; known = [] } }
+    requires { seat.old
+        ≡ record { board = board.now; entries = []; next = 1; turn = 0; lag = []; raised = None; known = [] } }
 {
     let mut pass = board.enter(seat);
     let numbers = [pass.session(), seat.next_session()];
@@ -69,7 +71,8 @@ fn change(
     board: &Board<Flags>,
     seat: &mut BookSeat<Flags>,
 ) -> Result<String, AllocError>
-    requires { seat.old ≡ record { board = board.now; entries = []; next = 1; turn = 0; lag = []; raised = None; known = [] } }
+    requires { seat.old
+        ≡ record { board = board.now; entries = []; next = 1; turn = 0; lag = []; raised = None; known = [] } }
 {
     let mut one = board.enter(seat);
     let two = board.enter(seat);
@@ -94,7 +97,8 @@ fn reads(
     board: &Board<Flags>,
     seat: &mut BookSeat<Flags>,
 ) -> Result<String, AllocError>
-    requires { seat.old ≡ record { board = board.now; entries = []; next = 1; turn = 0; lag = []; raised = None; known = [] } }
+    requires { seat.old
+        ≡ record { board = board.now; entries = []; next = 1; turn = 0; lag = []; raised = None; known = [] } }
 {
     let mut one = board.enter(seat);
     let mut two = board.enter(seat);
@@ -114,7 +118,8 @@ fn meetings(
     board: &Board<Flags>,
     seat: &mut BookSeat<Flags>,
 ) -> Result<String, AllocError>
-    requires { seat.old ≡ record { board = board.now; entries = []; next = 1; turn = 0; lag = []; raised = None; known = [] } }
+    requires { seat.old
+        ≡ record { board = board.now; entries = []; next = 1; turn = 0; lag = []; raised = None; known = [] } }
 {
     let mut one = board.enter(seat);
     let mut two = board.enter(seat);
@@ -145,7 +150,8 @@ fn told_on(
     seat: &mut BookSeat<Flags>,
     row: &str,
 ) -> Result<String, AllocError>
-    requires { seat.old ≡ record { board = board.now; entries = []; next = 1; turn = 0; lag = []; raised = None; known = [] } }
+    requires { seat.old
+        ≡ record { board = board.now; entries = []; next = 1; turn = 0; lag = []; raised = None; known = [] } }
 {
     match row {
         "an entry makes only its own region miss" => entry(alloc, board, seat),
