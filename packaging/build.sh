@@ -27,6 +27,7 @@ read_manifest
 unpack_release "$root/usr/lib/nexus/nexus"
 gzip -9n <"$top/man/nexus.1" >"$root/usr/share/man/man1/nexus.1.gz"
 cp "$top/tools/usage.txt" "$root/usr/share/nexus/usage"
+cp "$top/tools/statuses.txt" "$root/usr/share/nexus/statuses"
 echo "nexus $version" >"$root/usr/share/nexus/version"
 cp "$top/NOTICE" "$top/packaging/debian/copyright" "$doc/"
 cp "$top/packaging/policy" "$top/examples/serve/storage.requests" "$top/examples/serve/bob.requests" "$doc/examples/"

@@ -51,6 +51,11 @@ look_into() {
     fi
 }
 
+# What a command writes where a terminal is its input and output.
+on_terminal() {
+    python3 -c 'import os, pty, sys; sys.exit(os.waitstatus_to_exitcode(pty.spawn(sys.argv[1:])))' "$@" </dev/null | tr -d '\r'
+}
+
 # The launcher, with its paths in the folder.
 play_launcher() {
     sed -i "s|/usr/|$root/usr/|" "$root/usr/bin/nexus"
@@ -60,6 +65,10 @@ play_launcher() {
     expect 'a check' allowed "$("$root/usr/bin/nexus" check <"$top/examples/check/share/input")"
     expect 'the status of a denial' 1 "$("$root/usr/bin/nexus" check <"$top/examples/check/wrong_order/input" >/dev/null; echo $?)"
     expect 'a word too many' 2 "$("$root/usr/bin/nexus" help me </dev/null; echo $?)"
+    for launcher in "$root/usr/bin/nexus" "$top/nexus"; do
+        expect 'what a status means, on a terminal' \
+            'nexus: these words are none of a command; `help` lists the commands (status 2)' "$(on_terminal "$launcher" chek | tail -n 1)"
+    done
 }
 
 play_secrets() {
