@@ -14,7 +14,7 @@ bench="$work/crates/look_bench"
 mkdir -p "$bench/src" "$bench/proofs/looks_with" "$bench/proofs/publishes" "$work/crates/verdict_words"
 cp "$root/HANDLES" "$work/"
 for part in src specs proofs; do cp -r "$root/crates/verdict_words/$part" "$work/crates/verdict_words/"; done
-printf 'verdict_words tests_may=Threads+Wait: atomic_table\nlook_bench: verdict_words\n' > "$work/crates.txt"
+printf 'verdict_words: atomic_table\nlook_bench: verdict_words\n' > "$work/crates.txt"
 cp "$here/look_bench_invariants.txt" "$bench/proofs/looks_with/Invariants.antt"
 cp "$here/publishes_invariants.txt" "$bench/proofs/publishes/Invariants.antt"
 cp "$here/publishes_answers.txt" "$bench/proofs/publishes/Answers.antt"
