@@ -1,6 +1,6 @@
 #!/usr/bin/env python3
 """Checks the documents: that each link and each quoted path leads to a file, that the README has at most 150 lines and what is
-guaranteed at most 300, that the README of a crate begins with the head of the crate's root, and that prose has at most 120 columns, but
+guaranteed at most 300, that the README of a crate begins with the head of the crate's root, that each decision is dated, and that prose has at most 120 columns, but
 in the documents that are named here.
 
     docs/check.py      prints what is wrong, and then ends with 1
@@ -46,6 +46,9 @@ def wrong_of(name):
             yield f"{name}: there is no {path}"
     if text.count("\n") > MOST_LINES.get(name, sys.maxsize):
         yield f"{name} has more than {MOST_LINES[name]} lines"
+    if name == "docs/DECISIONS.md":
+        for lead in re.findall(r"^\*\*[^*]+\*\*(?! \*\d{4}-\d\d-\d\d\.\*)", text, re.MULTILINE):
+            yield f"{name}: no day stands behind {lead}"
     if name not in WIDE:
         for number, line in enumerate(text.splitlines(), 1):
             if len(line) > 120 and not line.startswith(("|", "    ")):
