@@ -1,7 +1,7 @@
 #!/usr/bin/env python3
 """Checks the documents: that each link and each quoted path leads to a file, that the README has at most 150 lines and what is
-guaranteed at most 300, that the README of a crate begins with the head of the crate's root, that each decision is dated, and that prose has at most 120 columns, but
-in the documents that are named here.
+guaranteed at most 300, that the README of a crate begins with the head of the crate's root, that each decision is dated, and that
+prose has at most 120 columns, but in the documents that are named here.
 
     docs/check.py      prints what is wrong, and then ends with 1
     docs/check.py --heads
