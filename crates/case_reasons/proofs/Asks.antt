@@ -119,7 +119,7 @@ has_proof c undecided = of c.proof refl
     of (Some ls) e = e ∙ ap Some (sym (ap (λ (p : Option (List LineTree)). unwrap_or p []) e))
 
 -- what denies a case whatever is answered decides it
-decides : (c : CaseTree) (answers : List Bool) (cause : Cause) → cause_number cause < 6 → IsVerdict c answers (Denied cause) → IsDecided c
+pub decides : (c : CaseTree) (answers : List Bool) (cause : Cause) → cause_number cause < 6 → IsVerdict c answers (Denied cause) → IsDecided c
 decides c answers cause low told = (cause, low, unaffected c answers [] cause low told.0)
 
 module _ (c : CaseTree) (answers : List Bool) (k : ℕ) (l : LineTree) (port : ℕ) (here : line_at (lines_of c) k ≡ Some l) (ask : l.rule ≡ Ask) (bound : port_for c l.formula ≡ Some port) where

@@ -9,3 +9,4 @@ pub mod LineLists
 pub mod Asks
 pub mod Told
 pub mod Recorded
+pub mod OneExplanation

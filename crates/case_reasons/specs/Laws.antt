@@ -1,5 +1,7 @@
 -- What an explained call has to do with a record of it.
 use Rattle.std.specs.Prelude.{◌≡◌, ◌↔◌, ℕ, List, [], Bool, Option, Some, None, length, take}
+use Rattle.nal_term.specs.Trees.{formula_tree}
+use Rattle.proof_lines.specs.Lines.{line_trees}
 use Rattle.nal_rules.specs.Asking.{Asked, IsAsked}
 use Rattle.object_table.specs.Objects.{number_of}
 use Rattle.policy_history.specs.declared.heads.Head.{Head}
@@ -13,6 +15,9 @@ use Rattle.audit_check.specs.declared.records.Recorded.TheVariants.{NoObject as 
 use Rattle.audit_check.specs.Records.{IsRightRecord}
 use Rattle.case_reasons.specs.declared.explanations.Explained.{Explained}
 use Rattle.case_reasons.specs.declared.explanations.Explained.TheVariants.{NoObject, Known}
+use Rattle.case_reasons.specs.declared.explanations.Explanation.{Explanation}
+use Rattle.case_reasons.specs.declared.explanations.GoalReason.{GoalReason}
+use Rattle.case_reasons.specs.declared.explanations.ProofReason.{ProofReason}
 use Rattle.case_reasons.specs.Explanations.{IsExplained}
 
 -- what a record of an explained call tells
@@ -40,3 +45,33 @@ ExplainedAreRecorded =
     → IsExplained h (take point es) p op object answers x → IsRecordOf point p op object answers r
     → AreAsked h (take point es) p op answers (number_of (replay h (take point es)).objects object)
     → IsRightRecord h es r ↔ (r.verdict ≡ recorded_of x)
+
+-- two explanations tell the same of a goal: the entry and the formula
+abbrev pub SameGoal : Option GoalReason → Option GoalReason → Type 0
+SameGoal None None = Unit {0}
+SameGoal (Some a) (Some b) = (a.entry ≡ b.entry) × (formula_tree a.goal ≡ formula_tree b.goal)
+SameGoal _ _ = ⊥
+
+-- and of a proof: the entry, the lines, and the reason of each
+abbrev pub SameProof : Option ProofReason → Option ProofReason → Type 0
+SameProof None None = Unit {0}
+SameProof (Some a) (Some b) = (a.entry ≡ b.entry) × (line_trees a.proof ≡ line_trees b.proof) × (a.lines.items ≡ b.lines.items)
+SameProof _ _ = ⊥
+
+-- two explanations tell the same
+pub record SameExplanation (a b : Explanation) : Type 0 where
+  pub verdict : a.verdict ≡ b.verdict
+  pub object_reason : a.object ≡ b.object
+  pub goal_reason : SameGoal a.goal b.goal
+  pub proof_reason : SameProof a.proof b.proof
+
+abbrev pub SameExplained : Explained → Explained → Type 0
+SameExplained NoObject NoObject = Unit {0}
+SameExplained (Known a) (Known b) = SameExplanation a b
+SameExplained _ _ = ⊥
+
+-- a call has one explanation with these answers
+abbrev pub OneExplanation : Type 0
+OneExplanation =
+    (h : Head) (es : List EntryTree) (p : ℕ) (op object : List ℕ) (answers : List Bool) (x y : Explained)
+    → IsExplained h es p op object answers x → IsExplained h es p op object answers y → SameExplained x y

@@ -8,5 +8,5 @@ mod laws;
 mod lines;
 
 pub use explanations::{Explained, Explanation, GoalReason, ObjectReason, ProofReason, explain};
-pub use laws::explained_calls_are_recorded;
+pub use laws::{a_call_has_one_explanation, explained_calls_are_recorded};
 pub use lines::LineReason;
