@@ -178,10 +178,26 @@ fn plan_of(alloc: Global, sessions: &str, day: Day) -> Result<DoorPlan, AllocErr
 // The door of two workers.
 fn door_of(alloc: Global, day: Day) -> Result<MemDoor, AllocError> {
     let first = plan_of(alloc, day.at("talks"), day)?;
-    let second = plan_of(alloc, day.at("others"), day)?;
-    let mut plans = Vec::new(alloc);
-    plans.push(first)?;
-    plans.push(second)?;
+    match plan_of(alloc, day.at("others"), day) {
+        Ok(second) => door_with(alloc, day, first, second),
+        Err(AllocError) => {
+            drop(first);
+            Err(AllocError)
+        }
+    }
+}
+
+// The door of these two plans.
+fn door_with(
+    alloc: Global,
+    day: Day,
+    first: DoorPlan,
+    second: DoorPlan,
+) -> Result<MemDoor, AllocError>
+    requires first { IsFreshPlan first }
+    requires second { IsFreshPlan second }
+{
+    let plans = Vec::from_array(alloc, [first, second])?;
     MemDoor::new(alloc, plans, None, &[day.number("listen")])
 }
 
@@ -240,7 +256,7 @@ fn is_due(bytes: &[u8], due: &str) -> bool {
     }
 }
 
-// A service that is run.
+// A service that is run. Each of its devices is let go by one call where there is no memory for the next.
 fn ended<R, G: Gate + Sync>(
     rt: &R,
     alloc: Global,
@@ -250,28 +266,77 @@ fn ended<R, G: Gate + Sync>(
 where
     R: Net<Listener = TcpListener, Stream = TcpStream> + Clock + Wait + Threads + Sync,
 {
-    let words = words_of(alloc, day.at("words"))?;
     let policy = spelled(alloc, day.at("policy"))?;
-    let answers = asks_of(alloc, day.at("answers"))?;
-    let (reach, share, write) = (
-        [day.number("reach")],
-        [day.number("share")],
-        [day.number("write")],
-    );
     let mut source = MemSource::new(alloc, policy.as_slice(), 100, &[])?;
-    let sink = MemSink::new(alloc, day.size("room"), 11, &write)?;
-    let door = door_of(alloc, day)?;
-    let panel = MemPanel::new(alloc, answers.as_slice(), &reach, &share)?;
-    Ok(run(
-        rt,
-        alloc,
-        words.as_slice(),
-        &mut source,
-        sink,
-        door,
-        panel,
-        gate,
-    ))
+    let ended = ended_over(rt, alloc, day, gate, &mut source);
+    drop(source);
+    ended
+}
+
+// The same over this source.
+fn ended_over<R, G: Gate + Sync>(
+    rt: &R,
+    alloc: Global,
+    day: Day,
+    gate: &G,
+    source: &mut MemSource,
+) -> Result<Ended<MemDoor, MemPanel, MemSink>, AllocError>
+where
+    R: Net<Listener = TcpListener, Stream = TcpStream> + Clock + Wait + Threads + Sync,
+{
+    let words = words_of(alloc, day.at("words"))?;
+    let answers = asks_of(alloc, day.at("answers"))?;
+    let (reach, share) = ([day.number("reach")], [day.number("share")]);
+    match MemPanel::new(alloc, answers.as_slice(), &reach, &share) {
+        Ok(panel) => ended_by(rt, alloc, day, gate, words.as_slice(), source, panel),
+        Err(AllocError) => Err(AllocError),
+    }
+}
+
+// The same with this panel too.
+fn ended_by<R, G: Gate + Sync>(
+    rt: &R,
+    alloc: Global,
+    day: Day,
+    gate: &G,
+    words: &[&str],
+    source: &mut MemSource,
+    panel: MemPanel,
+) -> Result<Ended<MemDoor, MemPanel, MemSink>, AllocError>
+where
+    R: Net<Listener = TcpListener, Stream = TcpStream> + Clock + Wait + Threads + Sync,
+{
+    match door_of(alloc, day) {
+        Ok(door) => ended_with(rt, alloc, day, gate, words, source, panel, door),
+        Err(AllocError) => {
+            drop(panel);
+            Err(AllocError)
+        }
+    }
+}
+
+// And with this door.
+fn ended_with<R, G: Gate + Sync>(
+    rt: &R,
+    alloc: Global,
+    day: Day,
+    gate: &G,
+    words: &[&str],
+    source: &mut MemSource,
+    panel: MemPanel,
+    door: MemDoor,
+) -> Result<Ended<MemDoor, MemPanel, MemSink>, AllocError>
+where
+    R: Net<Listener = TcpListener, Stream = TcpStream> + Clock + Wait + Threads + Sync,
+{
+    match MemSink::new(alloc, day.size("room"), 11, &[day.number("write")]) {
+        Ok(sink) => Ok(run(rt, alloc, words, source, sink, door, panel, gate)),
+        Err(AllocError) => {
+            drop(door);
+            drop(panel);
+            Err(AllocError)
+        }
+    }
 }
 
 // What a service came to is what is due.

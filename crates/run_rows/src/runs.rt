@@ -109,10 +109,11 @@ fn left_of(left: usize, whole: usize) -> &'static str {
 // The status, how much of the input is left, and what was written.
 fn shown(
     alloc: Global,
-    status: u8,
+    status: Result<u8, AllocError>,
     left: &'static str,
     sent: &[u8],
 ) -> Result<Vec<u8>, AllocError> {
+    let status = status?;
     let mut shown = format!(in alloc; "{status} {left}:")?.into_bytes();
     show(sent, &mut shown)?;
     Ok(shown)
@@ -131,19 +132,38 @@ where
     R: Net<Listener = TcpListener, Stream = TcpStream> + Clock + Wait + Threads + Sync,
 {
     let mut source = MemSource::new(alloc, input, streams.read.max(1), &[streams.read_fails])?;
+    let told = told_from(rt, alloc, words, answers, &mut source, streams);
+    drop(source);
+    told
+}
+
+// The same over this source.
+fn told_from<R>(
+    rt: &R,
+    alloc: Global,
+    words: &[&str],
+    answers: &[Ask],
+    source: &mut MemSource,
+    streams: Streams,
+) -> Result<Vec<u8>, AllocError>
+where
+    R: Net<Listener = TcpListener, Stream = TcpStream> + Clock + Wait + Threads + Sync,
+{
+    let whole = source.left().len();
     let mut sink = MemSink::new(alloc, 4096, streams.write.max(1), &[streams.write_fails])?;
-    let reach_fails = streams.reach_fails;
     let status = status_of(
         rt,
         alloc,
         words,
-        &mut source,
+        source,
         &mut sink,
         answers,
-        reach_fails,
-    )?;
-    let left = left_of(source.left().len(), input.len());
-    shown(alloc, status, left, sink.sent())
+        streams.reach_fails,
+    );
+    let left = left_of(source.left().len(), whole);
+    let told = shown(alloc, status, left, sink.sent());
+    drop(sink);
+    told
 }
 
 // A run comes to what is due.
