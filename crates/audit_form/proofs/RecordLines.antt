@@ -6,7 +6,7 @@ use Rattle.policy_history.specs.declared.heads.Head.{Head}
 use Rattle.policy_history.specs.Events.{EntryTree, numbered}
 use Rattle.policy_history.specs.PolicyLines.{spaced}
 use Rattle.journal_text.specs.Inner.PolicyReading.{IsUnspaced}
-use Rattle.journal_text.proofs.PolicyCuts.{cut_same, name_unspaced, number_unspaced}
+use Rattle.journal_text.proofs.WordsForCallers.{cut_same, name_unspaced, number_unspaced}
 use Rattle.nal_term.specs.Names.{IsName}
 use Rattle.audit_form.specs.CallLines.{IsCallLine}
 use Rattle.audit_form.specs.declared.record_lines.Call.{Call}

@@ -14,7 +14,7 @@ use Rattle.audit_check.specs.declared.records.Recorded.{Recorded}
 use Rattle.audit_check.specs.declared.records.Recorded.TheVariants as recorded
 use Rattle.policy_history.specs.PolicyLines.{spaced}
 use Rattle.journal_text.specs.Inner.PolicyReading.{IsUnspaced}
-use Rattle.journal_text.proofs.PolicyCuts.{cut_same, number_unspaced}
+use Rattle.journal_text.proofs.WordsForCallers.{cut_same, number_unspaced}
 use Rattle.audit_form.specs.declared.verdict_texts.Word.{Word}
 use Rattle.audit_form.specs.declared.verdict_texts.Word.TheVariants.{Allowed, NoObject, Down, GoalUnset, NoProof, Line, LabelMissing, NotBound, AuthorityNo}
 use Rattle.audit_form.specs.Inner.Verdicts.{IsNumber, Tells, all_faults, fault_named, word_text}

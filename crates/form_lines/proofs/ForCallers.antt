@@ -1,5 +1,6 @@
 -- What a reader that goes line by line knows of the whole text.
-use Rattle.std.proofs.Common.{◌≡◌, ◌≢◌, ◌+◌, ℕ, List, [], refl, subst}
+use Rattle.std.proofs.Common.{◌≡◌, ◌≢◌, ◌==◌, ◌<◌, ◌+◌, ℕ, List, [], ◌∷◌, length, Bool, true, false, refl, sym, subst, ◌∙◌, arith}
+use Rattle.std.proofs.lemmas.Bool.Decides.{Decides-eqb}
 use Rattle.text_lines.specs.Lines.{first_line, after_line}
 use Rattle.form_lines.specs.Reading.{Leads, here, on, LeadsThrough}
 
@@ -47,3 +48,16 @@ module _ {Stage : Type 0} (Follows : Stage → List ℕ → Stage → Type 0) wh
   -- where nothing is left, the stage is the last one of whatever is read
   pub ends_here : (first stage : Stage) (text rest : List ℕ) → PassesThrough first text stage rest → rest ≡ [] → (last : Stage) → LeadsThrough Follows first text last → stage ≡ last
   ends_here first stage text rest through e last l = end_of (through last l).1 e
+
+-- ---- What the test for the end says of what is left
+
+pub some_left : (rest : List ℕ) (is_empty : Bool) → is_empty ≡ (length rest == 0) → is_empty ≡ false → rest ≡ [] → ⊥
+some_left rest is_empty e f q = let t = (Decides-eqb (length rest) 0).1 (rw q refl) in absurd (cc (e, f, t))
+
+pub none_left : (rest : List ℕ) (is_empty : Bool) → is_empty ≡ (length rest == 0) → is_empty ≡ true → rest ≡ []
+none_left [] is_empty e t = refl
+none_left (b ∷ rest) is_empty e t = let zero_long = (Decides-eqb (length (b ∷ rest)) 0).0 (sym e ∙ t) in absurd (omega (arith, zero_long))
+
+pub long_left : (rest : List ℕ) → (rest ≡ [] → ⊥) → 0 < length rest
+long_left [] some = absurd (some refl)
+long_left (b ∷ rest) some = omega arith

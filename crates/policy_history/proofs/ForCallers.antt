@@ -23,8 +23,8 @@ use Rattle.policy_history.proofs.LineBytes as bytes
 use Rattle.policy_history.proofs.RightLaw as right
 use Rattle.policy_history.proofs.Soundness as soundness
 use Rattle.policy_history.proofs.Staying as staying
--- objects and case numbers stay, a row is of one triple, and what an accepted entry leaves
-pub use Rattle.policy_history.proofs.Staying.{objects_stay, case_numbers_stay}
+-- objects and case numbers stay, a row is of one triple, and what an accepted entry leaves; what each accepted change keeps, all keep
+pub use Rattle.policy_history.proofs.Staying.{objects_stay, case_numbers_stay, kept_by_all}
 pub use Rattle.policy_history.proofs.Changed.{same_triple}
 pub use Rattle.policy_history.proofs.Soundness.{accepted_after, replay_accepted}
 -- the beginnings of a legal list

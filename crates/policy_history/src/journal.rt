@@ -1,5 +1,5 @@
 //! The journal: every accepted change, and the state that these lead to.
-ghost use Rattle.std.specs.Prelude.{◌≡◌, ◌<◌, ◌≤◌, ◌+◌, ◌-◌, ◌++◌, ◌∷◌, [], ℕ, length, IfOk, IfSome, IsOk, OnOk, OnErr, Some, None, option_map, slice_get};
+ghost use Rattle.std.specs.Prelude.{◌≡◌, ◌<◌, ◌≤◌, ◌+◌, ◌-◌, ◌++◌, ◌∷◌, [], ℕ, length, IfOk, IfSome, IsOk, OnOk, OnErr, Some, None, map, option_map, slice_get};
 ghost use Rattle.std.specs.Option.{option_copied};
 ghost use Rattle.nal_term.specs.Trees.{formula_tree};
 ghost use Rattle.object_table.specs.Objects.{number_of};
@@ -14,6 +14,7 @@ use crate::copies::Copies;
 use crate::events::{Due, Entry, Event, Found, Refusal};
 use crate::heads::Head;
 use crate::tables::Policy;
+use label_store::LabelsOf;
 use nal_term::{Formula, Name, Secret};
 use std::alloc::{AllocError, Global};
 use std::marker::Model;
@@ -232,5 +233,12 @@ impl Journal {
         ensures value { 0 < k → option_map formula_tree (option_copied result) ≡ slice_get (labels_of (state_after self.now).labels holder) (k - 1) }
     {
         self.policy.labels.label(holder, k)
+    }
+
+    /// The labels of this principal, one after another, in the order in which they were said. It takes no memory.
+    pub fn labels(&self, holder: u32) -> LabelsOf<'_>
+        ensures { map formula_tree result ≡ labels_of (state_after self.now).labels holder }
+    {
+        self.policy.labels.labels(holder)
     }
 }

@@ -1,0 +1,2 @@
+-- Words of the reader.
+pub mod Errors
