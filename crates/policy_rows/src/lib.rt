@@ -1,4 +1,4 @@
-//! The policy: journals, request lines, texts and the machine of the cache, with answers worked out by hand. It has tests alone.
+//! The policy: journals, request lines, texts, bundles of labels and the machine of the cache, with answers worked out by hand. It has tests alone.
 //!
 //! Tables are texts. A table has parts, with an empty line between; each has a title, and then rows. A row stands on one line: what
 //! is tried, an arrow, and what it comes to; a bar stands for a line feed. One driver for each kind of call gives what is tried as
@@ -11,6 +11,8 @@ mod cut_texts;
 mod journals;
 #[cfg(test)]
 mod machines;
+#[cfg(test)]
+mod peers;
 #[cfg(test)]
 mod policies;
 #[cfg(test)]

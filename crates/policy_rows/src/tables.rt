@@ -1,5 +1,5 @@
 //! The loop over a table of texts.
-use crate::{cut_texts, journals, machines, policies, replies, request_lines};
+use crate::{cut_texts, journals, machines, peers, policies, replies, request_lines};
 use std::alloc::{AllocError, Global};
 use std::process::Abort;
 use text_lines::read_number;
@@ -13,6 +13,9 @@ fn told(alloc: Global, call: &str, input: &str) -> Result<String, AllocError> {
         "read head" => policies::read_head(alloc, input),
         "recover" => cut_texts::recovered_twice(alloc, input.as_bytes()),
         "recover letters" => cut_texts::recovered(alloc, &letters(alloc, input)?),
+        "bundle" => peers::read(alloc, input.as_bytes()),
+        "bundle letters" => peers::read(alloc, &letters(alloc, input)?),
+        "carry" => peers::carried(alloc, input),
         "policy line" => policies::line_of(alloc, input),
         "form" => String::from_str(alloc, request_lines::form_read(alloc, input.as_bytes())),
         "long form" => request_lines::long_form(alloc, input),

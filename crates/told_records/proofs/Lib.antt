@@ -3,3 +3,7 @@ pub mod Calls
 pub mod Turns
 pub mod Along
 pub mod Alone
+mod Spelled
+mod Peers
+mod PeersBeside
+mod PeersAlone

@@ -1,1 +1,2 @@
 pub mod ToldRecords
+pub mod PeerSessions

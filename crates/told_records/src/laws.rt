@@ -1,4 +1,5 @@
-//! The law between the service and the auditor.
+//! The laws between the service and the auditor, and between the service and peers.
+ghost use Rattle.told_records.specs.PeerSessions.{LonePeersSayLabels, PeersSayLabels};
 ghost use Rattle.told_records.specs.ToldRecords.{AloneIsRight, RepliesAreRight, ToldIsRight};
 
 /// Each reply of a call that a session is told makes a record that is right over the whole history: with the answers that
@@ -8,4 +9,12 @@ pub fn replies_make_right_records()
     ensures reply { RepliesAreRight }
     ensures session { ToldIsRight }
     ensures alone { AloneIsRight }
+{}
+
+/// Where a peer sends the requests of a bundle to a service, each entry that comes of it is that by which the peer says a label of the
+/// bundle, in order, each place of the bundle once at most: in a session beside others, and in one that is alone. The call does nothing.
+/// `docs/LOGIC.md`, "Peers".
+pub fn peers_say_their_labels()
+    ensures session { PeersSayLabels }
+    ensures alone { LonePeersSayLabels }
 {}

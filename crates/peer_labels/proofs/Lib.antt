@@ -1,0 +1,4 @@
+mod Following
+mod HeldLabels
+mod LabelLines
+mod Saying

@@ -1,0 +1,4 @@
+pub mod Bundles
+pub mod Carrying
+pub mod Requests
+pub mod Inner
