@@ -4,16 +4,20 @@ ghost use Rattle.std.specs.Prelude.{◌≤◌};
 ghost use Rattle.nx_io.specs.MemoryDoors.{IsFreshWire};
 
 use journal_text::LineError;
-use nexus_client::{RequestsError, TalkEnd, read_requests, request_of_line, talk};
+use nexus_client::{RequestsError, TalkEnd, TalkInput, read_input, request_of_line, talk};
 use nx_io::{MemDoor, MemLink, MemSink};
 use std::alloc::{AllocError, Global};
 use std::net::{Net, TcpListener, TcpStream};
 use std::rt::Clock;
 use std::test::Fail;
 
-// The lines of requests, their frames, the replies to them, and the lines of the replies.
+// How many bytes an input has at most.
+const MOST_BYTES: usize = 67_108_864;
+
+// An input and its kind, the frames of its requests, the replies to them, and the lines of the replies.
 #[derive(Clone, Copy)]
 struct Play {
+    kind: TalkInput,
     input: &'static [u8],
     frames: &'static [u8],
     replies: &'static [u8],
@@ -21,6 +25,7 @@ struct Play {
 }
 
 const GREETING: Play = Play {
+    kind: TalkInput::RequestLines,
     input: b"hello bob pw",
     frames: b"\0\0\0\x0a\x01\0\x03bob\0\x02pw",
     replies: b"\0\0\0\x11\x41\0\0\0\0\0\0\0\x01\0\0\0\0\0\0\0\0",
@@ -29,6 +34,7 @@ const GREETING: Play = Play {
 
 // A greeting, a change and a call, and a byte more that nobody asked for.
 const SESSION: Play = Play {
+    kind: TalkInput::RequestLines,
     input: b"hello bob pw\nobject f\ncall read f 7\n",
     frames: b"\0\0\0\x0a\x01\0\x03bob\0\x02pw\0\0\0\x04\x05\0\x01f\0\0\0\x12\x0c\0\x04read\0\x01f\0\0\0\0\0\0\0\x07",
     replies: b"\0\0\0\x11\x41\0\0\0\0\0\0\0\x01\0\0\0\0\0\0\0\0\0\0\0\x11\x42\0\0\0\0\0\0\0\x01\0\0\0\0\0\0\0\0\
@@ -37,10 +43,20 @@ const SESSION: Play = Play {
 };
 
 const NOTHING: Play = Play {
+    kind: TalkInput::RequestLines,
     input: b"",
     frames: b"",
     replies: b"",
     lines: b"",
+};
+
+// A peer says the one label of a bundle.
+const IMPORT: Play = Play {
+    kind: TalkInput::PeerBundle,
+    input: b"peer siteA pw\nnexus bundle 1\nlabel alice says  ok\nend\n",
+    frames: b"\0\0\0\x0c\x01\0\x05siteA\0\x02pw\0\0\0\x17\x02\0\x05siteA\0\x0dalice says ok",
+    replies: b"\0\0\0\x11\x41\0\0\0\0\0\0\0\x01\0\0\0\0\0\0\0\0\0\0\0\x11\x42\0\0\0\0\0\0\0\x01\0\0\0\0\0\0\0\x01",
+    lines: b"welcome 1 0\ndone 1 1\n",
 };
 
 // The second reply has the kind of a request, and a length that the first reply has.
@@ -137,7 +153,10 @@ fn play_over<R>(
 where
     R: Net<Listener = TcpListener, Stream = TcpStream> + Clock,
 {
-    let Ok(requests) = read_requests(alloc, play.input) else {
+    if play.input.len() > MOST_BYTES {
+        return Err(AllocError);
+    }
+    let Ok(requests) = read_input(alloc, play.kind, play.input) else {
         return Err(AllocError);
     };
     let come = &play.replies[..devices.cut.min(play.replies.len())];
@@ -167,6 +186,7 @@ fn talks_end_where_their_requests_and_replies_do(rt: HostRuntime) -> Result<(), 
         (GREETING, ends(TalkEnd::Done, 14, 12, 0)),
         (SESSION, ends(TalkEnd::Done, 44, 50, 1)),
         (NOTHING, ends(TalkEnd::Done, 0, 0, 0)),
+        (IMPORT, ends(TalkEnd::Done, 43, 21, 0)),
         (NO_REPLY, ends(TalkEnd::Ended, 22, 12, 16)),
         (NO_LENGTH, ends(TalkEnd::Ended, 14, 0, 17)),
     ];
@@ -269,8 +289,8 @@ fn a_send_or_a_write_that_fails_ends_the_talk(rt: HostRuntime) -> Result<(), Fai
     Ok(())
 }
 
-// Inputs, and how many requests are read of each, or the line that is wrong.
-const INPUTS: [(&[u8], Result<usize, u64>); 9] = [
+// Inputs of request lines, and how many requests are read of each, or the line that is wrong.
+const LINES: [(&[u8], Result<usize, u64>); 9] = [
     (b"", Ok(0)),
     (b"\n", Err(1)),
     (b"object f", Ok(1)),
@@ -282,15 +302,45 @@ const INPUTS: [(&[u8], Result<usize, u64>); 9] = [
     (b"object f\nobject g\n1 object h", Err(3)),
 ];
 
+// The same of a peer and a bundle.
+const IMPORTS: [(&[u8], Result<usize, u64>); 8] = [
+    (
+        b"peer siteA pw\nnexus bundle 1\nlabel a says p\nlabel a says q\nend",
+        Ok(3),
+    ),
+    (b"peer siteA pw\nnexus bundle 1\nend\n", Ok(1)),
+    (b"", Err(1)),
+    (b"peer siteA\nnexus bundle 1\nend\n", Err(1)),
+    (b"peer not pw\nnexus bundle 1\nend\n", Err(1)),
+    (b"peer siteA pw", Err(2)),
+    (b"peer siteA pw\nnexus bundle 1\nlabel ok\nend\n", Err(3)),
+    (b"peer siteA pw\nnexus bundle 1\nlabel a says p\n", Err(4)),
+];
+
+fn requests_in(alloc: Global, kind: TalkInput, input: &[u8]) -> Result<usize, u64> {
+    if input.len() > MOST_BYTES {
+        return Err(0);
+    }
+    match read_input(alloc, kind, input) {
+        Ok(requests) => Ok(requests.as_slice().len()),
+        Err(RequestsError::Wrong { line }) => Err(line),
+        Err(RequestsError::Memory) => Err(0),
+    }
+}
+
 #[test]
-fn each_line_of_an_input_is_that_of_a_request(rt: HostRuntime) {
-    for (input, wanted) in INPUTS {
-        let read = match read_requests(rt.alloc(), input) {
-            Ok(requests) => Ok(requests.as_slice().len()),
-            Err(RequestsError::Wrong { line }) => Err(line),
-            Err(RequestsError::Memory) => Err(0),
-        };
-        assert_eq!(rt; read, wanted);
+fn each_input_is_read_or_its_wrong_line_told(rt: HostRuntime) {
+    for (input, wanted) in LINES {
+        assert_eq!(rt;
+            requests_in(rt.alloc(), TalkInput::RequestLines, input),
+            wanted
+        );
+    }
+    for (input, wanted) in IMPORTS {
+        assert_eq!(rt;
+            requests_in(rt.alloc(), TalkInput::PeerBundle, input),
+            wanted
+        );
     }
 }
 

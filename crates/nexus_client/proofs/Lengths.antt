@@ -1,5 +1,9 @@
 -- The frame of a request is hardly longer than its line.
-use Rattle.std.proofs.Common.{◌≡◌, ◌≤◌, ◌+◌, ℕ, List, length, ap, ◌∙◌, arith, length-append}
+use Rattle.std.specs.Prelude.{nat_le, ◌&&◌}
+use Rattle.std.specs.List.{list_all}
+use Rattle.std.proofs.Common.{◌≡◌, ◌≤◌, ◌+◌, ℕ, Bool, true, false, List, length, refl, ap, ◌∙◌, arith, length-append}
+use Rattle.nal_term.specs.Names.{IsName, is_word}
+use Rattle.nal_term.specs.Secrets.{IsSecret, is_secret_byte}
 use Rattle.byteorder.specs.Endian.{big_bytes}
 use Rattle.byteorder.specs.Numbers.{length-bytes_high_first}
 use Rattle.session_wire.specs.declared.requests.Request.{Request}
@@ -35,3 +39,23 @@ pub payload_fits : (line : List ℕ) (q : Request) → IsRequestLine line q → 
 payload_fits line q h =
     let most = payload_of_text q in
     omega (arith, h.0, ap length h.1.1, most)
+
+within : (n m : ℕ) → nat_le n m ≡ true → n ≤ m
+within n m h = grind arith
+
+both : (b c : Bool) → (b && c) ≡ true → (b ≡ true) × (c ≡ true)
+both true c e = (refl, e)
+both false c e = absurd (cc e)
+
+pub name_short : (x : List ℕ) → IsName x → length x ≤ 64
+name_short x is = within (length x) 64 (both (is_word x) _ (both (is_word x && nat_le (length x) 64) _ is).0).1
+
+secret_short : (x : List ℕ) → IsSecret x → length x ≤ 64
+secret_short x is = within (length x) 64 (both (list_all is_secret_byte x && nat_le 1 (length x)) _ is).1
+
+-- the requests by which a peer opens a session and says a label have frames
+pub hello_fits : (name secret : List ℕ) → IsName name → IsSecret secret → length (request_payload (Hello name secret)) ≤ most_payload
+hello_fits name secret n s = let short = name_short name n in let short_too = secret_short secret s in omega (arith, length-append {A = ℕ}, length-text, short, short_too)
+
+pub say_fits : (peer formula : List ℕ) → length peer ≤ 64 → length formula ≤ 1024 → length (request_payload (Say peer formula)) ≤ most_payload
+say_fits peer formula short fits = omega (arith, length-append {A = ℕ}, length-text, short, fits)

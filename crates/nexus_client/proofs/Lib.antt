@@ -1,4 +1,5 @@
 pub mod Lengths
+pub mod Peers
 pub mod Reading
 pub mod Talking
 pub mod TalkLaws

@@ -1,6 +1,5 @@
 -- How request lines are read one by one.
-use Rattle.std.proofs.Common.{◌≡◌, ◌<◌, ◌==◌, Bool, true, false, ℕ, List, [], ◌∷◌, ◌++◌, length, refl, sym, ap, ◌∙◌, arith}
-use Rattle.std.proofs.lemmas.Bool.Decides.{Decides-eqb}
+use Rattle.std.proofs.Common.{◌≡◌, ℕ, List, [], ◌∷◌, ◌++◌, refl, sym, ap, ◌∙◌}
 use Rattle.session_wire.specs.declared.requests.Request.{Request}
 use Rattle.session_wire.specs.Frames.{request_frame}
 use Rattle.journal_text.specs.RequestLines.{IsRequestLine}
@@ -21,15 +20,3 @@ follows_only frames line frame next only f =
 -- a line that is that of no request leads nowhere
 pub follows_none : (frames : List (List ℕ)) (line : List ℕ) (next : List (List ℕ)) → ((q : Request) → IsRequestLine line q → ⊥) → Follows frames line next → ⊥
 follows_none frames line next none f = none f.is_frame.request f.is_frame.is_line
-
--- what is left is empty exactly where the test says so
-pub some_left : (rest : List ℕ) (is_empty : Bool) → is_empty ≡ (length rest == 0) → is_empty ≡ false → rest ≡ [] → ⊥
-some_left rest is_empty e f q = let t = (Decides-eqb (length rest) 0).1 (rw q refl) in absurd (cc (e, f, t))
-
-pub none_left : (rest : List ℕ) (is_empty : Bool) → is_empty ≡ (length rest == 0) → is_empty ≡ true → rest ≡ []
-none_left [] is_empty e t = refl
-none_left (b ∷ rest) is_empty e t = let zero_long = (Decides-eqb (length (b ∷ rest)) 0).0 (sym e ∙ t) in absurd (omega (arith, zero_long))
-
-pub long_left : (rest : List ℕ) → (rest ≡ [] → ⊥) → 0 < length rest
-long_left [] some = absurd (some refl)
-long_left (b ∷ rest) some = omega arith

@@ -1,14 +1,15 @@
 //! The requests that an input asks for, line by line.
-ghost use Rattle.std.specs.Prelude.{◌≡◌, ◌≢◌, ◌++◌, ◌∷◌, [], IfErr, IfOk, List, OnErr, OnOk, length, ℕ};
+ghost use Rattle.std.specs.Prelude.{◌≡◌, ◌≢◌, ◌<◌, ◌^◌, ◌++◌, ◌∷◌, [], IfErr, IfOk, List, OnErr, OnOk, length, ℕ};
 ghost use Rattle.nexus_client.specs.LineFrames.{AreFramesOfLines};
 ghost use Rattle.nexus_client.specs.Inner.Reading.{IsWrongInput};
 
 use crate::line_frames::request_of_line;
+use form_lines as line;
+use form_lines::{FormError, Progress, read_lines};
 use journal_text::LineError;
 use nx_io::Bytes;
 use std::alloc::{AllocError, Global};
 use std::marker::Model;
-use text_lines::first_line;
 
 /// Requests in their order, each as its frame. Contracts see the list of the frames.
 #[derive(Drop)]
@@ -62,30 +63,49 @@ pub enum RequestsError {
     Memory,
 }
 
+impl Progress for Requests {
+    ghost use Rattle.std.specs.Prelude.{List, ℕ};
+    ghost use Rattle.nexus_client.specs.LineFrames.{Follows, MayEnd};
+
+    ghost Stage = { List (List ℕ) };
+
+    ghost stage = { λ requests. requests };
+
+    ghost follows = { Follows };
+
+    ghost is_end = { MayEnd };
+
+    fn after(self, alloc: Global, line: &[u8]) -> Result<Requests, line::LineError> {
+        let mut requests = self;
+        let frame = match request_of_line(alloc, line) {
+            Ok(frame) => frame,
+            Err(LineError::Bad) => return Err(line::LineError::Wrong),
+            Err(LineError::Memory) => return Err(line::LineError::Memory),
+        };
+        match requests.push(frame) {
+            Ok(()) => Ok(requests),
+            Err(_) => Err(line::LineError::Memory),
+        }
+    }
+
+    fn is_ended(&self) -> bool {
+        true
+    }
+}
+
 /// Reads the lines of requests to the end of the text; the last one may lack its line feed, and a text without lines asks for
 /// nothing. Ok exactly where each line is that of a request, with their frames in order; `Wrong` exactly where one is not.
 /// `docs/FORMATS.md`, "Request lines", states the lines.
 pub fn read_requests(alloc: Global, text: &[u8]) -> Result<Requests, RequestsError>
+    requires { length text.now < 2 ^ 63 }
     ensures ok { IfOk result (AreFramesOfLines text.now) }
     ensures only { IfOk result (λ requests. (others : List (List ℕ)) → AreFramesOfLines text.now others → others ≡ requests) }
     ensures wrong { IfErr result (IsWrongInput text.now) }
     ensures refused { IfErr result (λ e. e ≢ RequestsError.Memory → (others : List (List ℕ)) → ¬ AreFramesOfLines text.now others) }
 {
-    let mut requests = Requests::new(alloc);
-    let mut rest = text;
-    let mut lines = 0u64;
-    while !rest.is_empty() {
-        let (line, after) = first_line(rest);
-        lines += 1;
-        let frame = match request_of_line(alloc, line) {
-            Ok(frame) => frame,
-            Err(LineError::Bad) => return Err(RequestsError::Wrong { line: lines }),
-            Err(LineError::Memory) => return Err(RequestsError::Memory),
-        };
-        let Ok(()) = requests.push(frame) else {
-            return Err(RequestsError::Memory);
-        };
-        rest = after;
+    match read_lines(alloc, Requests::new(alloc), text) {
+        Ok(requests) => Ok(requests),
+        Err(FormError::Wrong { line }) => Err(RequestsError::Wrong { line }),
+        Err(FormError::Memory) => Err(RequestsError::Memory),
     }
-    Ok(requests)
 }

@@ -10,8 +10,9 @@ use Rattle.nexus_client.specs.declared.ends.TalkEnd.{TalkEnd}
 use Rattle.nexus_client.specs.declared.ends.TalkEnd.TheVariants.{Done, Unreached, Broken, Ended, Unwritten, Memory}
 use Rattle.nexus_client.specs.declared.requests.RequestsError.{RequestsError}
 use Rattle.nexus_client.specs.declared.requests.RequestsError.TheVariants.{Wrong, Memory as NoRoom}
-use Rattle.nexus_client.specs.Inner.Reading.{IsWrongInput}
-use Rattle.nexus_client.specs.LineFrames.{AreFramesOfLines}
+use Rattle.nexus_client.specs.declared.inputs.TalkInput.{TalkInput}
+use Rattle.nexus_client.specs.Inner.Reading.{IsWrongInputOf}
+use Rattle.nexus_client.specs.TalkInputs.{AreFramesOf}
 use Rattle.nx_io.specs.Doors.{KeepsLinks}
 use Rattle.nexus_client.specs.TalkLaws.{IsInOrder}
 use Rattle.nexus_client.specs.Talks.{door_faults_after, link_faults_after, sink_faults_after, Talks, done, answered, unsent, untaken, cut_off, no_reply, unwritten, no_memory as no_room}
@@ -24,25 +25,25 @@ use Rattle.run_streams.specs.Telling.{Tells, whole, part, nothing}
 use Rattle.service_commands.specs.Clients.{AreRequestsOf, EndsClient, IsCompleteClient, RunsClient, client_status, no_memory, refusal_cut_off, refused, requests_form, source_failed, talked, unreached}
 
 -- an input in its form, as the source gave it
-pub requests_given : (source : SourceRun) (left_now : Option (List ℕ)) (frames : List (List ℕ)) (bytes : List ℕ) → source.known ≡ prepended source.given left_now → source.given ≡ bytes
-    → IsTrue source.over → IsAtEnd left_now → length bytes ≤ most_bytes → AreFramesOfLines bytes frames → AreRequestsOf source frames
-requests_given source left_now frames bytes taken same over end few form = record {
+pub requests_given : (input : TalkInput) (source : SourceRun) (left_now : Option (List ℕ)) (frames : List (List ℕ)) (bytes : List ℕ) → source.known ≡ prepended source.given left_now → source.given ≡ bytes
+    → IsTrue source.over → IsAtEnd left_now → length bytes ≤ most_bytes → AreFramesOf input bytes frames → AreRequestsOf input source frames
+requests_given input source left_now frames bytes taken same over end few form = record {
   small = subst (λ (b : List ℕ). length b ≤ most_bytes) (sym same) few;
-  form = subst (λ (b : List ℕ). AreFramesOfLines b frames) (sym same) form;
+  form = subst (λ (b : List ℕ). AreFramesOf input b frames) (sym same) form;
   whole = read_whole source left_now taken over end;
 }
 
 -- a text in which a line is wrong is refused
-pub wrong_requests : {text : List ℕ} {error : RequestsError} {k : ℕ} → error ≡ Wrong k → length text ≤ most_bytes → IsWrongInput text error
-    → (error ≢ NoRoom → (frames : List (List ℕ)) → ¬ AreFramesOfLines text frames) → IsRefusal requests_form text (Refused k)
-wrong_requests {text = text} {k = k} e small w no_form = (small, subst (IsWrongInput text) e w, λ has. no_form (λ m. cc (sym e ∙ m)) has.0 has.1)
+pub wrong_requests : (input : TalkInput) (text : List ℕ) (error : RequestsError) (k : ℕ) → error ≡ Wrong k → length text ≤ most_bytes → IsWrongInputOf input text error
+    → (error ≢ NoRoom → (frames : List (List ℕ)) → ¬ AreFramesOf input text frames) → IsRefusal (requests_form input) text (Refused k)
+wrong_requests input text error k e small w no_form = (small, subst (IsWrongInputOf input text) e w, λ has. no_form (λ m. cc (sym e ∙ m)) has.0 has.1)
 
-module _ {address : List ℕ} {source : SourceRun} {door : DoorView} {status : ℕ} where
+module _ {input : TalkInput} {address : List ℕ} {source : SourceRun} {door : DoorView} {status : ℕ} where
   -- a refusal that was told ends the run
-  pub refusal_ends : (outcome : Outcome) (before now : List ℕ) (u v : ℕ) → IsRefusalOf requests_form source outcome → source.faults_now ≡ source.faults → Tells outcome before now u v status
-      → EndsClient address source (record { sent = gained before now; faults = u; faults_now = v }) door door None status
+  pub refusal_ends : (outcome : Outcome) (before now : List ℕ) (u v : ℕ) → IsRefusalOf (requests_form input) source outcome → source.faults_now ≡ source.faults → Tells outcome before now u v status
+      → EndsClient input address source (record { sent = gained before now; faults = u; faults_now = v }) door door None status
   refusal_ends outcome before now u v r still (whole e w f) =
-      refused outcome refl (e ∙ refusal_status requests_form source.given outcome r.refusal) r refl (gained-by before now (output_of outcome) w) still f
+      refused outcome refl (e ∙ refusal_status (requests_form input) source.given outcome r.refusal) r refl (gained-by before now (output_of outcome) w) still f
   refusal_ends outcome before now u v r still (part e w f) = refusal_cut_off outcome refl e r refl (w.0, w.1, gained-by before now _ w.2) still f
   refusal_ends outcome before now u v r still (nothing e w f) = no_memory refl e refl (rw w (gained-nothing before)) still f
 
@@ -66,13 +67,13 @@ unreached_failed {status = status} s is (inl e) = apart status 7 4 (s ∙ ap cli
 unreached_failed {status = status} s is (inr e) = apart status 7 6 (s ∙ ap client_status is) e refl
 
 -- what a talk left ends the run
-pub talk_ends : {L : Type 0} (view : L → LinkView) {address : List ℕ} {source : SourceRun} {sink : SinkRun} {door door_now : DoorView} (frames : List (List ℕ)) (dialed : Option L) (end : TalkEnd)
-    (status : ℕ) → AreRequestsOf source frames → source.faults_now ≡ source.faults → status ≡ client_status end → (dialed ≡ None) ↔ (end ≡ Unreached) → (dialed ≡ None → sink.sent ≡ [])
+pub talk_ends : {L : Type 0} (view : L → LinkView) {input : TalkInput} {address : List ℕ} {source : SourceRun} {sink : SinkRun} {door door_now : DoorView} (frames : List (List ℕ)) (dialed : Option L) (end : TalkEnd)
+    (status : ℕ) → AreRequestsOf input source frames → source.faults_now ≡ source.faults → status ≡ client_status end → (dialed ≡ None) ↔ (end ≡ Unreached) → (dialed ≡ None → sink.sent ≡ [])
     → IfSome dialed (λ link. Talks frames (view link).sent (view link).taken sink.sent (view link).over end)
     → IfSome dialed (λ link. IsInOrder frames (view link).sent (view link).taken sink.sent (view link).over end) → IfSome dialed (λ link. (view link).closed ≡ true)
     → IfSome dialed (λ link. (view link).toward ≡ Some address) → IfSome dialed (λ link. (view link).place ≡ 0) → IfSome dialed (λ link. MayRise (link_faults_after end 0) (view link).faults)
     → sink.faults_now ≡ sink_faults_after end sink.faults → KeepsLinks door.links door_now.links door.over door_now.over door.gave door_now.gave → door_now.listened ≡ door.listened
-    → door_now.faults ≡ door_faults_after end door.faults → EndsClient address source sink door door_now (option_map view dialed) status
+    → door_now.faults ≡ door_faults_after end door.faults → EndsClient input address source sink door door_now (option_map view dialed) status
 talk_ends view {sink = sink} {door = door} {door_now = door_now} frames None end status are still s u silent talks ordered closed toward place count sank links listened failed =
     let is = u.0 refl in
     unreached frames refl (s ∙ ap client_status is) are
@@ -108,8 +109,8 @@ never_three Unreached e = apart (client_status Unreached) 7 3 refl e refl
 never_three Broken e = apart (client_status Broken) 7 3 refl e refl
 never_three Ended e = apart (client_status Ended) 9 3 refl e refl
 
-module _ {address : List ℕ} {source : SourceRun} {sink : SinkRun} {door door_now : DoorView} {dialed : Option LinkView} {status : ℕ} where
-  complete_client : EndsClient address source sink door door_now dialed status → IsCompleteClient address source sink door door_now dialed status
+module _ {input : TalkInput} {address : List ℕ} {source : SourceRun} {sink : SinkRun} {door door_now : DoorView} {dialed : Option LinkView} {status : ℕ} where
+  complete_client : EndsClient input address source sink door door_now dialed status → IsCompleteClient input address source sink door door_now dialed status
   complete_client (talked frames link Done d s are talk kept still) = λ p q r t form. inr (inl (frames, link, d, are, talk, s))
   complete_client (talked frames link Ended d s are talk kept still) = λ p q r t form. inr (inr (frames, link, d, are, talk, s))
   complete_client (talked frames link Memory d s are talk kept still) = λ p q r t form. inl s
@@ -117,21 +118,21 @@ module _ {address : List ℕ} {source : SourceRun} {sink : SinkRun} {door door_n
   complete_client (talked frames link Broken d s are talk kept still) = λ p q r t form. absurd (has_failed link.faults talk.link_count (t link d))
   complete_client (talked frames link Unreached d s are talk kept still) = λ p q r t form. absurd (never_unreached talk.talks refl)
   complete_client (unreached frames d s are refused_it sent f g) = λ p q r t form. absurd (r (rw refused_it.faults (omega arith)))
-  complete_client (refused outcome d s is kept sent f g) = λ p q r t form. absurd (form (refused_by requests_form source.given outcome is.refusal))
+  complete_client (refused outcome d s is kept sent f g) = λ p q r t form. absurd (form (refused_by (requests_form input) source.given outcome is.refusal))
   complete_client (refusal_cut_off outcome d s is kept cut f g) = λ p q r t form. absurd (q (rw g (omega arith)))
   complete_client (source_failed d s kept sent f g) = λ p q r t form. absurd (p (rw f (omega arith)))
   complete_client (no_memory d s kept sent f g) = λ p q r t form. inl s
 
-  refuses_client : EndsClient address source sink door door_now dialed status → RefusesExactly requests_form source status
+  refuses_client : EndsClient input address source sink door door_now dialed status → RefusesExactly (requests_form input) source status
   refuses_client (talked frames link end d s are talk kept still) = λ x y z.
-      ((λ h. absurd (never_three end (sym s ∙ h))), λ r. absurd (not_refused requests_form source.given are.small (frames, are.form) r))
+      ((λ h. absurd (never_three end (sym s ∙ h))), λ r. absurd (not_refused (requests_form input) source.given are.small (frames, are.form) r))
   refuses_client (unreached frames d s are refused_it sent f g) = λ x y z.
-      ((λ h. absurd (apart status 7 3 s h refl)), λ r. absurd (not_refused requests_form source.given are.small (frames, are.form) r))
-  refuses_client (refused outcome d s is kept sent f g) = λ x y z. ((λ h. refused_by requests_form source.given outcome is.refusal), λ h. s)
+      ((λ h. absurd (apart status 7 3 s h refl)), λ r. absurd (not_refused (requests_form input) source.given are.small (frames, are.form) r))
+  refuses_client (refused outcome d s is kept sent f g) = λ x y z. ((λ h. refused_by (requests_form input) source.given outcome is.refusal), λ h. s)
   refuses_client (refusal_cut_off outcome d s is kept cut f g) = λ x y z. absurd (y s)
   refuses_client (source_failed d s kept sent f g) = λ x y z. absurd (x s)
   refuses_client (no_memory d s kept sent f g) = λ x y z. absurd (z s)
 
   -- what ends a run of `client` is a run of `client`
-  pub runs_client : EndsClient address source sink door door_now dialed status → RunsClient address source sink door door_now dialed status
+  pub runs_client : EndsClient input address source sink door door_now dialed status → RunsClient input address source sink door door_now dialed status
   runs_client e = record { ends = e; complete = complete_client e; refuses = refuses_client e }

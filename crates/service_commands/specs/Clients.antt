@@ -1,10 +1,11 @@
--- How a run of `client` ends: the status, what the source gave, the link that was dialed, and what was written.
+-- How a run of `client` or `import` ends: the status, what the source gave, the link that was dialed, and what was written.
 use Rattle.std.specs.Prelude.{◌≡◌, ◌⊎◌, ◌≤◌, ℕ, List, [], length, true, Option, Some, None}
 use Rattle.nx_io.specs.Doors.{KeepsLinks}
 use Rattle.nx_io.specs.Streams.{MayRise, Rose, one_more}
 use Rattle.nexus_client.specs.declared.ends.TalkEnd.{TalkEnd}
 use Rattle.nexus_client.specs.declared.ends.TalkEnd.TheVariants.{Done, Unreached, Broken, Ended, Unwritten, Memory}
-use Rattle.nexus_client.specs.LineFrames.{AreFramesOfLines, IsWrongLine}
+use Rattle.nexus_client.specs.declared.inputs.TalkInput.{TalkInput}
+use Rattle.nexus_client.specs.TalkInputs.{AreFramesOf, IsWrongLineOf}
 use Rattle.nexus_client.specs.TalkLaws.{IsInOrder}
 use Rattle.nexus_client.specs.Talks.{Talks, link_faults_after, sink_faults_after}
 use Rattle.nexus_serve.specs.Views.{DoorView, LinkView}
@@ -13,14 +14,14 @@ use Rattle.run_streams.specs.declared.outcomes.Outcome.{Outcome}
 use Rattle.run_streams.specs.Outcomes.{output_of}
 use Rattle.run_streams.specs.Refusals.{Form, IsRefusalOf, IsRefusedInput, RefusesExactly, form_of}
 
--- the form of the inputs of `client`: lines of requests
-abbrev pub requests_form : Form
-requests_form = form_of (λ text. (frames : List (List ℕ)) × AreFramesOfLines text frames) IsWrongLine
+-- the form of the inputs of a talk: lines of requests, or a peer and a bundle
+abbrev pub requests_form : TalkInput → Form
+requests_form input = form_of (λ text. (frames : List (List ℕ)) × AreFramesOf input text frames) (IsWrongLineOf input)
 
--- the input is the lines of the requests with these frames
-pub record AreRequestsOf (source : SourceRun) (frames : List (List ℕ)) : Type 0 where
+-- the input asks for the requests with these frames
+pub record AreRequestsOf (input : TalkInput) (source : SourceRun) (frames : List (List ℕ)) : Type 0 where
   pub small : length source.given ≤ most_bytes
-  pub form : AreFramesOfLines source.given frames
+  pub form : AreFramesOf input source.given frames
   pub whole : IsReadWhole source
 
 -- the status of a talk that ended so
@@ -55,37 +56,37 @@ pub record HasRefused (door door_now : DoorView) : Type 0 where
   pub listened : door_now.listened ≡ door.listened
   pub faults : door_now.faults ≡ one_more door.faults
 
--- `client` ends with this status: the requests were read, and a talk over a link to the address ended; or no link could be dialed; or a refusal is written, or a
+-- A talk that is asked for by such an input ends with this status: the requests were read, and a talk over a link to the address ended; or no link could be dialed; or a refusal is written, or a
 -- proper part of it; or the source failed; or there was no memory for the input. Where no link was dialed nothing else is written.
-pub data EndsClient (address : List ℕ) (source : SourceRun) (sink : SinkRun) (door door_now : DoorView) (dialed : Option LinkView) (status : ℕ) : Type 0 where
-  talked : (frames : List (List ℕ)) (link : LinkView) (end : TalkEnd) → dialed ≡ Some link → status ≡ client_status end → AreRequestsOf source frames
-      → HasTalked address frames sink link end → IsKept door door_now → source.faults_now ≡ source.faults → EndsClient address source sink door door_now dialed status
-  unreached : (frames : List (List ℕ)) → dialed ≡ None → status ≡ 7 → AreRequestsOf source frames → HasRefused door door_now → sink.sent ≡ []
-      → source.faults_now ≡ source.faults → sink.faults_now ≡ sink.faults → EndsClient address source sink door door_now dialed status
-  refused : (outcome : Outcome) → dialed ≡ None → status ≡ 3 → IsRefusalOf requests_form source outcome → door_now ≡ door → sink.sent ≡ output_of outcome
-      → source.faults_now ≡ source.faults → sink.faults_now ≡ sink.faults → EndsClient address source sink door door_now dialed status
-  refusal_cut_off : (outcome : Outcome) → dialed ≡ None → status ≡ 5 → IsRefusalOf requests_form source outcome → door_now ≡ door → IsProperPart sink.sent (output_of outcome)
-      → source.faults_now ≡ source.faults → sink.faults_now ≡ one_more sink.faults → EndsClient address source sink door door_now dialed status
+pub data EndsClient (input : TalkInput) (address : List ℕ) (source : SourceRun) (sink : SinkRun) (door door_now : DoorView) (dialed : Option LinkView) (status : ℕ) : Type 0 where
+  talked : (frames : List (List ℕ)) (link : LinkView) (end : TalkEnd) → dialed ≡ Some link → status ≡ client_status end → AreRequestsOf input source frames
+      → HasTalked address frames sink link end → IsKept door door_now → source.faults_now ≡ source.faults → EndsClient input address source sink door door_now dialed status
+  unreached : (frames : List (List ℕ)) → dialed ≡ None → status ≡ 7 → AreRequestsOf input source frames → HasRefused door door_now → sink.sent ≡ []
+      → source.faults_now ≡ source.faults → sink.faults_now ≡ sink.faults → EndsClient input address source sink door door_now dialed status
+  refused : (outcome : Outcome) → dialed ≡ None → status ≡ 3 → IsRefusalOf (requests_form input) source outcome → door_now ≡ door → sink.sent ≡ output_of outcome
+      → source.faults_now ≡ source.faults → sink.faults_now ≡ sink.faults → EndsClient input address source sink door door_now dialed status
+  refusal_cut_off : (outcome : Outcome) → dialed ≡ None → status ≡ 5 → IsRefusalOf (requests_form input) source outcome → door_now ≡ door → IsProperPart sink.sent (output_of outcome)
+      → source.faults_now ≡ source.faults → sink.faults_now ≡ one_more sink.faults → EndsClient input address source sink door door_now dialed status
   source_failed : dialed ≡ None → status ≡ 4 → door_now ≡ door → sink.sent ≡ [] → source.faults_now ≡ one_more source.faults → sink.faults_now ≡ sink.faults
-      → EndsClient address source sink door door_now dialed status
+      → EndsClient input address source sink door door_now dialed status
   no_memory : dialed ≡ None → status ≡ 6 → door_now ≡ door → sink.sent ≡ [] → source.faults_now ≡ source.faults → sink.faults_now ≡ sink.faults
-      → EndsClient address source sink door door_now dialed status
+      → EndsClient input address source sink door door_now dialed status
 
 -- a talk was had to this end
-abbrev pub HasEnded : List ℕ → SourceRun → SinkRun → Option LinkView → ℕ → TalkEnd → Type 0
-HasEnded address source sink dialed status end =
-    (frames : List (List ℕ)) × (link : LinkView) × (dialed ≡ Some link) × AreRequestsOf source frames × HasTalked address frames sink link end × (status ≡ client_status end)
+abbrev pub HasEnded : TalkInput → List ℕ → SourceRun → SinkRun → Option LinkView → ℕ → TalkEnd → Type 0
+HasEnded input address source sink dialed status end =
+    (frames : List (List ℕ)) × (link : LinkView) × (dialed ≡ Some link) × AreRequestsOf input source frames × HasTalked address frames sink link end × (status ≡ client_status end)
 
 -- Where neither source nor sink, neither door nor link failed, an input that is not refused is talked over to the last reply, or until the link ended or what came was no
 -- reply; or there was no memory.
-abbrev pub IsCompleteClient : List ℕ → SourceRun → SinkRun → DoorView → DoorView → Option LinkView → ℕ → Type 0
-IsCompleteClient address source sink door door_now dialed status =
+abbrev pub IsCompleteClient : TalkInput → List ℕ → SourceRun → SinkRun → DoorView → DoorView → Option LinkView → ℕ → Type 0
+IsCompleteClient input address source sink door door_now dialed status =
     ¬ Rose source.faults source.faults_now → ¬ Rose sink.faults sink.faults_now → ¬ Rose door.faults door_now.faults
-    → ((link : LinkView) → dialed ≡ Some link → link.faults ≡ 0) → ¬ IsRefusedInput requests_form source.given
-    → (status ≡ 6) ⊎ HasEnded address source sink dialed status Done ⊎ HasEnded address source sink dialed status Ended
+    → ((link : LinkView) → dialed ≡ Some link → link.faults ≡ 0) → ¬ IsRefusedInput (requests_form input) source.given
+    → (status ≡ 6) ⊎ HasEnded input address source sink dialed status Done ⊎ HasEnded input address source sink dialed status Ended
 
--- a run of `client`
-pub record RunsClient (address : List ℕ) (source : SourceRun) (sink : SinkRun) (door door_now : DoorView) (dialed : Option LinkView) (status : ℕ) : Type 0 where
-  pub ends : EndsClient address source sink door door_now dialed status
-  pub complete : IsCompleteClient address source sink door door_now dialed status
-  pub refuses : RefusesExactly requests_form source status
+-- a run of `client`, or of `import`
+pub record RunsClient (input : TalkInput) (address : List ℕ) (source : SourceRun) (sink : SinkRun) (door door_now : DoorView) (dialed : Option LinkView) (status : ℕ) : Type 0 where
+  pub ends : EndsClient input address source sink door door_now dialed status
+  pub complete : IsCompleteClient input address source sink door door_now dialed status
+  pub refuses : RefusesExactly (requests_form input) source status

@@ -1,4 +1,4 @@
-//! A run of `client`.
+//! A run of `client` or `import`.
 ghost use Rattle.std.specs.Prelude.{◌≡◌, ◌≢◌, ◌⊎◌, IfErr, IfOk, None, option_map};
 ghost use Rattle.nx_io.specs.Streams.{Gave, Grows};
 ghost use Rattle.run_streams.specs.Runs.{sink_run, source_run};
@@ -6,14 +6,23 @@ ghost use Rattle.nexus_serve.specs.Views.{door_view, link_view};
 ghost use Rattle.service_commands.specs.Clients.{AreRequestsOf, EndsClient, client_status, requests_form};
 ghost use Rattle.run_streams.specs.Inner.Unread.{IsUnread, faults_after_input};
 
-use nexus_client::{Requests, RequestsError, Talk, TalkEnd, read_requests, talk};
+use nexus_client::{Requests, RequestsError, Talk, TalkEnd, TalkInput, read_input, talk};
 use nx_io::{Door, Sink, Source};
 use run_streams::{Outcome, ReadError, Unread, read_whole, tell};
 use std::alloc::Global;
 use std::net::{Net, TcpListener, TcpStream};
 use std::rt::Clock;
 
-/// What a run of `client` leaves.
+/// A call of `client` or `import`, by its words.
+#[derive(Clone, Copy)]
+pub struct TalkCall<'a> {
+    /// What the input is.
+    pub input: TalkInput,
+    /// Where the service is.
+    pub address: &'a [u8],
+}
+
+/// What a run of `client` or `import` leaves.
 #[derive(Drop)]
 pub struct ClientEnd<L> {
     /// The status that the operating system is given. `docs/FORMATS.md`, "Statuses", says what each means.
@@ -22,11 +31,12 @@ pub struct ClientEnd<L> {
     pub dialed: Option<L>,
 }
 
-/// Reads request lines, and sends each over a link to the address, after the line of the reply to the one before was written.
+/// Reads the input, and sends each request that it asks for over a link to the address, after the line of the reply to the one before was
+/// written.
 pub fn client<R, S: Source, K: Sink, D: Door>(
     rt: &R,
     alloc: Global,
-    address: &[u8],
+    call: TalkCall<'_>,
     input: &mut S,
     output: &mut K,
     door: &mut D,
@@ -38,16 +48,16 @@ where
     ensures sent { Grows (K.sent output.old) (K.sent output.new) }
     ensures untouched { result.dialed ≡ None → (result.status ≡ 4) ⊎ (result.status ≡ 6) → output.new ≡ output.old }
     ensures undialed { result.dialed ≡ None → result.status ≢ 7 → door.new ≡ door.old }
-    ensures ends { EndsClient address.now
+    ensures ends { EndsClient call.entry.input call.entry.address.now
         (source_run (S.left input.old) (S.given input.old) (S.given input.new) (S.over input.new) (S.faults input.old) (S.faults input.new))
         (sink_run (K.sent output.old) (K.sent output.new) (K.faults output.old) (K.faults output.new))
         (door_view (link_view D.Link.left D.Link.taken D.Link.sent D.Link.over D.Link.closed D.Link.place D.Link.toward D.Link.faults) D.links D.over D.gave D.listened D.faults door.old)
         (door_view (link_view D.Link.left D.Link.taken D.Link.sent D.Link.over D.Link.closed D.Link.place D.Link.toward D.Link.faults) D.links D.over D.gave D.listened D.faults door.new)
         (option_map (link_view D.Link.left D.Link.taken D.Link.sent D.Link.over D.Link.closed D.Link.place D.Link.toward D.Link.faults) result.dialed) result.status }
 {
-    match read_lines(alloc, input) {
+    match read_requests(alloc, call.input, input) {
         Ok(requests) => {
-            let Talk { dialed, end } = talk(rt, alloc, address, &requests, door, output);
+            let Talk { dialed, end } = talk(rt, alloc, call.address, &requests, door, output);
             ClientEnd {
                 status: status_of(end),
                 dialed,
@@ -68,17 +78,21 @@ where
     }
 }
 
-/// Reads the input, which is the lines of requests.
-fn read_lines<S: Source>(alloc: Global, input: &mut S) -> Result<Requests, Unread>
+/// Reads the input, which asks for requests.
+fn read_requests<S: Source>(
+    alloc: Global,
+    form: TalkInput,
+    input: &mut S,
+) -> Result<Requests, Unread>
     ensures gave { Gave (S.left input.old) (S.left input.new) (S.given input.old) (S.given input.new) }
-    ensures ok { IfOk result (AreRequestsOf
+    ensures ok { IfOk result (AreRequestsOf form
         (source_run (S.left input.old) (S.given input.old) (S.given input.new) (S.over input.new) (S.faults input.old) (S.faults input.new))) }
-    ensures err { IfErr result (IsUnread requests_form
+    ensures err { IfErr result (IsUnread (requests_form form)
         (source_run (S.left input.old) (S.given input.old) (S.given input.new) (S.over input.new) (S.faults input.old) (S.faults input.new))) }
     ensures count { S.faults input.new ≡ faults_after_input result (S.faults input.old) }
 {
     match read_whole(alloc, input) {
-        Ok(text) => match read_requests(alloc, text.as_slice()) {
+        Ok(text) => match read_input(alloc, form, text.as_slice()) {
             Ok(requests) => Ok(requests),
             Err(RequestsError::Wrong { line }) => Err(Unread::Refused(Outcome::Refused { line })),
             Err(RequestsError::Memory) => Err(Unread::Memory),

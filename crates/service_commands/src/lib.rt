@@ -1,10 +1,11 @@
-//! The commands that use the door: `serve`, which serves the sessions of its workers, and `client`, which talks to a service.
+//! The commands that use the door: `serve`, which serves the sessions of its workers, and `client` and `import`, which talk
+//! to a service.
 #![tactic(auto)]
 
 mod clients;
 mod ends;
 mod service;
 
-pub use clients::{ClientEnd, client};
+pub use clients::{ClientEnd, TalkCall, client};
 pub use ends::Ended;
 pub use service::{Service, run_service};
