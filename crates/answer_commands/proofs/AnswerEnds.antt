@@ -24,7 +24,7 @@ answer_given {command = command} source left_now answer bytes taken same over en
 
 -- an answer, or a refusal, that was told ends the run
 pub answer_ends : {A : Type 0} {command : Answering A} {source : SourceRun} {status : ℕ} (answer : A) (before now : List ℕ) (u v : ℕ) → IsAnswerOf command source answer
-    → source.faults_now ≡ source.faults → TellsAnswer command answer before now u v status → EndsAnswer command source (record { sent = gained before now; faults = u; faults_now = v }) status
+    → source.faults_now ≡ source.faults → TellsAnswer command.written command.status answer before now u v status → EndsAnswer command source (record { sent = gained before now; faults = u; faults_now = v }) status
 answer_ends {command = command} answer before now u v is still (answer_whole e w f) = answered answer e is (gained-by before now (command.written answer) w) still f
 answer_ends answer before now u v is still (answer_part e w f) = cut_off answer e is (w.0, w.1, gained-by before now _ w.2) still f
 answer_ends answer before now u v is still (answer_nothing e w f) = no_memory e (rw w (gained-nothing before)) still f
@@ -37,7 +37,7 @@ refusal_ends outcome before now u v r still (part e w f) = refusal_cut_off outco
 refusal_ends outcome before now u v r still (nothing e w f) = no_memory e (rw w (gained-nothing before)) still f
 
 -- what was told of an answer grew
-pub answer_grows : {A : Type 0} {command : Answering A} {answer : A} {u v status : ℕ} (before now : List ℕ) → TellsAnswer command answer before now u v status → Grows before now
+pub answer_grows : {A : Type 0} {written : A → List ℕ} {ends : A → ℕ} {answer : A} {u v status : ℕ} (before now : List ℕ) → TellsAnswer written ends answer before now u v status → Grows before now
 answer_grows before now (answer_whole e w f) = grows-by before now _ w
 answer_grows before now (answer_part e w f) = grows-by before now _ w.2
 answer_grows before now (answer_nothing e w f) = rw w (grows-nothing before)

@@ -8,4 +8,5 @@ pub mod Proves
 pub mod Recovers
 pub mod Audits
 pub mod Explains
+pub mod Exports
 pub mod Inner

@@ -27,11 +27,14 @@ pub trait Answer: Sized {
     ghost use Rattle.run_streams.specs.Refusals.{form_of};
     ghost use Rattle.answer_commands.specs.Answers.{IsAnswerError};
 
+    /// What a call asks beside its input: nothing, for most commands.
+    type About;
+
     /// Which texts have the form.
     ghost formed: { List ℕ → Type 0 };
 
     /// Which answer a text has.
-    ghost told: { List ℕ → Self → Type 0 };
+    ghost told: { Self.About → List ℕ → Self → Type 0 };
 
     /// Which line of a text is the lowest that is wrong.
     ghost wrong: { List ℕ → ℕ → Type 0 };
@@ -43,10 +46,10 @@ pub trait Answer: Sized {
     ghost ends: { Self → ℕ };
 
     /// The answer to a text. `Wrong` exactly where it has not the form.
-    fn of(alloc: Global, text: &[u8]) -> Result<Self, AnswerError>
+    fn of(alloc: Global, about: &Self::About, text: &[u8]) -> Result<Self, AnswerError>
         requires { length text.now ≤ most_bytes }
         ensures formed { IfOk result (λ answer. formed text.now) }
-        ensures told { IfOk result (λ answer. told text.now answer) }
+        ensures told { IfOk result (λ answer. told about.now text.now answer) }
         ensures wrong { IfErr result (IsAnswerError (form_of formed wrong) text.now) };
 
     /// What is written of the answer. An `Err` is want of memory.
@@ -62,18 +65,19 @@ pub trait Answer: Sized {
 /// Reads the whole input, and writes the answer to it.
 pub fn answer_input<A: Answer + Drop, S: Source, K: Sink>(
     alloc: Global,
+    about: &A::About,
     input: &mut S,
     output: &mut K,
 ) -> u8
     ensures gave { Gave (S.left input.old) (S.left input.new) (S.given input.old) (S.given input.new) }
     ensures sent { Grows (K.sent output.old) (K.sent output.new) }
     ensures untouched { (result ≡ 4) ⊎ (result ≡ 6) → output.new ≡ output.old }
-    ensures runs { RunsAnswer (answering (form_of A.formed A.wrong) A.told A.written A.ends)
+    ensures runs { RunsAnswer (answering (form_of A.formed A.wrong) (A.told about.now) A.written A.ends)
         (source_run (S.left input.old) (S.given input.old) (S.given input.new) (S.over input.new) (S.faults input.old) (S.faults input.new))
         (sink_run (K.sent output.old) (K.sent output.new) (K.faults output.old) (K.faults output.new))
         result }
 {
-    match read_answer::<A, S>(alloc, input) {
+    match read_answer::<A, S>(alloc, about, input) {
         Ok(answer) => tell_answer(alloc, output, &answer),
         Err(Unread::Refused(outcome)) => tell(alloc, output, outcome),
         Err(Unread::Failed) => 4,
@@ -82,16 +86,20 @@ pub fn answer_input<A: Answer + Drop, S: Source, K: Sink>(
 }
 
 /// Reads the input, and answers it.
-fn read_answer<A: Answer + Drop, S: Source>(alloc: Global, input: &mut S) -> Result<A, Unread>
+fn read_answer<A: Answer + Drop, S: Source>(
+    alloc: Global,
+    about: &A::About,
+    input: &mut S,
+) -> Result<A, Unread>
     ensures gave { Gave (S.left input.old) (S.left input.new) (S.given input.old) (S.given input.new) }
-    ensures ok { IfOk result (IsAnswerOf (answering (form_of A.formed A.wrong) A.told A.written A.ends)
+    ensures ok { IfOk result (IsAnswerOf (answering (form_of A.formed A.wrong) (A.told about.now) A.written A.ends)
         (source_run (S.left input.old) (S.given input.old) (S.given input.new) (S.over input.new) (S.faults input.old) (S.faults input.new))) }
     ensures err { IfErr result (IsUnread (form_of A.formed A.wrong)
         (source_run (S.left input.old) (S.given input.old) (S.given input.new) (S.over input.new) (S.faults input.old) (S.faults input.new))) }
     ensures count { S.faults input.new ≡ faults_after_input result (S.faults input.old) }
 {
     match read_whole(alloc, input) {
-        Ok(text) => match A::of(alloc, text.as_slice()) {
+        Ok(text) => match A::of(alloc, about, text.as_slice()) {
             Ok(answer) => Ok(answer),
             Err(AnswerError::Wrong { line }) => Err(Unread::Refused(Outcome::Refused { line })),
             Err(AnswerError::Memory) => Err(Unread::Memory),
@@ -107,7 +115,7 @@ fn read_answer<A: Answer + Drop, S: Source>(alloc: Global, input: &mut S) -> Res
 fn tell_answer<A: Answer, K: Sink>(alloc: Global, output: &mut K, answer: &A) -> u8
     ensures untouched { (result ≡ 4) ⊎ (result ≡ 6) → output.new ≡ output.old }
     ensures few { result ≢ 3 }
-    ensures told { TellsAnswer (answering (form_of A.formed A.wrong) A.told A.written A.ends) answer.now (K.sent output.old) (K.sent output.new) (K.faults output.old) (K.faults output.new) result }
+    ensures told { TellsAnswer A.written A.ends answer.now (K.sent output.old) (K.sent output.new) (K.faults output.old) (K.faults output.new) result }
 {
     let status = answer.status();
     let Ok(text) = answer.output(alloc) else {

@@ -1,12 +1,14 @@
-//! The answers of `trust`, `prove`, `audit`, `explain` and `recover`.
+//! The answers of `trust`, `prove`, `audit`, `explain`, `recover` and `export`.
 ghost use Rattle.std.specs.Prelude.{◌≡◌, ◌≢◌, IfErr, OnOk};
 
 use crate::answering::{Answer, AnswerError};
 use audit_check::Audited;
 use audit_form::{AuditError, Told, audit_of, told_line};
 use explain_form::{ExplainError, ExplanationText, explanation_of};
-use journal_text::{PolicyError, print_policy, read_cut};
+use journal_text::{PolicyError, print_policy, read_cut, read_policy};
+use nal_term::Name;
 use nx_io::Bytes;
+use peer_labels::print_bundle;
 use policy_history::Journal;
 use proof_lines::Proof;
 use prove_form::{ProveError, found_line, prove_of};
@@ -15,13 +17,15 @@ use trust_check::Trust;
 use trust_form::{TrustError, trust_line, trust_of};
 
 impl Answer for Trust {
+    type About = ();
+
     ghost use Rattle.trust_form.specs.Answers.{IsTold};
     ghost use Rattle.trust_form.specs.TrustForm.{IsWrongLine};
     ghost use Rattle.answer_commands.specs.Trusts.{HasTrustForm, trust_output, trust_status};
 
     ghost formed = { HasTrustForm };
 
-    ghost told = { IsTold };
+    ghost told = { λ about. IsTold };
 
     ghost wrong = { IsWrongLine };
 
@@ -29,7 +33,7 @@ impl Answer for Trust {
 
     ghost ends = { trust_status };
 
-    fn of(alloc: Global, text: &[u8]) -> Result<Trust, AnswerError> {
+    fn of(alloc: Global, _about: &(), text: &[u8]) -> Result<Trust, AnswerError> {
         match trust_of(alloc, text) {
             Ok(answer) => Ok(answer),
             Err(TrustError::Wrong { line }) => Err(AnswerError::Wrong { line }),
@@ -57,6 +61,8 @@ pub struct Found {
 }
 
 impl Answer for Found {
+    type About = ();
+
     ghost use Rattle.std.specs.Prelude.{option_map};
     ghost use Rattle.proof_lines.specs.Lines.{line_trees};
     ghost use Rattle.prove_form.specs.Answers.{IsTold};
@@ -65,7 +71,7 @@ impl Answer for Found {
 
     ghost formed = { HasProveForm };
 
-    ghost told = { λ text found. IsTold text (option_map line_trees found.proof) };
+    ghost told = { λ about text found. IsTold text (option_map line_trees found.proof) };
 
     ghost wrong = { IsWrongLine };
 
@@ -73,7 +79,7 @@ impl Answer for Found {
 
     ghost ends = { λ found. prove_status (option_map line_trees found.proof) };
 
-    fn of(alloc: Global, text: &[u8]) -> Result<Found, AnswerError> {
+    fn of(alloc: Global, _about: &(), text: &[u8]) -> Result<Found, AnswerError> {
         match prove_of(alloc, text) {
             Ok(proof) => Ok(Found { proof }),
             Err(ProveError::Wrong { line }) => Err(AnswerError::Wrong { line }),
@@ -94,13 +100,15 @@ impl Answer for Found {
 }
 
 impl Answer for Told {
+    type About = ();
+
     ghost use Rattle.audit_form.specs.Answers.{IsToldOf};
     ghost use Rattle.audit_form.specs.AuditForm.{IsWrongLine};
     ghost use Rattle.answer_commands.specs.Audits.{HasAuditForm, audit_output, audit_status};
 
     ghost formed = { HasAuditForm };
 
-    ghost told = { IsToldOf };
+    ghost told = { λ about. IsToldOf };
 
     ghost wrong = { IsWrongLine };
 
@@ -108,7 +116,7 @@ impl Answer for Told {
 
     ghost ends = { audit_status };
 
-    fn of(alloc: Global, text: &[u8]) -> Result<Told, AnswerError> {
+    fn of(alloc: Global, _about: &(), text: &[u8]) -> Result<Told, AnswerError> {
         match audit_of(alloc, text) {
             Ok(told) => Ok(told),
             Err(AuditError::Wrong { line }) => Err(AnswerError::Wrong { line }),
@@ -130,13 +138,15 @@ impl Answer for Told {
 }
 
 impl Answer for ExplanationText {
+    type About = ();
+
     ghost use Rattle.explain_form.specs.Answers.{IsToldOf};
     ghost use Rattle.explain_form.specs.ExplainForm.{IsWrongLine};
     ghost use Rattle.answer_commands.specs.Explains.{HasExplainForm, explain_output, explain_status};
 
     ghost formed = { HasExplainForm };
 
-    ghost told = { IsToldOf };
+    ghost told = { λ about. IsToldOf };
 
     ghost wrong = { IsWrongLine };
 
@@ -144,7 +154,7 @@ impl Answer for ExplanationText {
 
     ghost ends = { explain_status };
 
-    fn of(alloc: Global, text: &[u8]) -> Result<ExplanationText, AnswerError> {
+    fn of(alloc: Global, _about: &(), text: &[u8]) -> Result<ExplanationText, AnswerError> {
         match explanation_of(alloc, text) {
             Ok(told) => Ok(told),
             Err(ExplainError::Wrong { line }) => Err(AnswerError::Wrong { line }),
@@ -168,6 +178,8 @@ pub struct Recovered {
 }
 
 impl Answer for Recovered {
+    type About = ();
+
     ghost use Rattle.policy_history.specs.PolicyTexts.{policy_text};
     ghost use Rattle.policy_history.specs.Values.{entry_trees};
     ghost use Rattle.journal_text.specs.CutPolicies.{ReadsCut};
@@ -175,7 +187,7 @@ impl Answer for Recovered {
 
     ghost formed = { HasCutForm };
 
-    ghost told = { λ text recovered. ReadsCut text recovered.journal.head (entry_trees recovered.journal.entries) };
+    ghost told = { λ about text recovered. ReadsCut text recovered.journal.head (entry_trees recovered.journal.entries) };
 
     ghost wrong = { IsWrongCutLine };
 
@@ -183,7 +195,7 @@ impl Answer for Recovered {
 
     ghost ends = { λ recovered. 0 };
 
-    fn of(alloc: Global, text: &[u8]) -> Result<Recovered, AnswerError> {
+    fn of(alloc: Global, _about: &(), text: &[u8]) -> Result<Recovered, AnswerError> {
         match read_cut(alloc, text) {
             Ok(journal) => Ok(Recovered { journal }),
             Err(PolicyError::Bad { line }) => Err(AnswerError::Wrong { line }),
@@ -199,5 +211,60 @@ impl Answer for Recovered {
 
     fn status(&self) -> u8 {
         0
+    }
+}
+
+/// The bundle of the labels that a principal of a policy holds; none where it is no principal.
+#[derive(Drop)]
+pub struct Exported {
+    pub bundle: Option<Bytes>,
+}
+
+impl Answer for Exported {
+    type About = Name;
+
+    ghost use Rattle.answer_commands.specs.Exports.{HasPolicyForm, IsExportOf, IsWrongPolicyLine, export_output, export_status};
+
+    ghost formed = { HasPolicyForm };
+
+    ghost told = { IsExportOf };
+
+    ghost wrong = { IsWrongPolicyLine };
+
+    ghost written = { export_output };
+
+    ghost ends = { export_status };
+
+    fn of(alloc: Global, about: &Name, text: &[u8]) -> Result<Exported, AnswerError> {
+        let journal = match read_policy(alloc, text) {
+            Ok(journal) => journal,
+            Err(PolicyError::Bad { line }) => return Err(AnswerError::Wrong { line }),
+            Err(PolicyError::Refused { line, .. }) => return Err(AnswerError::Wrong { line }),
+            Err(PolicyError::TooLong) => unreachable!(),
+            Err(PolicyError::Memory) => return Err(AnswerError::Memory),
+        };
+        let Some(holder) = journal.head().principals.number_of(about) else {
+            return Ok(Exported { bundle: None });
+        };
+        match print_bundle(alloc, &journal, holder) {
+            Ok(bundle) => Ok(Exported {
+                bundle: Some(bundle),
+            }),
+            Err(_) => Err(AnswerError::Memory),
+        }
+    }
+
+    fn output(&self, alloc: Global) -> Result<Bytes, AllocError> {
+        match &self.bundle {
+            Some(bundle) => Bytes::of(alloc, bundle.as_slice()),
+            None => Bytes::of(alloc, b"no principal\n"),
+        }
+    }
+
+    fn status(&self) -> u8 {
+        match self.bundle {
+            Some(_) => 0,
+            None => 1,
+        }
     }
 }

@@ -1,10 +1,12 @@
-//! The commands that read one input and write one answer to it: `check`, `trust`, `prove`, `audit`, `explain` and `recover`.
+//! The commands that read one input and write one answer to it: `check`, `trust`, `prove`, `audit`, `explain`, `recover` and
+//! `export`.
 #![tactic(auto)]
 
 mod answering;
 mod answers;
 mod check_form;
 mod checks;
+mod exports;
 mod judge;
 mod keys;
 mod laws;
@@ -12,6 +14,7 @@ mod places;
 mod stages;
 
 pub use answering::{Answer, AnswerError, answer_input};
-pub use answers::{Found, Recovered};
+pub use answers::{Exported, Found, Recovered};
 pub use checks::check;
+pub use exports::export;
 pub use laws::an_input_has_one_outcome;

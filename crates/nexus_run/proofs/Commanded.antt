@@ -1,14 +1,15 @@
 -- What a run of a command is, by the words that call it.
-use Rattle.std.proofs.Common.{◌≡◌, ◌==◌, ◌∷◌, false, ℕ, List, [], Option, None, refl, sym, ap, ◌∙◌}
+use Rattle.std.proofs.Common.{◌≡◌, ◌==◌, ◌∷◌, inl, inr, false, ℕ, List, [], Option, None, refl, sym, ap, ◌∙◌}
 use Rattle.std.proofs.lemmas.Bool.Decides.{Decides-eqb}
 use Rattle.policy_history.specs.Values.{History}
 use Rattle.run_streams.specs.Runs.{SinkRun, SourceRun}
 use Rattle.nexus_run.specs.declared.commands.Command.TheVariants.{Check, Script, Core, Trust, Prove, Audit, Explain, Recover, Drill}
-use Rattle.nexus_run.specs.Commands.{IsDrill, IsLoad, IsPlain, audit_words, check_words, core_words, drill_words, explain_words, prove_words, recover_words, script_words, trust_words}
+use Rattle.nexus_run.specs.Commands.{IsDrill, IsExportCall, IsLoad, IsNamed, IsPlain, audit_words, check_words, core_words, drill_words, explain_words, export_words, prove_words, recover_words, script_words, trust_words}
 use Rattle.nexus_run.specs.Commanded.{RunsCommand}
 use Rattle.nexus_run.specs.LoadRuns.{RunsCore, RunsDrill, no_memory as load_memory}
 use Rattle.answer_commands.specs.Audits.{RunsAudit}
 use Rattle.answer_commands.specs.Explains.{RunsExplain}
+use Rattle.answer_commands.specs.Exports.{RunsExport}
 use Rattle.answer_commands.specs.CheckRuns.{RunsCheck, no_memory as check_memory}
 use Rattle.answer_commands.specs.Proves.{RunsProve}
 use Rattle.answer_commands.specs.Recovers.{RunsRecover}
@@ -21,19 +22,25 @@ use Rattle.run_streams.proofs.ForCallers.{apart}
 use Rattle.script_command.proofs.ForCallers.{runs_script}
 use Rattle.nexus_run.proofs.Words.{core_same, drill_same}
 
+-- words that are neither those of a command that is named alone or with numbers, nor those of an export
+pub not_plain : {words : List (List ℕ)} → (IsNamed words → ⊥) → (IsExportCall words → ⊥) → IsPlain words → ⊥
+not_plain named export (inl is) = named is
+not_plain named export (inr is) = export is
+
 -- the words of no command, whatever is done
 pub none_commanded : {words : List (List ℕ)} {source : SourceRun} {sink : SinkRun} {panel : PanelRun} {journal : Option History} {status : ℕ} → (IsPlain words → ⊥)
     → RunsCommand words source sink panel journal status
 none_commanded none = record {
-  check = λ e. absurd (none (Check, tt, e));
-  script = λ e. absurd (none (Script, tt, e));
-  trust = λ e. absurd (none (Trust, tt, e));
-  prove = λ e. absurd (none (Prove, tt, e));
-  audit = λ e. absurd (none (Audit, tt, e));
-  explain = λ e. absurd (none (Explain, tt, e));
-  recover = λ e. absurd (none (Recover, tt, e));
-  core = λ number steps e within. absurd (none (Core number steps, within, e));
-  drill = λ number workers calls e within. absurd (none (Drill number workers calls, within, e));
+  check = λ e. absurd (none (inl (Check, tt, e)));
+  script = λ e. absurd (none (inl (Script, tt, e)));
+  trust = λ e. absurd (none (inl (Trust, tt, e)));
+  prove = λ e. absurd (none (inl (Prove, tt, e)));
+  audit = λ e. absurd (none (inl (Audit, tt, e)));
+  explain = λ e. absurd (none (inl (Explain, tt, e)));
+  recover = λ e. absurd (none (inl (Recover, tt, e)));
+  export = λ name e is. absurd (none (inr (name, is, e)));
+  core = λ number steps e within. absurd (none (inl (Core number steps, within, e)));
+  drill = λ number workers calls e within. absurd (none (inl (Drill number workers calls, within, e)));
 }
 
 -- ---- The words of one command are not those of another
@@ -43,7 +50,7 @@ abbrev letter : List (List ℕ) → ℕ
 letter ((x ∷ xs) ∷ ws) = x
 letter _ = 0
 
-other_letter : {words : List (List ℕ)} (a b : List (List ℕ)) → words ≡ a → words ≡ b → (letter a == letter b) ≡ false → ⊥
+pub other_letter : {words : List (List ℕ)} (a b : List (List ℕ)) → words ≡ a → words ≡ b → (letter a == letter b) ≡ false → ⊥
 other_letter a b are e h = let t = (Decides-eqb (letter a) (letter b)).1 (ap letter (sym are ∙ e)) in cc (t, h)
 
 pub check_commanded : {words : List (List ℕ)} {source : SourceRun} {sink : SinkRun} {panel : PanelRun} {journal : Option History} {status : ℕ} → words ≡ check_words
@@ -56,6 +63,7 @@ check_commanded are runs = record {
   audit = λ e. absurd (other_letter check_words audit_words are e refl);
   explain = λ e. absurd (other_letter check_words explain_words are e refl);
   recover = λ e. absurd (other_letter check_words recover_words are e refl);
+  export = λ name e is. absurd (cc (sym are ∙ e));
   core = λ number steps e within. absurd (cc (sym are ∙ e));
   drill = λ number workers calls e within. absurd (cc (sym are ∙ e));
 }
@@ -70,6 +78,7 @@ script_commanded are runs = record {
   audit = λ e. absurd (other_letter script_words audit_words are e refl);
   explain = λ e. absurd (other_letter script_words explain_words are e refl);
   recover = λ e. absurd (other_letter script_words recover_words are e refl);
+  export = λ name e is. absurd (cc (sym are ∙ e));
   core = λ number steps e within. absurd (cc (sym are ∙ e));
   drill = λ number workers calls e within. absurd (cc (sym are ∙ e));
 }
@@ -84,6 +93,7 @@ trust_commanded are runs = record {
   audit = λ e. absurd (other_letter trust_words audit_words are e refl);
   explain = λ e. absurd (other_letter trust_words explain_words are e refl);
   recover = λ e. absurd (other_letter trust_words recover_words are e refl);
+  export = λ name e is. absurd (cc (sym are ∙ e));
   core = λ number steps e within. absurd (cc (sym are ∙ e));
   drill = λ number workers calls e within. absurd (cc (sym are ∙ e));
 }
@@ -98,6 +108,7 @@ prove_commanded are runs = record {
   audit = λ e. absurd (other_letter prove_words audit_words are e refl);
   explain = λ e. absurd (other_letter prove_words explain_words are e refl);
   recover = λ e. absurd (other_letter prove_words recover_words are e refl);
+  export = λ name e is. absurd (cc (sym are ∙ e));
   core = λ number steps e within. absurd (cc (sym are ∙ e));
   drill = λ number workers calls e within. absurd (cc (sym are ∙ e));
 }
@@ -112,6 +123,7 @@ audit_commanded are runs = record {
   audit = λ e. runs;
   explain = λ e. absurd (other_letter audit_words explain_words are e refl);
   recover = λ e. absurd (other_letter audit_words recover_words are e refl);
+  export = λ name e is. absurd (cc (sym are ∙ e));
   core = λ number steps e within. absurd (cc (sym are ∙ e));
   drill = λ number workers calls e within. absurd (cc (sym are ∙ e));
 }
@@ -126,6 +138,7 @@ explain_commanded are runs = record {
   audit = λ e. absurd (other_letter explain_words audit_words are e refl);
   explain = λ e. runs;
   recover = λ e. absurd (other_letter explain_words recover_words are e refl);
+  export = λ name e is. absurd (cc (sym are ∙ e));
   core = λ number steps e within. absurd (cc (sym are ∙ e));
   drill = λ number workers calls e within. absurd (cc (sym are ∙ e));
 }
@@ -140,9 +153,28 @@ recover_commanded are runs = record {
   audit = λ e. absurd (other_letter recover_words audit_words are e refl);
   explain = λ e. absurd (other_letter recover_words explain_words are e refl);
   recover = λ e. runs;
+  export = λ name e is. absurd (cc (sym are ∙ e));
   core = λ number steps e within. absurd (cc (sym are ∙ e));
   drill = λ number workers calls e within. absurd (cc (sym are ∙ e));
 }
+
+pub export_commanded : {words : List (List ℕ)} {source : SourceRun} {sink : SinkRun} {panel : PanelRun} {journal : Option History} {status : ℕ} (x : List ℕ) → words ≡ export_words x
+    → RunsExport x source sink status → RunsCommand words source sink panel journal status
+export_commanded {source = source} {sink = sink} {status = status} x are runs = record {
+  check = λ e. absurd (cc (sym are ∙ e));
+  script = λ e. absurd (cc (sym are ∙ e));
+  trust = λ e. absurd (cc (sym are ∙ e));
+  prove = λ e. absurd (cc (sym are ∙ e));
+  audit = λ e. absurd (cc (sym are ∙ e));
+  explain = λ e. absurd (cc (sym are ∙ e));
+  recover = λ e. absurd (cc (sym are ∙ e));
+  export = λ name e is. (let same = export_same name x (sym e ∙ are) in rw same runs);
+  core = λ number steps e within. absurd (cc (sym are ∙ e));
+  drill = λ number workers calls e within. absurd (cc (sym are ∙ e));
+}
+  where
+    export_same : (name other : List ℕ) → export_words name ≡ export_words other → name ≡ other
+    export_same name other e = cc e
 
 pub core_commanded : {words : List (List ℕ)} {source : SourceRun} {sink : SinkRun} {panel : PanelRun} {journal : Option History} {status : ℕ} (m n : ℕ) → words ≡ core_words m n → IsLoad m n
     → RunsCore m n sink status → RunsCommand words source sink panel journal status
@@ -154,6 +186,7 @@ core_commanded {sink = sink} {status = status} m n are mine runs = record {
   audit = λ e. absurd (cc (sym are ∙ e));
   explain = λ e. absurd (cc (sym are ∙ e));
   recover = λ e. absurd (cc (sym are ∙ e));
+  export = λ name e is. absurd (cc (sym are ∙ e));
   core = λ number steps e within. (let same = core_same number steps m n within mine (sym e ∙ are) in rw (same.0, same.1) runs);
   drill = λ number workers calls e within. absurd (cc (sym are ∙ e));
 }
@@ -168,6 +201,7 @@ drill_commanded {source = source} {sink = sink} {status = status} l m n are mine
   audit = λ e. absurd (cc (sym are ∙ e));
   explain = λ e. absurd (cc (sym are ∙ e));
   recover = λ e. absurd (cc (sym are ∙ e));
+  export = λ name e is. absurd (cc (sym are ∙ e));
   core = λ number steps e within. absurd (cc (sym are ∙ e));
   drill = λ number workers calls e within. (let same = drill_same number workers calls l m n within mine (sym e ∙ are) in rw (same.0, same.1, same.2) runs);
 }
@@ -184,6 +218,7 @@ memory_commanded {source = source} {sink = sink} {panel = panel} {status = statu
   audit = λ e. runs_answer (λ answer is e three. apart status 6 3 six three refl) (answer_memory six none still still_too);
   explain = λ e. runs_answer (λ answer is e three. apart status 6 3 six three refl) (answer_memory six none still still_too);
   recover = λ e. runs_answer (λ answer is e three. apart status 6 3 six three refl) (answer_memory six none still still_too);
+  export = λ name e is. runs_answer (λ answer is e three. apart status 6 3 six three refl) (answer_memory six none still still_too);
   core = λ number steps e within. runs_load (load_memory six none still_too);
   drill = λ number workers calls e within. runs_load (load_memory six none still_too);
 }

@@ -3,3 +3,4 @@ mod LoadEnds
 mod Commanded
 pub mod ClientCalls
 mod TrueRuns
+mod ServiceAsks

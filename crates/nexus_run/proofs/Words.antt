@@ -11,7 +11,10 @@ use Rattle.std.proofs.lemmas.Str.{IsUtf8-from_ascii}
 use Rattle.std.proofs.lemmas.Str.Ascii.{IsAscii-from_all}
 use Rattle.std.specs.Prelude.{nat_le, ◌&&◌}
 use Rattle.nal_term.specs.Secrets.{is_secret_byte}
-use Rattle.nexus_run.specs.Commands.{IsCommand, IsDrill, IsLoad, IsWithin, audit_words, check_words, client_words, command_words, core_words, drill_words, explain_words, prove_words, recover_words, script_words, serve_words, trust_words}
+use Rattle.nexus_run.specs.Commands.{IsCommand, IsDrill, IsLoad, IsWithin, audit_words, check_words, command_words, core_words, drill_words, explain_words, export_words, prove_words, recover_words, script_words, serve_words, talk_word, talk_words, trust_words}
+use Rattle.nal_term.specs.Names.{IsName, is_letter, is_word, is_word_byte}
+use Rattle.nexus_client.specs.declared.inputs.TalkInput.{TalkInput}
+use Rattle.nexus_client.specs.declared.inputs.TalkInput.TheVariants.{RequestLines, PeerBundle}
 use Rattle.service_commands.specs.Services.{IsAddress, IsService}
 use Rattle.nexus_run.specs.declared.commands.Command.{Command}
 use Rattle.nexus_run.specs.declared.commands.Command.TheVariants.{Check, Script, Core, Trust, Prove, Audit, Explain, Recover, Drill}
@@ -159,17 +162,30 @@ both : (b c : Bool) → (b && c) ≡ true → (b ≡ true) × (c ≡ true)
 both true c e = (refl, e)
 both false c e = absurd (cc e)
 
-low_byte : (b : ℕ) → is_secret_byte b ≡ true → b < 128
-low_byte b h = grind arith
+-- bytes that pass a test of low bytes are low
+low_bytes : (is : ℕ → Bool) → ((b : ℕ) → is b ≡ true → b < 128) → (bs : List ℕ) → list_all is bs ≡ true → All (λ b. b < 128) bs
+low_bytes is low [] h = All-nil (λ b. b < 128)
+low_bytes is low (b ∷ bs) h = let parts = both (is b) (list_all is bs) h in All-cons (λ x. x < 128) b bs (low b parts.0) (low_bytes is low bs parts.1)
 
-low_bytes : (bs : List ℕ) → list_all is_secret_byte bs ≡ true → All (λ b. b < 128) bs
-low_bytes [] h = All-nil (λ b. b < 128)
-low_bytes (b ∷ bs) h = let parts = both (is_secret_byte b) (list_all is_secret_byte bs) h in All-cons (λ x. x < 128) b bs (low_byte b parts.0) (low_bytes bs parts.1)
+low_visible : (b : ℕ) → is_secret_byte b ≡ true → b < 128
+low_visible b h = grind arith
 
 address_is_text : (address : List ℕ) → IsAddress address → IsUtf8 address
 address_is_text address is =
     let all = (both (list_all is_secret_byte address) _ (both (list_all is_secret_byte address && nat_le 1 (length address)) _ is.visible).0).0 in
-    IsUtf8-from_ascii address (IsAscii-from_all address (low_bytes address all))
+    IsUtf8-from_ascii address (IsAscii-from_all address (low_bytes is_secret_byte low_visible address all))
+
+low_letter : (b : ℕ) → is_letter b ≡ true → b < 128
+low_letter b h = grind arith
+
+low_in_word : (b : ℕ) → is_word_byte b ≡ true → b < 128
+low_in_word b h = grind arith
+
+name_is_text : (name : List ℕ) → IsName name → IsUtf8 name
+name_is_text [] is = absurd (cc is)
+name_is_text (b ∷ bs) is =
+    let word = both (is_letter b) (list_all is_word_byte bs) (both (is_word (b ∷ bs)) _ (both (is_word (b ∷ bs) && nat_le (length (b ∷ bs)) 64) _ is).0).0 in
+    IsUtf8-from_ascii (b ∷ bs) (IsAscii-from_all (b ∷ bs) (All-cons (λ x. x < 128) b bs (low_letter b word.0) (low_bytes is_word_byte low_in_word bs word.1)))
 
 serve_is_text : IsUtf8 (codes "serve")
 unfolding lib.Utf8.encode
@@ -207,19 +223,29 @@ plain_is_text Recover within = recover_words_are_texts
 plain_is_text (Drill number workers calls) within = drill_words_are_texts number workers calls within
 plain_is_text (Core number steps) within = core_words_are_texts number steps within
 
-client_is_text : IsUtf8 (codes "client")
+talk_is_text : (input : TalkInput) → IsUtf8 (talk_word input)
 unfolding lib.Utf8.encode
-client_is_text = (codes "client", (refl, refl))
+talk_is_text RequestLines = (codes "client", (refl, refl))
+talk_is_text PeerBundle = (codes "import", (refl, refl))
 
-client_words_are_texts : (address : List ℕ) → IsAddress address → All IsUtf8 (client_words address)
-client_words_are_texts address is =
-    All-cons IsUtf8 (codes "client") (address ∷ []) client_is_text (All-cons IsUtf8 address [] (address_is_text address is) (All-nil IsUtf8))
+talk_words_are_texts : (input : TalkInput) (address : List ℕ) → IsAddress address → All IsUtf8 (talk_words input address)
+talk_words_are_texts input address is =
+    All-cons IsUtf8 (talk_word input) (address ∷ []) (talk_is_text input) (All-cons IsUtf8 address [] (address_is_text address is) (All-nil IsUtf8))
+
+export_is_text : IsUtf8 (codes "export")
+unfolding lib.Utf8.encode
+export_is_text = (codes "export", (refl, refl))
+
+export_words_are_texts : (name : List ℕ) → IsName name → All IsUtf8 (export_words name)
+export_words_are_texts name is =
+    All-cons IsUtf8 (codes "export") (name ∷ []) export_is_text (All-cons IsUtf8 name [] (name_is_text name is) (All-nil IsUtf8))
 
 -- words that are not all texts are not those of a command
 pub not_command : (words : List (List ℕ)) → (All IsUtf8 words → ⊥) → IsCommand words → ⊥
-not_command words n (inl (command, within, e)) = n (rw e (plain_is_text command within))
+not_command words n (inl (inl (command, within, e))) = n (rw e (plain_is_text command within))
+not_command words n (inl (inr (name, is, e))) = n (rw e (export_words_are_texts name is))
 not_command words n (inr (inl (address, workers, sessions, within, e))) = n (rw e (serve_words_are_texts address workers sessions within))
-not_command words n (inr (inr (address, is, e))) = n (rw e (client_words_are_texts address is))
+not_command words n (inr (inr (input, address, is, e))) = n (rw e (talk_words_are_texts input address is))
 
 -- one word is the list of its texts
 pub one_word : {A : Type 0} (f : A → List ℕ) (due : List ℕ) (ws rest : List A) (w : A) (b : Bool) → ws ≡ w ∷ rest → (length rest == 0) ≡ true

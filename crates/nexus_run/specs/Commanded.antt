@@ -1,11 +1,13 @@
--- How a run of a command ends that is neither a service nor a client.
+-- How a run of a command ends that is neither a service nor a talk.
 use Rattle.std.specs.Prelude.{◌≡◌, ℕ, List, Option}
+use Rattle.nal_term.specs.Names.{IsName}
 use Rattle.policy_history.specs.Values.{History}
 use Rattle.run_streams.specs.Runs.{SinkRun, SourceRun}
-use Rattle.nexus_run.specs.Commands.{IsDrill, IsLoad, audit_words, check_words, core_words, drill_words, explain_words, prove_words, recover_words, script_words, trust_words}
+use Rattle.nexus_run.specs.Commands.{IsDrill, IsLoad, audit_words, check_words, core_words, drill_words, explain_words, export_words, prove_words, recover_words, script_words, trust_words}
 use Rattle.nexus_run.specs.LoadRuns.{RunsCore, RunsDrill}
 use Rattle.answer_commands.specs.Audits.{RunsAudit}
 use Rattle.answer_commands.specs.Explains.{RunsExplain}
+use Rattle.answer_commands.specs.Exports.{RunsExport}
 use Rattle.answer_commands.specs.CheckRuns.{RunsCheck}
 use Rattle.answer_commands.specs.Proves.{RunsProve}
 use Rattle.answer_commands.specs.Recovers.{RunsRecover}
@@ -21,5 +23,6 @@ pub record RunsCommand (words : List (List ℕ)) (source : SourceRun) (sink : Si
   pub audit : words ≡ audit_words → RunsAudit source sink status
   pub explain : words ≡ explain_words → RunsExplain source sink status
   pub recover : words ≡ recover_words → RunsRecover source sink status
+  pub export : (name : List ℕ) → words ≡ export_words name → IsName name → RunsExport name source sink status
   pub core : (number steps : ℕ) → words ≡ core_words number steps → IsLoad number steps → RunsCore number steps sink status
   pub drill : (number workers calls : ℕ) → words ≡ drill_words number workers calls → IsDrill number workers calls → RunsDrill number workers calls sink status

@@ -1,6 +1,9 @@
 -- The words by which commands are called.
-use Rattle.std.specs.Prelude.{◌≡◌, ◌≢◌, ◌<◌, ◌≤◌, ◌^◌, ◌⊎◌, ℕ, List, [], ◌∷◌, codes}
+use Rattle.std.specs.Prelude.{◌≡◌, ◌<◌, ◌≤◌, ◌^◌, ◌⊎◌, ℕ, List, [], ◌∷◌, codes}
 use Rattle.std.specs.Fmt.{decimal}
+use Rattle.nal_term.specs.Names.{IsName}
+use Rattle.nexus_client.specs.declared.inputs.TalkInput.{TalkInput}
+use Rattle.nexus_client.specs.declared.inputs.TalkInput.TheVariants.{RequestLines, PeerBundle}
 use Rattle.service_commands.specs.Services.{IsAddress, IsService}
 use Rattle.nexus_run.specs.declared.commands.Command.{Command}
 use Rattle.nexus_run.specs.declared.commands.Command.TheVariants.{Check, Script, Core, Trust, Prove, Audit, Explain, Recover, Drill}
@@ -67,9 +70,21 @@ IsWithin (Core number steps) = IsLoad number steps
 IsWithin (Drill number workers calls) = IsDrill number workers calls
 IsWithin _ = Unit {0}
 
--- the words are those of a command, but not of a service or a client
+-- the words are those of a command that they name alone, or with numbers
+abbrev pub IsNamed : List (List ℕ) → Type 0
+IsNamed words = (command : Command) × IsWithin command × (words ≡ command_words command)
+
+-- whose labels are exported
+abbrev pub export_words : List ℕ → List (List ℕ)
+export_words name = codes "export" ∷ name ∷ []
+
+-- the words are those of an export
+abbrev pub IsExportCall : List (List ℕ) → Type 0
+IsExportCall words = (name : List ℕ) × IsName name × (words ≡ export_words name)
+
+-- the words are those of a command, but not of a service or a talk
 abbrev pub IsPlain : List (List ℕ) → Type 0
-IsPlain words = (command : Command) × IsWithin command × (words ≡ command_words command)
+IsPlain words = IsNamed words ⊎ IsExportCall words
 
 -- where a service listens, how many workers it has, and how many sessions each of them serves
 abbrev pub serve_words : List ℕ → ℕ → ℕ → List (List ℕ)
@@ -79,14 +94,19 @@ serve_words address workers sessions = codes "serve" ∷ address ∷ decimal wor
 abbrev pub IsServiceCall : List (List ℕ) → Type 0
 IsServiceCall words = (address : List ℕ) × (workers : ℕ) × (sessions : ℕ) × IsService address workers sessions × (words ≡ serve_words address workers sessions)
 
--- where the service is that a client talks to
-abbrev pub client_words : List ℕ → List (List ℕ)
-client_words address = codes "client" ∷ address ∷ []
+-- the word of a talk whose input is this
+abbrev pub talk_word : TalkInput → List ℕ
+talk_word RequestLines = codes "client"
+talk_word PeerBundle = codes "import"
 
--- the words are those of a client
-abbrev pub IsClientCall : List (List ℕ) → Type 0
-IsClientCall words = (address : List ℕ) × IsAddress address × (words ≡ client_words address)
+-- what the input of a talk is, and where the service is that is talked to
+abbrev pub talk_words : TalkInput → List ℕ → List (List ℕ)
+talk_words input address = talk_word input ∷ address ∷ []
+
+-- the words are those of a talk
+abbrev pub IsTalkCall : List (List ℕ) → Type 0
+IsTalkCall words = (input : TalkInput) × (address : List ℕ) × IsAddress address × (words ≡ talk_words input address)
 
 -- the words are those of a command
 abbrev pub IsCommand : List (List ℕ) → Type 0
-IsCommand words = IsPlain words ⊎ IsServiceCall words ⊎ IsClientCall words
+IsCommand words = IsPlain words ⊎ IsServiceCall words ⊎ IsTalkCall words

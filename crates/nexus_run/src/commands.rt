@@ -1,10 +1,13 @@
 //! The words by which commands are called.
 ghost use Rattle.std.specs.Prelude.{◌≡◌, ◌≢◌, ◌↔◌, ◌<◌, ◌≤◌, ◌^◌, ◌∷◌, [], ℕ, List, IsTrue, MatchOption, map};
-ghost use Rattle.nexus_run.specs.Commands.{IsClientCall, IsDrill, IsLoad, IsPlain, IsWithin, client_words, command_words, core_words, drill_words, most_steps, serve_words};
+ghost use Rattle.nal_term.specs.Names.{IsName};
+ghost use Rattle.nexus_client.specs.declared.inputs.TalkInput.{TalkInput};
+ghost use Rattle.nexus_run.specs.Commands.{IsDrill, IsExportCall, IsLoad, IsNamed, IsTalkCall, IsWithin, command_words, core_words, drill_words, export_words, most_steps, serve_words, talk_word, talk_words};
 ghost use Rattle.service_commands.specs.Services.{IsAddress, IsService};
 
-use nal_term::is_secret;
-use service_commands::Service;
+use nal_term::{is_name, is_secret};
+use nexus_client::TalkInput;
+use service_commands::{Service, TalkCall};
 use text_lines::read_number;
 
 /// How many steps a load of `core` has at most.
@@ -19,7 +22,7 @@ const MOST_CALLS: u64 = 4000;
 /// How many sessions a worker serves at most.
 const MOST_SESSIONS: u64 = 65_536;
 
-/// What the program can be asked to do, but for a service.
+/// What the program can be asked to do by one word, or by one and numbers.
 #[derive(Clone, Copy, Debug, PartialEq, Eq)]
 pub enum Command {
     /// Checks one proof.
@@ -74,16 +77,45 @@ pub fn service_of<'a>(words: &'a [&'a str]) -> Option<Service<'a>>
     }
 }
 
-/// The address of the service that a client is to talk to, by these words. None exactly where they are not those of a client.
-/// `docs/FORMATS.md`, "Commands", states them.
-pub fn client_of<'a>(words: &'a [&'a str]) -> Option<&'a [u8]>
-    ensures { MatchOption result (¬ IsClientCall (map (λ w. w.now) words.now))
-        (λ address. IsAddress address.now × (map (λ w. w.now) words.now ≡ client_words address.now)) }
+/// The talk that is called by these words. None exactly where they are those of none. `docs/FORMATS.md`, "Commands", states them.
+pub fn talk_of<'a>(words: &'a [&'a str]) -> Option<TalkCall<'a>>
+    ensures { MatchOption result (¬ IsTalkCall (map (λ w. w.now) words.now))
+        (λ call. IsAddress call.address.now × (map (λ w. w.now) words.now ≡ talk_words call.input call.address.now)) }
 {
     let (word, address) = two(words)?;
+    let input = talk_input(word)?;
     let address = address.as_bytes();
-    if is_same(word, "client") && is_address(address) {
-        Some(address)
+    if is_address(address) {
+        Some(TalkCall { input, address })
+    } else {
+        None
+    }
+}
+
+/// What the input of a talk is that has this word. None exactly where it is the word of none.
+fn talk_input(word: &str) -> Option<TalkInput>
+    ensures { MatchOption result ((input : TalkInput) → word.now ≢ talk_word input)
+        (λ input. word.now ≡ talk_word input) }
+{
+    if is_same(word, "client") {
+        Some(TalkInput::RequestLines)
+    } else if is_same(word, "import") {
+        Some(TalkInput::PeerBundle)
+    } else {
+        None
+    }
+}
+
+/// The name of the principal whose labels are exported, by these words. None exactly where they are not those of an export.
+/// `docs/FORMATS.md`, "Commands", states them.
+pub fn export_of<'a>(words: &'a [&'a str]) -> Option<&'a [u8]>
+    ensures { MatchOption result (¬ IsExportCall (map (λ w. w.now) words.now))
+        (λ name. IsName name.now × (map (λ w. w.now) words.now ≡ export_words name.now)) }
+{
+    let (word, name) = two(words)?;
+    let name = name.as_bytes();
+    if is_same(word, "export") && is_name(name) {
+        Some(name)
     } else {
         None
     }
@@ -119,10 +151,10 @@ fn is_address(word: &[u8]) -> bool
     is_secret(word) && word != b"help".as_slice() && word.first() != Some(&b'-')
 }
 
-/// The command that is called by these words, if they are not those of a service. None exactly where they are those of none.
+/// The command that these words name alone, or with numbers. None exactly where they name none.
 /// `docs/FORMATS.md`, "Commands", lists them.
 pub fn command_of(words: &[&str]) -> Option<Command>
-    ensures { MatchOption result (¬ IsPlain (map (λ w. w.now) words.now)) (λ command. IsWithin command × (map (λ w. w.now) words.now ≡ command_words command)) }
+    ensures { MatchOption result (¬ IsNamed (map (λ w. w.now) words.now)) (λ command. IsWithin command × (map (λ w. w.now) words.now ≡ command_words command)) }
 {
     if is_word(words, "check") {
         Some(Command::Check)

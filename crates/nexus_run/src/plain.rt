@@ -1,4 +1,4 @@
-//! The commands that are neither a service nor a client.
+//! The commands that are neither a service nor a talk.
 ghost use Rattle.std.specs.Prelude.{◌≡◌, ◌≢◌, ◌⊎◌, ℕ, None, map};
 ghost use Rattle.nx_io.specs.Streams.{Gave, Grows, gained};
 ghost use Rattle.run_streams.specs.Runs.{sink_run, source_run};
@@ -6,9 +6,9 @@ ghost use Rattle.nexus_run.specs.Commanded.{RunsCommand};
 ghost use Rattle.nexus_run.specs.Commands.{IsPlain, core_words, drill_words, script_words};
 ghost use Rattle.script_command.specs.Scripts.{panel_run};
 
-use crate::commands::{Command, command_of};
+use crate::commands::{Command, command_of, export_of};
 use crate::load::{drill, load};
-use answer_commands::{Found, Recovered, answer_input, check};
+use answer_commands::{Found, Recovered, answer_input, check, export};
 use audit_form::Told;
 use authority_ask::Panel;
 use explain_form::ExplanationText;
@@ -21,17 +21,18 @@ use std::sync::Wait;
 use std::thread::Threads;
 use trust_check::Trust;
 
-/// Runs a command that is neither a service nor a client: `check` reads one input from the source and writes its
+/// Runs a command that is neither a service nor a talk: `check` reads one input from the source and writes its
 /// outcome to the sink; `script` reads a policy and the requests of sessions, answers each, and writes the replies and
 /// then the policy as they left it; `trust` reads what an owner assumes and a goal, and writes whether the untrusted
 /// can reach it; `prove` reads labels and a goal, and writes a proof by a chain of delegations; `audit` reads a policy
 /// text and recorded verdicts, and writes whether each is right; `explain` reads a policy text and a call, and writes
-/// its verdict and what that comes from; `recover` reads a policy text that may be cut, and writes it whole; `core`
-/// reads nothing, and writes the line of a generated load; and so does `drill`, whose load runs on threads.
+/// its verdict and what that comes from; `recover` reads a policy text that may be cut, and writes it whole; `export`
+/// reads a policy text, and writes the bundle of the labels that a principal holds; `core` reads nothing, and writes
+/// the line of a generated load; and so does `drill`, whose load runs on threads.
 ///
 /// The status is 0 where all was done (of `check` at `allowed`, of `trust` at `safe`, of `explain` at `allowed`, of
 /// `prove` at a proof, of `audit` where each record is right), 1 at `denied`, where a goal is not safe, where there is
-/// no chain and where a record is wrong, 2 where the words are not those of a command, which then reads and writes
+/// no chain, where a record is wrong and where there is no principal to export, 2 where the words are not those of a command, which then reads and writes
 /// nothing, 3 where the input is refused, 4 where the source failed, 5 where the sink failed, 6 where memory ran out,
 /// and 8 where an authority could not be reached. At 4, 6 and 8 nothing was written, and at 5 a proper part of what was
 /// to be. `docs/FORMATS.md`, "Statuses", states this.
@@ -64,6 +65,13 @@ where
     ensures drill_reads_nothing { (number workers calls : ℕ) → map (λ w. w.now) words.now ≡ drill_words number workers calls → input.new ≡ input.old }
     ensures other_panel { map (λ w. w.now) words.now ≢ script_words → (result.panel ≡ panel) × (result.journal ≡ None) }
 {
+    if let Some(name) = export_of(words) {
+        return PlainEnd {
+            status: export(alloc, name, input, output),
+            journal: None,
+            panel,
+        };
+    }
     match command_of(words) {
         None => PlainEnd {
             status: 2,
@@ -77,27 +85,27 @@ where
         },
         Some(Command::Script) => script(rt, alloc, input, output, panel),
         Some(Command::Trust) => PlainEnd {
-            status: answer_input::<Trust, S, K>(alloc, input, output),
+            status: answer_input::<Trust, S, K>(alloc, &(), input, output),
             journal: None,
             panel,
         },
         Some(Command::Prove) => PlainEnd {
-            status: answer_input::<Found, S, K>(alloc, input, output),
+            status: answer_input::<Found, S, K>(alloc, &(), input, output),
             journal: None,
             panel,
         },
         Some(Command::Audit) => PlainEnd {
-            status: answer_input::<Told, S, K>(alloc, input, output),
+            status: answer_input::<Told, S, K>(alloc, &(), input, output),
             journal: None,
             panel,
         },
         Some(Command::Explain) => PlainEnd {
-            status: answer_input::<ExplanationText, S, K>(alloc, input, output),
+            status: answer_input::<ExplanationText, S, K>(alloc, &(), input, output),
             journal: None,
             panel,
         },
         Some(Command::Recover) => PlainEnd {
-            status: answer_input::<Recovered, S, K>(alloc, input, output),
+            status: answer_input::<Recovered, S, K>(alloc, &(), input, output),
             journal: None,
             panel,
         },

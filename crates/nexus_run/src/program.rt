@@ -7,17 +7,18 @@ ghost use Rattle.policy_history.specs.Values.{entry_trees};
 ghost use Rattle.nexus_serve.specs.Services.{IsJournal};
 ghost use Rattle.nexus_serve.specs.TrueReports.{AreTrue};
 ghost use Rattle.nexus_serve.specs.Views.{door_view, link_view, panel_view, report_view};
+ghost use Rattle.nexus_client.specs.declared.inputs.TalkInput.{TalkInput};
 ghost use Rattle.service_commands.specs.Clients.{EndsClient, RunsClient};
 ghost use Rattle.nexus_run.specs.Commanded.{RunsCommand};
-ghost use Rattle.nexus_run.specs.Commands.{IsClientCall, IsCommand, IsServiceCall, client_words, core_words, drill_words, script_words, serve_words};
+ghost use Rattle.nexus_run.specs.Commands.{IsCommand, IsServiceCall, IsTalkCall, core_words, drill_words, script_words, serve_words, talk_words};
 ghost use Rattle.service_commands.specs.Services.{IsAddress, IsService, HandsBack, RunsService};
 ghost use Rattle.script_command.specs.Scripts.{panel_run};
 
-use crate::commands::{client_of, service_of};
+use crate::commands::{service_of, talk_of};
 use crate::plain::run_plain;
 use authority_ask::Panel;
 use nx_io::{Door, Gate, Link, Sink, Source};
-use service_commands::{ClientEnd, Ended, client, run_service};
+use service_commands::{ClientEnd, Ended, TalkCall, client, run_service};
 use std::alloc::Global;
 use std::net::{Net, TcpListener, TcpStream};
 use std::rt::Clock;
@@ -29,21 +30,22 @@ use std::thread::Threads;
 /// `trust` reads what an owner assumes and a goal, and writes whether the untrusted can reach it; `prove` reads labels
 /// and a goal, and writes a proof by a chain of delegations; `audit` reads a policy text and recorded verdicts, and
 /// writes whether each is right; `explain` reads a policy text and a call, and writes its verdict and what that comes
-/// from; `recover` reads a policy text that may be cut, and writes it whole; `core` and `drill` read nothing, and write
-/// the line of a generated load, which `drill` runs on threads; `client` reads request lines, sends each over a link to
-/// an address, and writes the line of its reply before the next is sent; `serve` reads a policy, listens at an address,
+/// from; `recover` reads a policy text that may be cut, and writes it whole; `export` reads a policy text, and writes
+/// the bundle of the labels that a principal holds; `core` and `drill` read nothing, and write the line of a generated
+/// load, which `drill` runs on threads; `client` reads request lines, sends each over a link to an address, and writes
+/// the line of its reply before the next is sent, and so does `import` for a bundle that a peer says; `serve` reads a policy, listens at an address,
 /// serves the sessions of its workers, and writes the policy text as the journal grows.
 ///
 /// The status is 0 where all was done (of `check` at `allowed`, of `trust` at `safe`, of `explain` at `allowed`, of
 /// `prove` at a proof, of `audit` where each record is right), 1 at `denied`, where a goal is not safe, where there is
-/// no chain and where a record is wrong, 2 where the words are not those of a command, which then reads and writes
+/// no chain, where a record is wrong and where there is no principal to export, 2 where the words are not those of a command, which then reads and writes
 /// nothing, 3 where the input is refused, 4 where the source failed, 5 where the sink failed, 6 where memory ran out, 7
-/// where the door or a share of it failed, or the link of a client, 8 where an authority could not be reached, and 9
-/// where the link of a client ended before a whole reply or gave what is no reply. `docs/FORMATS.md`, "Statuses",
+/// where the door or a share of it failed, or the link of a talk, 8 where an authority could not be reached, and 9
+/// where the link of a talk ended before a whole reply or gave what is no reply. `docs/FORMATS.md`, "Statuses",
 /// states this.
 ///
 /// The input is what the source gives in this call. It is read to its first end, unless it is too large. Door and panel
-/// are handed back; only `serve` and `client` use the door, and only `script` and `serve` the panel.
+/// are handed back; only `serve`, `client` and `import` use the door, and only `script` and `serve` the panel.
 pub fn run<R, S: Source, K, D, P, G>(
     rt: &R,
     alloc: Global,
@@ -76,7 +78,7 @@ where
         result.journal result.status) }
     ensures core_reads_nothing { (number steps : ℕ) → map (λ w. w.now) words.now ≡ core_words number steps → input.new ≡ input.old }
     ensures drill_reads_nothing { (number workers calls : ℕ) → map (λ w. w.now) words.now ≡ drill_words number workers calls → input.new ≡ input.old }
-    ensures client { (address : List ℕ) → map (λ w. w.now) words.now ≡ client_words address → IsAddress address → HandsBack result.output (λ k. RunsClient address
+    ensures talk { (talk : TalkInput) (address : List ℕ) → map (λ w. w.now) words.now ≡ talk_words talk address → IsAddress address → HandsBack result.output (λ k. RunsClient talk address
         (source_run (S.left input.old) (S.given input.old) (S.given input.new) (S.over input.new) (S.faults input.old) (S.faults input.new))
         (sink_run (K.sent output) (K.sent k) (K.faults output) (K.faults k))
         (door_view (link_view D.Link.left D.Link.taken D.Link.sent D.Link.over D.Link.closed D.Link.place D.Link.toward D.Link.faults) D.links D.over D.gave D.listened D.faults door)
@@ -99,16 +101,16 @@ where
         }) }
     ensures earned { (h : Head) (es : List Entry) → IsJournal result.journal h es → (low : ℕ) × AreTrue h (entry_trees es) low
         (map (report_view (link_view D.Link.left D.Link.taken D.Link.sent D.Link.over D.Link.closed D.Link.place D.Link.toward D.Link.faults)) result.reports.items) }
-    ensures other_door { ¬ IsServiceCall (map (λ w. w.now) words.now) → ¬ IsClientCall (map (λ w. w.now) words.now) → result.door ≡ door }
+    ensures other_door { ¬ IsServiceCall (map (λ w. w.now) words.now) → ¬ IsTalkCall (map (λ w. w.now) words.now) → result.door ≡ door }
     ensures unshared { ¬ IsServiceCall (map (λ w. w.now) words.now) → (result.reports.items ≡ []) × (result.doors.items ≡ []) × (result.panels.items ≡ []) }
     ensures other_panel { map (λ w. w.now) words.now ≢ script_words → ¬ IsServiceCall (map (λ w. w.now) words.now) → (result.panel ≡ panel) × (result.journal ≡ None) }
-    ensures dialed { ¬ IsClientCall (map (λ w. w.now) words.now) → result.dialed ≡ None }
+    ensures dialed { ¬ IsTalkCall (map (λ w. w.now) words.now) → result.dialed ≡ None }
 {
     if let Some(service) = service_of(words) {
         return run_service(rt, alloc, service, input, output, door, panel, gate);
     }
-    match client_of(words) {
-        Some(address) => run_client(rt, alloc, address, input, output, door, panel),
+    match talk_of(words) {
+        Some(call) => run_talk(rt, alloc, call, input, output, door, panel),
         None => {
             let mut output = output;
             let end = run_plain(rt, alloc, words, input, &mut output, panel);
@@ -127,13 +129,13 @@ where
     }
 }
 
-/// Runs a client, which needs the source, the sink and the door. It stands apart, so that the other commands have no room on the stack
+/// Runs a talk, which needs the source, the sink and the door. It stands apart, so that the other commands have no room on the stack
 /// for a talk.
 #[inline(never)]
-fn run_client<R, S: Source, K: Sink + Drop, D: Door + Drop, P: Panel + Drop>(
+fn run_talk<R, S: Source, K: Sink + Drop, D: Door + Drop, P: Panel + Drop>(
     rt: &R,
     alloc: Global,
-    address: &[u8],
+    call: TalkCall<'_>,
     input: &mut S,
     output: K,
     door: D,
@@ -146,7 +148,7 @@ where
     ensures sent { HandsBack result.output (λ k. Grows (K.sent output) (K.sent k)) }
     ensures untouched { result.dialed ≡ None → (result.status ≡ 4) ⊎ (result.status ≡ 6) → HandsBack result.output (λ k. k ≡ output) }
     ensures undialed { result.dialed ≡ None → result.status ≢ 7 → result.door ≡ door }
-    ensures client { HandsBack result.output (λ k. EndsClient address.now
+    ensures talk { HandsBack result.output (λ k. EndsClient call.entry.input call.entry.address.now
         (source_run (S.left input.old) (S.given input.old) (S.given input.new) (S.over input.new) (S.faults input.old) (S.faults input.new))
         (sink_run (K.sent output) (K.sent k) (K.faults output) (K.faults k))
         (door_view (link_view D.Link.left D.Link.taken D.Link.sent D.Link.over D.Link.closed D.Link.place D.Link.toward D.Link.faults) D.links D.over D.gave D.listened D.faults door)
@@ -157,7 +159,7 @@ where
 {
     let mut output = output;
     let mut door = door;
-    let ClientEnd { status, dialed } = client(rt, alloc, address, input, &mut output, &mut door);
+    let ClientEnd { status, dialed } = client(rt, alloc, call, input, &mut output, &mut door);
     Ended {
         status,
         output: Some(output),

@@ -9,9 +9,10 @@ ghost use Rattle.nexus_serve.specs.Services.{IsJournal};
 ghost use Rattle.nexus_serve.specs.TrueReports.{AreTrue};
 ghost use Rattle.nexus_serve.specs.Views.{door_view, link_view, panel_view, report_view};
 ghost use Rattle.nexus_run.specs.Arguments.{words_of_call};
+ghost use Rattle.nexus_client.specs.declared.inputs.TalkInput.{TalkInput};
 ghost use Rattle.service_commands.specs.Clients.{RunsClient};
 ghost use Rattle.nexus_run.specs.Commanded.{RunsCommand};
-ghost use Rattle.nexus_run.specs.Commands.{IsClientCall, IsCommand, IsServiceCall, client_words, core_words, drill_words, script_words, serve_words};
+ghost use Rattle.nexus_run.specs.Commands.{IsCommand, IsServiceCall, IsTalkCall, core_words, drill_words, script_words, serve_words, talk_words};
 ghost use Rattle.service_commands.specs.Services.{IsAddress, IsService, HandsBack, RunsService};
 ghost use Rattle.script_command.specs.Scripts.{panel_run};
 
@@ -78,7 +79,7 @@ where
         result.journal (exit_status result.code)) }
     ensures core_reads_nothing { (number steps : ℕ) → words_of_call (gained (A.told arguments.old) (A.told arguments.new)) ≡ core_words number steps → input.new ≡ input.old }
     ensures drill_reads_nothing { (number workers calls : ℕ) → words_of_call (gained (A.told arguments.old) (A.told arguments.new)) ≡ drill_words number workers calls → input.new ≡ input.old }
-    ensures client { (address : List ℕ) → words_of_call (gained (A.told arguments.old) (A.told arguments.new)) ≡ client_words address → IsAddress address → HandsBack result.output (λ k. RunsClient address
+    ensures talk { (talk : TalkInput) (address : List ℕ) → words_of_call (gained (A.told arguments.old) (A.told arguments.new)) ≡ talk_words talk address → IsAddress address → HandsBack result.output (λ k. RunsClient talk address
         (source_run (S.left input.old) (S.given input.old) (S.given input.new) (S.over input.new) (S.faults input.old) (S.faults input.new))
         (sink_run (K.sent output) (K.sent k) (K.faults output) (K.faults k))
         (door_view (link_view D.Link.left D.Link.taken D.Link.sent D.Link.over D.Link.closed D.Link.place D.Link.toward D.Link.faults) D.links D.over D.gave D.listened D.faults door)
@@ -101,10 +102,10 @@ where
         }) }
     ensures earned { (h : Head) (es : List Entry) → IsJournal result.journal h es → (low : ℕ) × AreTrue h (entry_trees es) low
         (map (report_view (link_view D.Link.left D.Link.taken D.Link.sent D.Link.over D.Link.closed D.Link.place D.Link.toward D.Link.faults)) result.reports.items) }
-    ensures other_door { ¬ IsServiceCall (words_of_call (gained (A.told arguments.old) (A.told arguments.new))) → ¬ IsClientCall (words_of_call (gained (A.told arguments.old) (A.told arguments.new))) → result.door ≡ door }
+    ensures other_door { ¬ IsServiceCall (words_of_call (gained (A.told arguments.old) (A.told arguments.new))) → ¬ IsTalkCall (words_of_call (gained (A.told arguments.old) (A.told arguments.new))) → result.door ≡ door }
     ensures unshared { ¬ IsServiceCall (words_of_call (gained (A.told arguments.old) (A.told arguments.new))) → (result.reports.items ≡ []) × (result.doors.items ≡ []) × (result.panels.items ≡ []) }
     ensures other_panel { words_of_call (gained (A.told arguments.old) (A.told arguments.new)) ≢ script_words → ¬ IsServiceCall (words_of_call (gained (A.told arguments.old) (A.told arguments.new))) → (result.panel ≡ panel) × (result.journal ≡ None) }
-    ensures dialed { ¬ IsClientCall (words_of_call (gained (A.told arguments.old) (A.told arguments.new))) → result.dialed ≡ None }
+    ensures dialed { ¬ IsTalkCall (words_of_call (gained (A.told arguments.old) (A.told arguments.new))) → result.dialed ≡ None }
 {
     let Ok(words) = words_of_call(alloc, arguments) else {
         return stopped(alloc, 6, output, door, panel);

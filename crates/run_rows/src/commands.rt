@@ -117,6 +117,21 @@ fn records_are_audited(rt: HostRuntime) -> Result<(), AllocError> {
     play(&rt, rt.alloc(), &["audit"], pieces(7, 3), AUDITS)
 }
 
+// A policy in which alice says one label, and what else she comes to hold; inputs that are no policy.
+const EXPORTS: &str =
+    "nexus 2|principal alice pa|1 alice object f|1 alice goal read f : alice says ok|1 alice say alice : ok|\
+    1 alice proof read f : proof 2 ; 1 label : alice says ok ; end|end| -> 0 none:nexus bundle 1|label alice says ok|end|
+nexus 2|principal alice pa|principal bob pb|1 bob say bob : p(1)|1 bob say bob : q|1 bob transfer 2 alice|1 alice say alice : p  and (q)|end| -> 0 none:nexus bundle 1|label bob says q|label alice says (p and q)|end|
+nexus 2|principal alice pa|1 alice say alice : ok|1 alice delete 1|end| -> 0 none:nexus bundle 1|end|
+nexus 2|principal bob pb|end| -> 1 none:no principal|
+nexus 2|principal alice pa|1 alice say alice : ok| -> 3 none:refused line 4|
+nexus 2|principal alice pa|1 alice say bob : ok|end| -> 3 none:refused line 3|";
+
+#[test]
+fn labels_are_exported(rt: HostRuntime) -> Result<(), AllocError> {
+    play(&rt, rt.alloc(), &["export", "alice"], pieces(7, 3), EXPORTS)
+}
+
 // Each row is words, ` -> ` and what comes of a run with them.
 fn play_words<R>(rt: &R, alloc: Global, rows: &str) -> Result<(), AllocError>
 where
@@ -151,6 +166,9 @@ script script -> 2 all:
 check script -> 2 all:
 trust trust -> 2 all:
 audit audit -> 2 all:
+export -> 2 all:
+export says -> 2 all:
+export alice bob -> 2 all:
 drill 0 0 1 -> 2 all:
 drill 0 65 1 -> 2 all:
 drill 0 1 0 -> 2 all:

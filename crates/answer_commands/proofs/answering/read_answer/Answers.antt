@@ -12,7 +12,7 @@ pub returns-in-Ok-of-clause-ok : goal.returns-in-Ok-of-clause-ok
 returns-in-Ok-of-clause-ok g c =
     let read = c.in-Ok.ensures.whole in
     let few = rw (← c.as_slice.ensures.value) at read.0 in
-    let given = answer_given {command = answering (form_of g.A.Answer.formed g.A.Answer.wrong) g.A.Answer.told g.A.Answer.written g.A.Answer.ends} _ (g.S.Source.left c.read_whole.new.source) c.in-Ok-of.answer c.as_slice.result.now c.read_whole.ensures.gave.taken (rw (← c.as_slice.ensures.value) at read.1) read.2 read.3 few c.in-Ok-of.ensures.formed c.in-Ok-of.ensures.told in
+    let given = answer_given {command = answering (form_of g.A.Answer.formed g.A.Answer.wrong) (g.A.Answer.told c.args.about.now) g.A.Answer.written g.A.Answer.ends} _ (g.S.Source.left c.read_whole.new.source) c.in-Ok-of.answer c.as_slice.result.now c.read_whole.ensures.gave.taken (rw (← c.as_slice.ensures.value) at read.1) read.2 read.3 few c.in-Ok-of.ensures.formed c.in-Ok-of.ensures.told in
     given
 
 pub returns-in-Err-Wrong-clause-err : goal.returns-in-Err-Wrong-clause-err

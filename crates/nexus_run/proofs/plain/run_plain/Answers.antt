@@ -2,13 +2,16 @@ use Rattle.std.specs.Prelude.{option_map}
 use Rattle.policy_history.specs.Values.{entry_trees}
 use Rattle.proof_lines.specs.Lines.{line_trees}
 use Rattle.answer_commands.proofs.ForCallers.{runs_as, runs_check}
-use Rattle.nexus_run.proofs.Commanded.{audit_commanded, check_commanded, core_commanded, drill_commanded, explain_commanded, none_commanded, prove_commanded, recover_commanded, script_commanded, trust_commanded}
+use Rattle.nexus_run.proofs.Commanded.{audit_commanded, check_commanded, core_commanded, drill_commanded, explain_commanded, export_commanded, none_commanded, not_plain, prove_commanded, recover_commanded, script_commanded, trust_commanded}
 use Rattle.nexus_run.proofs.LoadEnds.{runs_load}
 use Rattle.script_command.proofs.ForCallers.{runs_script}
 use Rattle.nexus_run.proofs.plain.run_plain.Goals as goal
 
+pub returns-in-Some-clause-command : goal.returns-in-Some-clause-command
+returns-in-Some-clause-command g c = export_commanded c.in-Some.name.now c.in-Some.ensures.1 c.export.ensures.runs
+
 pub returns-in-None-clause-command : goal.returns-in-None-clause-command
-returns-in-None-clause-command g c = none_commanded c.in-None.ensures
+returns-in-None-clause-command g c = none_commanded (not_plain c.in-None.ensures c.in_default.ensures)
 
 pub returns-in-Some-Check-clause-command : goal.returns-in-Some-Check-clause-command
 returns-in-Some-Check-clause-command g c = check_commanded (rw c.in-Some-Check.field-0-is at c.in-Some-Check.ensures).1 (runs_check c.check.ensures.ends)

@@ -1,8 +1,9 @@
 use Rattle.std.proofs.Common.{inl, inr, sym, ◌∙◌}
-use Rattle.nexus_run.proofs.ClientCalls.{client_not_plain, client_same, handed}
+use Rattle.nexus_run.proofs.ClientCalls.{handed, talk_not_plain, talk_same}
 use Rattle.service_commands.proofs.ForCallers.{runs_client, runs_service}
 use Rattle.nexus_run.proofs.Commanded.{none_commanded}
-use Rattle.nexus_run.proofs.TrueRuns.{no_report_true, service_true}
+use Rattle.nexus_run.proofs.ServiceAsks.{service_unasked}
+use Rattle.nexus_run.proofs.TrueRuns.{service_true}
 use Rattle.nexus_run.proofs.Words.{serve_same}
 use Rattle.nexus_run.proofs.program.run.Goals as goal
 
@@ -13,24 +14,33 @@ returns-in-Some-clause-serve g c =
     let same = serve_same address workers sessions c.in-Some.service.address.now c.in-Some.service.workers c.in-Some.service.sessions within mine.0 (sym words ∙ mine.1) in
     rw (same.0, same.1, same.2) (runs_service _ _ _ _ _ _ _ c.run_service.ensures.ends)
 
-pub returns-in-Some-client_of-clause-other_words : goal.returns-in-Some-client_of-clause-other_words
-returns-in-Some-client_of-clause-other_words g c =
-    let mine = c.in-Some-client_of.ensures in
-    λ none. absurd (none (inr (inr (c.in-Some-client_of.address.now, mine.0, mine.1))))
+pub returns-in-Some-clause-other_words : goal.returns-in-Some-clause-other_words
+returns-in-Some-clause-other_words g c =
+    let mine = c.in-Some.ensures in
+    λ none. absurd (none (inr (inl (c.in-Some.service.address.now, c.in-Some.service.workers, c.in-Some.service.sessions, mine.0, mine.1))))
 
-pub returns-in-Some-client_of-clause-command : goal.returns-in-Some-client_of-clause-command
-returns-in-Some-client_of-clause-command g c =
-    let mine = c.in-Some-client_of.ensures in
-    λ plain. handed c.run_client.result.output (λ k ends. none_commanded (client_not_plain mine.1)) c.run_client.ensures.client
+pub returns-in-Some-clause-said : goal.returns-in-Some-clause-said
+returns-in-Some-clause-said g c = service_unasked c.run_service.ensures.ends
 
-pub returns-in-Some-client_of-clause-client : goal.returns-in-Some-client_of-clause-client
-returns-in-Some-client_of-clause-client g c =
-    let mine = c.in-Some-client_of.ensures in
-    λ address words is.
-    rw (client_same (sym words ∙ mine.1)) (handed c.run_client.result.output (λ k ends. runs_client ends) c.run_client.ensures.client)
+pub returns-in-Some-talk_of-clause-other_words : goal.returns-in-Some-talk_of-clause-other_words
+returns-in-Some-talk_of-clause-other_words g c =
+    let mine = c.in-Some-talk_of.ensures in
+    λ none. absurd (none (inr (inr (c.in-Some-talk_of.call.input, c.in-Some-talk_of.call.address.now, mine.0, mine.1))))
 
-pub returns-in-None-clause-client : goal.returns-in-None-clause-client
-returns-in-None-clause-client g c = λ address words is. absurd (c.in-None.ensures (address, is, words))
+pub returns-in-Some-talk_of-clause-command : goal.returns-in-Some-talk_of-clause-command
+returns-in-Some-talk_of-clause-command g c =
+    let mine = c.in-Some-talk_of.ensures in
+    λ plain. handed c.run_talk.result.output (λ k ends. none_commanded (talk_not_plain c.in-Some-talk_of.call.input mine.1)) c.run_talk.ensures.talk
+
+pub returns-in-Some-talk_of-clause-talk : goal.returns-in-Some-talk_of-clause-talk
+returns-in-Some-talk_of-clause-talk g c =
+    let mine = c.in-Some-talk_of.ensures in
+    λ talk address words is.
+    let same = talk_same talk c.in-Some-talk_of.call.input (sym words ∙ mine.1) in
+    rw (same.0, same.1) (handed c.run_talk.result.output (λ k ends. runs_client ends) c.run_talk.ensures.talk)
+
+pub returns-in-None-clause-talk : goal.returns-in-None-clause-talk
+returns-in-None-clause-talk g c = λ talk address words is. absurd (c.in-None.ensures (talk, address, is, words))
 
 pub returns-in-None-clause-other_words : goal.returns-in-None-clause-other_words
 returns-in-None-clause-other_words g c = λ none. c.run_plain-end.ensures.other_words (λ plain. none (inl plain))

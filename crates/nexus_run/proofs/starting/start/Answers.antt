@@ -1,7 +1,7 @@
 use Rattle.std.proofs.Common.{inl, inr, refl, subst, sym, ◌∙◌}
 use Rattle.nx_io.proofs.ForCallers.{gained-nothing}
 use Rattle.service_commands.specs.Clients.{no_memory}
-use Rattle.nexus_run.specs.Commands.{IsClientCall, IsCommand, IsPlain, IsServiceCall}
+use Rattle.nexus_run.specs.Commands.{IsTalkCall, IsCommand, IsPlain, IsServiceCall}
 use Rattle.service_commands.proofs.ForCallers.{runs_client}
 use Rattle.nexus_run.proofs.Commanded.{memory_commanded, none_commanded}
 use Rattle.nexus_run.proofs.TrueRuns.{no_journal}
@@ -61,7 +61,7 @@ pub returns-in-Ok-Some-clause-other_door : goal.returns-in-Ok-Some-clause-other_
 returns-in-Ok-Some-clause-other_door g c =
     let texts = rw (c.in-Ok-Some.field-0-is, c.as_slice.ensures.value, ← c.as_slice-in-Ok-Some.ensures.value) at c.in-Ok-Some.ensures in
     let same = texts ∙ c.in-Ok.ensures.words in
-    λ plain quiet. c.run-ended.ensures.other_door (λ call. plain (subst IsServiceCall same call)) (λ call. quiet (subst IsClientCall same call))
+    λ plain quiet. c.run-ended.ensures.other_door (λ call. plain (subst IsServiceCall same call)) (λ call. quiet (subst IsTalkCall same call))
 
 pub returns-in-Ok-Some-clause-unshared : goal.returns-in-Ok-Some-clause-unshared
 returns-in-Ok-Some-clause-unshared g c =
@@ -73,13 +73,13 @@ pub returns-in-Ok-Some-clause-dialed : goal.returns-in-Ok-Some-clause-dialed
 returns-in-Ok-Some-clause-dialed g c =
     let texts = rw (c.in-Ok-Some.field-0-is, c.as_slice.ensures.value, ← c.as_slice-in-Ok-Some.ensures.value) at c.in-Ok-Some.ensures in
     let same = texts ∙ c.in-Ok.ensures.words in
-    λ quiet. c.run-ended.ensures.dialed (λ call. quiet (subst IsClientCall same call))
+    λ quiet. c.run-ended.ensures.dialed (λ call. quiet (subst IsTalkCall same call))
 
-pub returns-in-Ok-Some-clause-client : goal.returns-in-Ok-Some-clause-client
-returns-in-Ok-Some-clause-client g c =
+pub returns-in-Ok-Some-clause-talk : goal.returns-in-Ok-Some-clause-talk
+returns-in-Ok-Some-clause-talk g c =
     let texts = rw (c.in-Ok-Some.field-0-is, c.as_slice.ensures.value, ← c.as_slice-in-Ok-Some.ensures.value) at c.in-Ok-Some.ensures in
     let same = texts ∙ c.in-Ok.ensures.words in
-    λ address words is. rw c.from.ensures (c.run-ended.ensures.client address (same ∙ words) is)
+    λ talk address words is. rw c.from.ensures (c.run-ended.ensures.talk talk address (same ∙ words) is)
 
 pub returns-in-Ok-Some-clause-other_panel : goal.returns-in-Ok-Some-clause-other_panel
 returns-in-Ok-Some-clause-other_panel g c =
@@ -97,10 +97,10 @@ returns-in-Ok-None-clause-serve g c =
     let none = not_command _ (rw (c.in-Ok-None.field-0-is, c.as_slice.ensures.value) at c.in-Ok-None.ensures) in
     λ address workers sessions words within. absurd (none (inr (inl (address, workers, sessions, within, c.in-Ok.ensures.words ∙ words))))
 
-pub returns-in-Ok-None-clause-client : goal.returns-in-Ok-None-clause-client
-returns-in-Ok-None-clause-client g c =
+pub returns-in-Ok-None-clause-talk : goal.returns-in-Ok-None-clause-talk
+returns-in-Ok-None-clause-talk g c =
     let none = not_command _ (rw (c.in-Ok-None.field-0-is, c.as_slice.ensures.value) at c.in-Ok-None.ensures) in
-    λ address words is. absurd (none (inr (inr (address, is, c.in-Ok.ensures.words ∙ words))))
+    λ talk address words is. absurd (none (inr (inr (talk, address, is, c.in-Ok.ensures.words ∙ words))))
 
 pub returns-in_default-clause-command : goal.returns-in_default-clause-command
 returns-in_default-clause-command g c = λ plain. rw (c.stopped.ensures.output, c.stopped.ensures.unused.0) (memory_commanded c.stopped.ensures.code (gained-nothing (g.K.Sink.sent c.args.output)) refl refl)
@@ -108,15 +108,15 @@ returns-in_default-clause-command g c = λ plain. rw (c.stopped.ensures.output, 
 pub returns-clause-command : goal.returns-clause-command
 returns-clause-command g c = λ plain. rw (c.stopped-in-Err.ensures.output, c.stopped-in-Err.ensures.unused.0) (memory_commanded c.stopped-in-Err.ensures.code (gained-nothing (g.K.Sink.sent c.args.output)) refl refl)
 
-pub returns-in_default-clause-client : goal.returns-in_default-clause-client
-returns-in_default-clause-client g c =
+pub returns-in_default-clause-talk : goal.returns-in_default-clause-talk
+returns-in_default-clause-talk g c =
     let unused = c.stopped.ensures.unused in
-    λ address words is. rw (c.stopped.ensures.output, unused.2, unused.3) (runs_client (no_memory refl c.stopped.ensures.code refl (gained-nothing (g.K.Sink.sent c.args.output)) refl refl))
+    λ talk address words is. rw (c.stopped.ensures.output, unused.2, unused.3) (runs_client (no_memory refl c.stopped.ensures.code refl (gained-nothing (g.K.Sink.sent c.args.output)) refl refl))
 
-pub returns-clause-client : goal.returns-clause-client
-returns-clause-client g c =
+pub returns-clause-talk : goal.returns-clause-talk
+returns-clause-talk g c =
     let unused = c.stopped-in-Err.ensures.unused in
-    λ address words is. rw (c.stopped-in-Err.ensures.output, unused.2, unused.3) (runs_client (no_memory refl c.stopped-in-Err.ensures.code refl (gained-nothing (g.K.Sink.sent c.args.output)) refl refl))
+    λ talk address words is. rw (c.stopped-in-Err.ensures.output, unused.2, unused.3) (runs_client (no_memory refl c.stopped-in-Err.ensures.code refl (gained-nothing (g.K.Sink.sent c.args.output)) refl refl))
 
 pub returns-in-Ok-None-clause-earned : goal.returns-in-Ok-None-clause-earned
 returns-in-Ok-None-clause-earned g c = λ h es is. absurd (no_journal _ h es c.stopped-in-Ok-None.ensures.unused.0 is)
