@@ -1,7 +1,7 @@
 #!/usr/bin/env python3
 """What one theorem makes a reader believe: the files of definitions that it rests on, with their lines, by closure over imports.
 
-    docs/reading.py             prints a row for each command of the program, as it stands in docs/GUARANTEES.md
+    docs/reading.py             prints a row for the commands of the program, as they stand in docs/GUARANTEES.md
     docs/reading.py --check     fails where the document has other rows
     docs/reading.py NAME        prints the files of one command, or of any definition, as CheckRuns or IsTold
     docs/reading.py CRATE/FILE  prints those of one file, as session_core/Told
@@ -24,9 +24,11 @@ COMMANDS = {
     "audit": ["answer_commands/Audits"],
     "explain": ["answer_commands/Explains"],
     "recover": ["answer_commands/Recovers"],
+    "export": ["answer_commands/Exports"],
     "script": ["script_command/Scripts"],
     "serve": ["service_commands/Services", "nexus_serve/TrueReports"],
     "client": ["service_commands/Clients"],
+    "import": ["service_commands/Clients"],
     "core": ["nexus_run/LoadRuns"],
     "drill": ["nexus_run/LoadRuns"],
 }
@@ -63,14 +65,16 @@ def lines_of(name):
     return sum(1 for it in lines if it.strip() and not it.lstrip().startswith(("--", "use ", "pub use ")))
 
 
-def row(command):
-    files = closure(COMMANDS[command])
-    roots = ", ".join(f"`{it}`" for it in COMMANDS[command])
-    return f"| `{command}` | {roots} | {len(files)} | {sum(map(lines_of, files))} |"
+def row(roots):
+    """Returns the row of the commands that are said by these files."""
+    commands = ", ".join(f"`{it}`" for it in COMMANDS if COMMANDS[it] == roots)
+    files = closure(roots)
+    return f"| {commands} | {', '.join(f'`{it}`' for it in roots)} | {len(files)} | {sum(map(lines_of, files))} |"
 
 
 def table():
-    return ["| Command | Definitions | Files | Lines |", "|---|---|---|---|", *map(row, COMMANDS)]
+    rows = dict.fromkeys(row(roots) for roots in COMMANDS.values())
+    return ["| Command | Definitions | Files | Lines |", "|---|---|---|---|", *rows]
 
 
 def find(word):

@@ -183,6 +183,13 @@ elif ! python3 -B "$examples/serve/run.py" "$built"; then
     failed=$((failed + 1))
 fi
 
+# Labels carried from one service to another.
+if ! python3 -c 'import sys; sys.exit(sys.version_info < (3, 9))' 2>/dev/null; then
+    echo "peers: skipped, since there is no python3 of 3.9 or later"
+elif ! python3 -B "$examples/peers/run.py" "$built"; then
+    failed=$((failed + 1))
+fi
+
 # The commands of README and TOUR as they stand there, which run ./nexus.
 if ! python3 -c 'import sys; sys.exit(sys.version_info < (3, 9))' 2>/dev/null; then
     echo "documents: skipped, since there is no python3 of 3.9 or later"
