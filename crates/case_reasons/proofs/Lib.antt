@@ -10,3 +10,4 @@ pub mod Asks
 pub mod Told
 pub mod Recorded
 pub mod OneExplanation
+pub mod ForCallers

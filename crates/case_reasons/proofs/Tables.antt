@@ -6,16 +6,17 @@ use Rattle.policy_history.specs.Rows.{put, alter, take_out}
 use Rattle.policy_history.proofs.ForCallers.{find_put, find_take_out}
 
 module _ {R : Type 0} (t : R → Bool) where
-  find_by : (x : R) (xs : List R) (b : Bool) → t x ≡ b → find t (x ∷ xs) ≡ cond b (Some x) (find t xs)
+  -- by whether the first row passes
+  pub find_by : (x : R) (xs : List R) (b : Bool) → t x ≡ b → find t (x ∷ xs) ≡ cond b (Some x) (find t xs)
   find_by x xs b e = rw e refl
 
   out_by : (x : R) (xs : List R) (b : Bool) → t x ≡ b → take_out t (x ∷ xs) ≡ cond b xs (x ∷ take_out t xs)
   out_by x xs b e = rw e refl
 
-  put_by : (row x : R) (xs : List R) (b : Bool) → t x ≡ b → put t row (x ∷ xs) ≡ cond b (row ∷ xs) (x ∷ put t row xs)
+  pub put_by : (row x : R) (xs : List R) (b : Bool) → t x ≡ b → put t row (x ∷ xs) ≡ cond b (row ∷ xs) (x ∷ put t row xs)
   put_by row x xs b e = rw e refl
 
-  alter_by : (f : R → R) (x : R) (xs : List R) (b : Bool) → t x ≡ b → alter t f (x ∷ xs) ≡ cond b (f x ∷ xs) (x ∷ alter t f xs)
+  pub alter_by : (f : R → R) (x : R) (xs : List R) (b : Bool) → t x ≡ b → alter t f (x ∷ xs) ≡ cond b (f x ∷ xs) (x ∷ alter t f xs)
   alter_by f x xs b e = rw e refl
 
   -- what was put is found

@@ -9,7 +9,7 @@ use Rattle.policy_history.specs.Values.{History, entry_trees}
 use Rattle.journal_text.specs.CutPolicies.{IsCutErrorOf, IsKept, IsWrongCut, IsWrongOpen, ReadsCut, ReadsOpen}
 use Rattle.journal_text.specs.CutLaws.{NoCutPolicyWithError, OneCutError, OneCutPolicy}
 use Rattle.journal_text.specs.PolicyLaws.{IsInSession}
-use Rattle.journal_text.specs.PolicyText.{Fault, Follows, IsFaultAt, Leads, Stage, authority, end, ended_with, entry, header, header_due, here, most_bytes, on, open_with, principal}
+use Rattle.journal_text.specs.PolicyText.{Fault, Follows, IsFaultAt, Leads, ReadsAs, Stage, authority, end, ended_with, entry, header, header_due, here, most_bytes, on, open_with, principal}
 use Rattle.journal_text.specs.Inner.PolicyReading.{IsOpenError}
 use Rattle.journal_text.specs.declared.policy_reader.PolicyError.{PolicyError}
 use Rattle.journal_text.specs.declared.policy_reader.PolicyError.TheVariants.{Bad, Refused, TooLong, Memory}
@@ -124,6 +124,9 @@ all_told (on some f k) told = all_told k (told_by f told)
 open_told : {kept : List ℕ} {h : Head} {es : List EntryTree} → ReadsOpen kept h es → All IsInSession es
 open_told (n, inl k) = all_told k tt
 open_told (n, inr k) = all_told k tt
+
+pub read_sessions : (text : List ℕ) (h : Head) (es : List EntryTree) → ReadsAs text h es → All IsInSession es
+read_sessions text h es reads = all_told reads.2 tt
 
 pub cut_sessions : (text : List ℕ) (r : Result History PolicyError) → IfOk r (λ j. ReadsCut text j.head (entry_trees j.entries)) → IfOk r (λ j. All IsInSession (entry_trees j.entries))
 cut_sessions text (Ok j) read = open_told read.reads

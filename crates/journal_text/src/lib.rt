@@ -18,7 +18,7 @@ pub use policy_laws::{
     cut_policies_are_recovered, cut_texts_tell_one_policy, printed_policies_are_read_again,
     texts_tell_one_policy, whole_policies_are_recovered,
 };
-pub use policy_printer::{policy_line, print_policy};
+pub use policy_printer::{PolicyPrinter, policy_line, print_policy};
 pub use policy_reader::{PolicyError, PolicyFront, read_front, read_policy, refusal_number};
 pub use policy_words::split_word;
 pub use replies::{cause_text, reply_line};

@@ -96,16 +96,16 @@ fn is_proof(proof: &Option<Proof>) -> bool
     }
 }
 
-/// The text of a policy, which grows at its end.
+/// The text of a policy, which grows at its end. Each call appends; an `Err` is want of memory, and the text is then of no use.
 #[derive(Drop)]
-struct PolicyPrinter {
+pub struct PolicyPrinter {
     alloc: Global,
-    text: Bytes,
+    pub text: Bytes,
 }
 
 impl PolicyPrinter {
     /// An empty text, which takes no memory.
-    fn new(alloc: Global) -> PolicyPrinter
+    pub fn new(alloc: Global) -> PolicyPrinter
         ensures { result.text ≡ [] }
     {
         PolicyPrinter {
@@ -114,7 +114,8 @@ impl PolicyPrinter {
         }
     }
 
-    fn piece(&mut self, piece: &[u8]) -> Result<(), AllocError>
+    /// Appends these bytes.
+    pub fn piece(&mut self, piece: &[u8]) -> Result<(), AllocError>
         ensures { OnOk result (self.new.text ≡ self.old.text ++ piece.now) }
     {
         self.text.extend(piece)
@@ -161,7 +162,7 @@ impl PolicyPrinter {
     }
 
     /// Appends the lines of a head.
-    fn head(&mut self, head: &Head) -> Result<(), AllocError>
+    pub fn head(&mut self, head: &Head) -> Result<(), AllocError>
         ensures text { OnOk result (self.new.text ≡ self.old.text ++ head_text head.now) }
         ensures kept { OnOk result (IsKeptHead head.now) }
     {
@@ -230,8 +231,8 @@ impl PolicyPrinter {
         Ok(())
     }
 
-    /// Appends the line of an entry.
-    fn entry(&mut self, session: u64, name: &Name, event: &Event) -> Result<(), AllocError>
+    /// Appends the line of an entry, that of the principal with this name.
+    pub fn entry(&mut self, session: u64, name: &Name, event: &Event) -> Result<(), AllocError>
         ensures text { OnOk result (self.new.text ≡ self.old.text ++ entry_line session name.now (event_tree event.now)) }
         ensures kept { OnOk result ((session < 2 ^ 64) × IsKeptEvent (event_tree event.now)) }
     {

@@ -5,3 +5,4 @@ pub mod Sound
 pub mod Steps
 pub mod Journals
 pub mod Held
+pub mod ForCallers

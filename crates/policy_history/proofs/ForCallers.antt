@@ -27,6 +27,10 @@ use Rattle.policy_history.proofs.Staying as staying
 pub use Rattle.policy_history.proofs.Staying.{objects_stay, case_numbers_stay, kept_by_all}
 pub use Rattle.policy_history.proofs.Changed.{same_triple}
 pub use Rattle.policy_history.proofs.Soundness.{accepted_after, replay_accepted}
+-- a change of a table counts no entry; and when a principal has used up what it may add
+pub use Rattle.policy_history.proofs.Acceptance.{changed_entries, quota_of}
+-- there are at most 65,536 cases
+pub use Rattle.policy_history.proofs.Bounds.{cases_bounded}
 -- the beginnings of a legal list
 pub use Rattle.policy_history.proofs.Replaying.{accepted_at, take_one_more}
 -- what a change of a table leaves of what is found in it, and an option that is not missing

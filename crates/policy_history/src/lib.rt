@@ -20,3 +20,4 @@ pub use events::{Due, Entry, Event, Found, Refusal};
 pub use heads::{Authorities, Authority, Head, Principal, Principals};
 pub use journal::{Journal, Spare};
 pub use laws::{numbers_stay, refusals_come_in_order, replay_goes_by_steps, right_verdicts_stay};
+pub use policies::hash_key;

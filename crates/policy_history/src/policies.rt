@@ -70,9 +70,9 @@ fn subject_variable(alloc: Global) -> Result<Name, AllocError>
     }
 }
 
-// The key of the tables' hashes: the first half of the SHA-256 digest of all secrets, each with a line feed. Who knows
-// not all of them can't choose names or formulas that collide. No contract says so: the rows are the same under any key.
-fn hash_key(principals: &Principals) -> HashKey {
+/// The key of the hashes of a policy's tables: the first half of the SHA-256 digest of all secrets, each with a line feed. Who
+/// knows not all of them can't choose names or formulas that collide. No contract says so: the rows are the same under any key.
+pub fn hash_key(principals: &Principals) -> HashKey {
     let mut digest = Sha256::new();
     for principal in principals.as_slice() {
         digest.update(principal.secret.as_slice());
