@@ -80,6 +80,18 @@ runs_answer {command = command} {source = source} {sink = sink} {status = status
   refuses = refuses_exactly command source sink status few e;
 }
 
+-- a run by a status that is the same
+pub runs_with : {A : Type 0} {command : Answering A} {source : SourceRun} {sink : SinkRun} {status other : ℕ} → status ≡ other → RunsAnswer command source sink status
+    → RunsAnswer command source sink other
+runs_with {command = command} {source = source} {sink = sink} same runs = subst (λ (n : ℕ). RunsAnswer command source sink n) same runs
+
+-- a refusal that is told is no end at which all was done
+pub refusal_never_done : (form : Form) {source : SourceRun} {before now : List ℕ} {u v status : ℕ} (outcome : Outcome) → IsRefusalOf form source outcome
+    → Tells outcome before now u v status → status ≡ 0 → ⊥
+refusal_never_done form {source = source} {status = status} outcome r (whole e w f) zero = apart status 0 3 zero (e ∙ refusal_status form source.given outcome r.refusal) refl
+refusal_never_done form {status = status} outcome r (part e w f) zero = apart status 0 5 zero e refl
+refusal_never_done form {status = status} outcome r (nothing e w f) zero = apart status 0 6 zero e refl
+
 -- an input that is refused has no answer
 pub never_both : {A : Type 0} {command : Answering A} {source : SourceRun} (outcome : Outcome) (answer : A) → IsRefusalOf command.form source outcome → IsAnswerOf command source answer → ⊥
 never_both {command = command} {source = source} outcome answer r is = not_refused command.form source.given is.small is.formed (refused_by command.form source.given outcome r.refusal)

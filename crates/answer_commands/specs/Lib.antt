@@ -9,4 +9,5 @@ pub mod Recovers
 pub mod Audits
 pub mod Explains
 pub mod Exports
+pub mod Compacts
 pub mod Inner

@@ -86,7 +86,7 @@ pub fn answer_input<A: Answer + Drop, S: Source, K: Sink>(
 }
 
 /// Reads the input, and answers it.
-fn read_answer<A: Answer + Drop, S: Source>(
+pub fn read_answer<A: Answer + Drop, S: Source>(
     alloc: Global,
     about: &A::About,
     input: &mut S,
@@ -112,7 +112,7 @@ fn read_answer<A: Answer + Drop, S: Source>(
 
 /// Writes the answer.
 #[tactic(auto, using(crate::proofs::AnswerEnds::small_status, crate::proofs::AnswerEnds::not_three))]
-fn tell_answer<A: Answer, K: Sink>(alloc: Global, output: &mut K, answer: &A) -> u8
+pub fn tell_answer<A: Answer, K: Sink>(alloc: Global, output: &mut K, answer: &A) -> u8
     ensures untouched { (result ≡ 4) ⊎ (result ≡ 6) → output.new ≡ output.old }
     ensures few { result ≢ 3 }
     ensures told { TellsAnswer A.written A.ends answer.now (K.sent output.old) (K.sent output.new) (K.faults output.old) (K.faults output.new) result }

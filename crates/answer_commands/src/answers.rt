@@ -1,5 +1,12 @@
-//! The answers of `trust`, `prove`, `audit`, `explain`, `recover` and `export`.
-ghost use Rattle.std.specs.Prelude.{◌≡◌, ◌≢◌, IfErr, OnOk};
+//! The answers of `trust`, `prove`, `audit`, `explain`, `recover`, `export` and `compact`.
+ghost use Rattle.std.specs.Prelude.{◌≡◌, ◌≢◌, ◌≤◌, IfErr, IfOk, OnOk, length};
+ghost use Rattle.policy_history.specs.Events.{numbered};
+ghost use Rattle.policy_history.specs.Values.{entry_trees, state_after};
+ghost use Rattle.journal_text.specs.PolicyText.{ReadsAs};
+ghost use Rattle.run_streams.specs.Refusals.{form_of};
+ghost use Rattle.run_streams.specs.Runs.{most_bytes};
+ghost use Rattle.answer_commands.specs.Answers.{IsAnswerError};
+ghost use Rattle.answer_commands.specs.Exports.{HasPolicyForm, IsWrongPolicyLine, bundle_of};
 
 use crate::answering::{Answer, AnswerError};
 use audit_check::Audited;
@@ -9,6 +16,7 @@ use journal_text::{PolicyError, print_policy, read_cut, read_policy};
 use nal_term::Name;
 use nx_io::Bytes;
 use peer_labels::print_bundle;
+use policy_compaction::{Compacted, compact};
 use policy_history::Journal;
 use proof_lines::Proof;
 use prove_form::{ProveError, found_line, prove_of};
@@ -236,21 +244,12 @@ impl Answer for Exported {
     ghost ends = { export_status };
 
     fn of(alloc: Global, about: &Name, text: &[u8]) -> Result<Exported, AnswerError> {
-        let journal = match read_policy(alloc, text) {
-            Ok(journal) => journal,
-            Err(PolicyError::Bad { line }) => return Err(AnswerError::Wrong { line }),
-            Err(PolicyError::Refused { line, .. }) => return Err(AnswerError::Wrong { line }),
-            Err(PolicyError::TooLong) => unreachable!(),
-            Err(PolicyError::Memory) => return Err(AnswerError::Memory),
-        };
-        let Some(holder) = journal.head().principals.number_of(about) else {
-            return Ok(Exported { bundle: None });
-        };
-        match print_bundle(alloc, &journal, holder) {
-            Ok(bundle) => Ok(Exported {
-                bundle: Some(bundle),
-            }),
-            Err(_) => Err(AnswerError::Memory),
+        let journal = policy_of(alloc, text)?;
+        let bundle = bundle_of(alloc, &journal, about);
+        drop(journal);
+        match bundle {
+            Ok(bundle) => Ok(Exported { bundle }),
+            Err(AllocError) => Err(AnswerError::Memory),
         }
     }
 
@@ -266,5 +265,66 @@ impl Answer for Exported {
             Some(_) => 0,
             None => 1,
         }
+    }
+}
+
+impl Answer for Compacted {
+    type About = ();
+
+    ghost use Rattle.answer_commands.specs.Compacts.{IsCompactOf, compact_output, compact_status};
+    ghost use Rattle.answer_commands.specs.Exports.{HasPolicyForm, IsWrongPolicyLine};
+
+    ghost formed = { HasPolicyForm };
+
+    ghost told = { λ about. IsCompactOf };
+
+    ghost wrong = { IsWrongPolicyLine };
+
+    ghost written = { compact_output };
+
+    ghost ends = { compact_status };
+
+    fn of(alloc: Global, _about: &(), text: &[u8]) -> Result<Compacted, AnswerError> {
+        let journal = policy_of(alloc, text)?;
+        let compacted = compact(alloc, &journal);
+        drop(journal);
+        match compacted {
+            Ok(compacted) => Ok(compacted),
+            Err(AllocError) => Err(AnswerError::Memory),
+        }
+    }
+
+    fn output(&self, alloc: Global) -> Result<Bytes, AllocError> {
+        Bytes::of(alloc, self.text.as_slice())
+    }
+
+    fn status(&self) -> u8 {
+        0
+    }
+}
+
+/// The policy of a text. `Wrong` exactly where it is that of none.
+fn policy_of(alloc: Global, text: &[u8]) -> Result<Journal, AnswerError>
+    requires { length text.now ≤ most_bytes }
+    ensures policy { IfOk result (λ journal. ReadsAs text.now journal.head (entry_trees journal.entries)) }
+    ensures wrong { IfErr result (IsAnswerError (form_of HasPolicyForm IsWrongPolicyLine) text.now) }
+{
+    match read_policy(alloc, text) {
+        Ok(journal) => Ok(journal),
+        Err(PolicyError::Bad { line }) => Err(AnswerError::Wrong { line }),
+        Err(PolicyError::Refused { line, .. }) => Err(AnswerError::Wrong { line }),
+        Err(PolicyError::TooLong) => unreachable!(),
+        Err(PolicyError::Memory) => Err(AnswerError::Memory),
+    }
+}
+
+/// The bundle of the labels that the principal of this name holds; None where nobody has the name.
+fn bundle_of(alloc: Global, journal: &Journal, name: &Name) -> Result<Option<Bytes>, AllocError>
+    ensures { IfOk result (λ bundle. bundle
+        ≡ bundle_of (state_after journal.now).labels (numbered journal.now.head.principals name.now)) }
+{
+    match journal.head().principals.number_of(name) {
+        None => Ok(None),
+        Some(holder) => Ok(Some(print_bundle(alloc, journal, holder)?)),
     }
 }

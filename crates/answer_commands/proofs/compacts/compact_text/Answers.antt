@@ -1,0 +1,26 @@
+use Rattle.std.proofs.Common.{arith}
+use Rattle.answer_commands.specs.Compacts.{compact_command}
+use Rattle.answer_commands.proofs.AnswerEnds.{answer_ends, never_both, refusal_ends, refusal_never_done, runs_answer, runs_with}
+use Rattle.answer_commands.proofs.compacts.compact_text.Goals as goal
+
+pub returns-then-status-eq0-clause-ok : goal.returns-then-status-eq0-clause-ok
+returns-then-status-eq0-clause-ok g c =
+    runs_with c.if-status-eq0.true
+    (runs_answer (λ answer is e three. c.tell_answer-status.ensures.few three)
+    (answer_ends {command = compact_command} c.in-Ok.compacted _ _ _ _ c.in-Ok.ensures.ok c.in-Ok.ensures.count c.tell_answer-status.ensures.told))
+
+pub returns-else-status-eq0-clause-err : goal.returns-else-status-eq0-clause-err
+returns-else-status-eq0-clause-err g c = (
+  (λ zero. absurd (omega (arith, zero, c.if-status-eq0.false))),
+  runs_answer (λ answer is e three. c.tell_answer-status.ensures.few three)
+      (answer_ends {command = compact_command} c.in-Ok.compacted _ _ _ _ c.in-Ok.ensures.ok c.in-Ok.ensures.count c.tell_answer-status.ensures.told),
+)
+
+pub returns-in-Err-Refused-clause-err : goal.returns-in-Err-Refused-clause-err
+returns-in-Err-Refused-clause-err g c =
+    let refusal = rw c.in-Err-Refused.field-0-is at c.in-Err-Refused.ensures.err in
+    let still = rw c.in-Err-Refused.field-0-is at c.in-Err-Refused.ensures.count in (
+      refusal_never_done compact_command.form c.in-Err-Refused.outcome refusal c.tell.ensures.told,
+      runs_answer (λ answer is e three. never_both c.in-Err-Refused.outcome answer refusal is)
+          (refusal_ends {command = compact_command} c.in-Err-Refused.outcome _ _ _ _ refusal still c.tell.ensures.told),
+    )
