@@ -5,7 +5,7 @@ use Rattle.nexus_client.specs.declared.inputs.TalkInput.{TalkInput}
 use Rattle.nexus_client.specs.declared.inputs.TalkInput.TheVariants.{RequestLines, PeerBundle}
 use Rattle.nexus_run.specs.Commands.{IsPlain, export_words, talk_words}
 use Rattle.nexus_run.proofs.Commanded.{other_letter}
-use Rattle.nexus_run.specs.declared.commands.Command.TheVariants.{Check, Script, Core, Trust, Prove, Audit, Explain, Recover, Drill}
+use Rattle.nexus_run.specs.declared.commands.Command.TheVariants.{Check, Script, Core, Trust, Prove, Audit, Explain, Recover, Compact, Drill}
 
 -- the words of a talk tell its input and the address, and are not those of another command
 pub talk_same : (input other : TalkInput) {address other_address : List ℕ} → talk_words input address ≡ talk_words other other_address → (input ≡ other) × (address ≡ other_address)
@@ -22,6 +22,7 @@ talk_not_plain RequestLines are (inl (Prove, within, e)) = cc (sym are ∙ e)
 talk_not_plain RequestLines are (inl (Audit, within, e)) = cc (sym are ∙ e)
 talk_not_plain RequestLines are (inl (Explain, within, e)) = cc (sym are ∙ e)
 talk_not_plain RequestLines are (inl (Recover, within, e)) = cc (sym are ∙ e)
+talk_not_plain RequestLines are (inl (Compact, within, e)) = cc (sym are ∙ e)
 talk_not_plain RequestLines are (inl (Core number steps, within, e)) = cc (sym are ∙ e)
 talk_not_plain RequestLines are (inl (Drill number workers calls, within, e)) = cc (sym are ∙ e)
 talk_not_plain RequestLines {address = a} are (inr (name, is, e)) = other_letter (talk_words RequestLines a) (export_words name) are e refl
@@ -32,6 +33,7 @@ talk_not_plain PeerBundle are (inl (Prove, within, e)) = cc (sym are ∙ e)
 talk_not_plain PeerBundle are (inl (Audit, within, e)) = cc (sym are ∙ e)
 talk_not_plain PeerBundle are (inl (Explain, within, e)) = cc (sym are ∙ e)
 talk_not_plain PeerBundle are (inl (Recover, within, e)) = cc (sym are ∙ e)
+talk_not_plain PeerBundle are (inl (Compact, within, e)) = cc (sym are ∙ e)
 talk_not_plain PeerBundle are (inl (Core number steps, within, e)) = cc (sym are ∙ e)
 talk_not_plain PeerBundle are (inl (Drill number workers calls, within, e)) = cc (sym are ∙ e)
 talk_not_plain PeerBundle {address = a} are (inr (name, is, e)) = other_letter (talk_words PeerBundle a) (export_words name) are e refl

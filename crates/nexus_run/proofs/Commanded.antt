@@ -3,14 +3,15 @@ use Rattle.std.proofs.Common.{◌≡◌, ◌==◌, ◌∷◌, inl, inr, false, �
 use Rattle.std.proofs.lemmas.Bool.Decides.{Decides-eqb}
 use Rattle.policy_history.specs.Values.{History}
 use Rattle.run_streams.specs.Runs.{SinkRun, SourceRun}
-use Rattle.nexus_run.specs.declared.commands.Command.TheVariants.{Check, Script, Core, Trust, Prove, Audit, Explain, Recover, Drill}
-use Rattle.nexus_run.specs.Commands.{IsDrill, IsExportCall, IsLoad, IsNamed, IsPlain, audit_words, check_words, core_words, drill_words, explain_words, export_words, prove_words, recover_words, script_words, trust_words}
+use Rattle.nexus_run.specs.declared.commands.Command.TheVariants.{Check, Script, Core, Trust, Prove, Audit, Explain, Recover, Compact, Drill}
+use Rattle.nexus_run.specs.Commands.{IsDrill, IsExportCall, IsLoad, IsNamed, IsPlain, audit_words, check_words, compact_words, core_words, drill_words, explain_words, export_words, prove_words, recover_words, script_words, trust_words}
 use Rattle.nexus_run.specs.Commanded.{RunsCommand}
 use Rattle.nexus_run.specs.LoadRuns.{RunsCore, RunsDrill, no_memory as load_memory}
 use Rattle.answer_commands.specs.Audits.{RunsAudit}
 use Rattle.answer_commands.specs.Explains.{RunsExplain}
 use Rattle.answer_commands.specs.Exports.{RunsExport}
 use Rattle.answer_commands.specs.CheckRuns.{RunsCheck, no_memory as check_memory}
+use Rattle.answer_commands.specs.Compacts.{RunsCompact, unwritten}
 use Rattle.answer_commands.specs.Proves.{RunsProve}
 use Rattle.answer_commands.specs.Recovers.{RunsRecover}
 use Rattle.script_command.specs.Scripts.{PanelRun, RunsScript, no_memory as script_memory}
@@ -28,8 +29,8 @@ not_plain named export (inl is) = named is
 not_plain named export (inr is) = export is
 
 -- the words of no command, whatever is done
-pub none_commanded : {words : List (List ℕ)} {source : SourceRun} {sink : SinkRun} {panel : PanelRun} {journal : Option History} {status : ℕ} → (IsPlain words → ⊥)
-    → RunsCommand words source sink panel journal status
+pub none_commanded : {words : List (List ℕ)} {source : SourceRun} {sink records : SinkRun} {panel : PanelRun} {journal : Option History} {status : ℕ} → (IsPlain words → ⊥)
+    → RunsCommand words source sink records panel journal status
 none_commanded none = record {
   check = λ e. absurd (none (inl (Check, tt, e)));
   script = λ e. absurd (none (inl (Script, tt, e)));
@@ -38,6 +39,7 @@ none_commanded none = record {
   audit = λ e. absurd (none (inl (Audit, tt, e)));
   explain = λ e. absurd (none (inl (Explain, tt, e)));
   recover = λ e. absurd (none (inl (Recover, tt, e)));
+  compact = λ e. absurd (none (inl (Compact, tt, e)));
   export = λ name e is. absurd (none (inr (name, is, e)));
   core = λ number steps e within. absurd (none (inl (Core number steps, within, e)));
   drill = λ number workers calls e within. absurd (none (inl (Drill number workers calls, within, e)));
@@ -53,8 +55,16 @@ letter _ = 0
 pub other_letter : {words : List (List ℕ)} (a b : List (List ℕ)) → words ≡ a → words ≡ b → (letter a == letter b) ≡ false → ⊥
 other_letter a b are e h = let t = (Decides-eqb (letter a) (letter b)).1 (ap letter (sym are ∙ e)) in cc (t, h)
 
-pub check_commanded : {words : List (List ℕ)} {source : SourceRun} {sink : SinkRun} {panel : PanelRun} {journal : Option History} {status : ℕ} → words ≡ check_words
-    → RunsCheck source sink status → RunsCommand words source sink panel journal status
+-- and its second
+abbrev second : List (List ℕ) → ℕ
+second ((x ∷ y ∷ xs) ∷ ws) = y
+second _ = 0
+
+other_second : {words : List (List ℕ)} (a b : List (List ℕ)) → words ≡ a → words ≡ b → (second a == second b) ≡ false → ⊥
+other_second a b are e h = let t = (Decides-eqb (second a) (second b)).1 (ap second (sym are ∙ e)) in cc (t, h)
+
+pub check_commanded : {words : List (List ℕ)} {source : SourceRun} {sink records : SinkRun} {panel : PanelRun} {journal : Option History} {status : ℕ} → words ≡ check_words
+    → RunsCheck source sink status → RunsCommand words source sink records panel journal status
 check_commanded are runs = record {
   check = λ e. runs;
   script = λ e. absurd (other_letter check_words script_words are e refl);
@@ -63,13 +73,14 @@ check_commanded are runs = record {
   audit = λ e. absurd (other_letter check_words audit_words are e refl);
   explain = λ e. absurd (other_letter check_words explain_words are e refl);
   recover = λ e. absurd (other_letter check_words recover_words are e refl);
+  compact = λ e. absurd (other_second check_words compact_words are e refl);
   export = λ name e is. absurd (cc (sym are ∙ e));
   core = λ number steps e within. absurd (cc (sym are ∙ e));
   drill = λ number workers calls e within. absurd (cc (sym are ∙ e));
 }
 
-pub script_commanded : {words : List (List ℕ)} {source : SourceRun} {sink : SinkRun} {panel : PanelRun} {journal : Option History} {status : ℕ} → words ≡ script_words
-    → RunsScript source sink panel journal status → RunsCommand words source sink panel journal status
+pub script_commanded : {words : List (List ℕ)} {source : SourceRun} {sink records : SinkRun} {panel : PanelRun} {journal : Option History} {status : ℕ} → words ≡ script_words
+    → RunsScript source sink panel journal status → RunsCommand words source sink records panel journal status
 script_commanded are runs = record {
   check = λ e. absurd (other_letter script_words check_words are e refl);
   script = λ e. runs;
@@ -78,13 +89,14 @@ script_commanded are runs = record {
   audit = λ e. absurd (other_letter script_words audit_words are e refl);
   explain = λ e. absurd (other_letter script_words explain_words are e refl);
   recover = λ e. absurd (other_letter script_words recover_words are e refl);
+  compact = λ e. absurd (other_letter script_words compact_words are e refl);
   export = λ name e is. absurd (cc (sym are ∙ e));
   core = λ number steps e within. absurd (cc (sym are ∙ e));
   drill = λ number workers calls e within. absurd (cc (sym are ∙ e));
 }
 
-pub trust_commanded : {words : List (List ℕ)} {source : SourceRun} {sink : SinkRun} {panel : PanelRun} {journal : Option History} {status : ℕ} → words ≡ trust_words
-    → RunsTrust source sink status → RunsCommand words source sink panel journal status
+pub trust_commanded : {words : List (List ℕ)} {source : SourceRun} {sink records : SinkRun} {panel : PanelRun} {journal : Option History} {status : ℕ} → words ≡ trust_words
+    → RunsTrust source sink status → RunsCommand words source sink records panel journal status
 trust_commanded are runs = record {
   check = λ e. absurd (other_letter trust_words check_words are e refl);
   script = λ e. absurd (other_letter trust_words script_words are e refl);
@@ -93,13 +105,14 @@ trust_commanded are runs = record {
   audit = λ e. absurd (other_letter trust_words audit_words are e refl);
   explain = λ e. absurd (other_letter trust_words explain_words are e refl);
   recover = λ e. absurd (other_letter trust_words recover_words are e refl);
+  compact = λ e. absurd (other_letter trust_words compact_words are e refl);
   export = λ name e is. absurd (cc (sym are ∙ e));
   core = λ number steps e within. absurd (cc (sym are ∙ e));
   drill = λ number workers calls e within. absurd (cc (sym are ∙ e));
 }
 
-pub prove_commanded : {words : List (List ℕ)} {source : SourceRun} {sink : SinkRun} {panel : PanelRun} {journal : Option History} {status : ℕ} → words ≡ prove_words
-    → RunsProve source sink status → RunsCommand words source sink panel journal status
+pub prove_commanded : {words : List (List ℕ)} {source : SourceRun} {sink records : SinkRun} {panel : PanelRun} {journal : Option History} {status : ℕ} → words ≡ prove_words
+    → RunsProve source sink status → RunsCommand words source sink records panel journal status
 prove_commanded are runs = record {
   check = λ e. absurd (other_letter prove_words check_words are e refl);
   script = λ e. absurd (other_letter prove_words script_words are e refl);
@@ -108,13 +121,14 @@ prove_commanded are runs = record {
   audit = λ e. absurd (other_letter prove_words audit_words are e refl);
   explain = λ e. absurd (other_letter prove_words explain_words are e refl);
   recover = λ e. absurd (other_letter prove_words recover_words are e refl);
+  compact = λ e. absurd (other_letter prove_words compact_words are e refl);
   export = λ name e is. absurd (cc (sym are ∙ e));
   core = λ number steps e within. absurd (cc (sym are ∙ e));
   drill = λ number workers calls e within. absurd (cc (sym are ∙ e));
 }
 
-pub audit_commanded : {words : List (List ℕ)} {source : SourceRun} {sink : SinkRun} {panel : PanelRun} {journal : Option History} {status : ℕ} → words ≡ audit_words
-    → RunsAudit source sink status → RunsCommand words source sink panel journal status
+pub audit_commanded : {words : List (List ℕ)} {source : SourceRun} {sink records : SinkRun} {panel : PanelRun} {journal : Option History} {status : ℕ} → words ≡ audit_words
+    → RunsAudit source sink status → RunsCommand words source sink records panel journal status
 audit_commanded are runs = record {
   check = λ e. absurd (other_letter audit_words check_words are e refl);
   script = λ e. absurd (other_letter audit_words script_words are e refl);
@@ -123,13 +137,14 @@ audit_commanded are runs = record {
   audit = λ e. runs;
   explain = λ e. absurd (other_letter audit_words explain_words are e refl);
   recover = λ e. absurd (other_letter audit_words recover_words are e refl);
+  compact = λ e. absurd (other_letter audit_words compact_words are e refl);
   export = λ name e is. absurd (cc (sym are ∙ e));
   core = λ number steps e within. absurd (cc (sym are ∙ e));
   drill = λ number workers calls e within. absurd (cc (sym are ∙ e));
 }
 
-pub explain_commanded : {words : List (List ℕ)} {source : SourceRun} {sink : SinkRun} {panel : PanelRun} {journal : Option History} {status : ℕ} → words ≡ explain_words
-    → RunsExplain source sink status → RunsCommand words source sink panel journal status
+pub explain_commanded : {words : List (List ℕ)} {source : SourceRun} {sink records : SinkRun} {panel : PanelRun} {journal : Option History} {status : ℕ} → words ≡ explain_words
+    → RunsExplain source sink status → RunsCommand words source sink records panel journal status
 explain_commanded are runs = record {
   check = λ e. absurd (other_letter explain_words check_words are e refl);
   script = λ e. absurd (other_letter explain_words script_words are e refl);
@@ -138,13 +153,14 @@ explain_commanded are runs = record {
   audit = λ e. absurd (other_letter explain_words audit_words are e refl);
   explain = λ e. runs;
   recover = λ e. absurd (other_letter explain_words recover_words are e refl);
+  compact = λ e. absurd (other_letter explain_words compact_words are e refl);
   export = λ name e is. absurd (cc (sym are ∙ e));
   core = λ number steps e within. absurd (cc (sym are ∙ e));
   drill = λ number workers calls e within. absurd (cc (sym are ∙ e));
 }
 
-pub recover_commanded : {words : List (List ℕ)} {source : SourceRun} {sink : SinkRun} {panel : PanelRun} {journal : Option History} {status : ℕ} → words ≡ recover_words
-    → RunsRecover source sink status → RunsCommand words source sink panel journal status
+pub recover_commanded : {words : List (List ℕ)} {source : SourceRun} {sink records : SinkRun} {panel : PanelRun} {journal : Option History} {status : ℕ} → words ≡ recover_words
+    → RunsRecover source sink status → RunsCommand words source sink records panel journal status
 recover_commanded are runs = record {
   check = λ e. absurd (other_letter recover_words check_words are e refl);
   script = λ e. absurd (other_letter recover_words script_words are e refl);
@@ -153,13 +169,30 @@ recover_commanded are runs = record {
   audit = λ e. absurd (other_letter recover_words audit_words are e refl);
   explain = λ e. absurd (other_letter recover_words explain_words are e refl);
   recover = λ e. runs;
+  compact = λ e. absurd (other_letter recover_words compact_words are e refl);
   export = λ name e is. absurd (cc (sym are ∙ e));
   core = λ number steps e within. absurd (cc (sym are ∙ e));
   drill = λ number workers calls e within. absurd (cc (sym are ∙ e));
 }
 
-pub export_commanded : {words : List (List ℕ)} {source : SourceRun} {sink : SinkRun} {panel : PanelRun} {journal : Option History} {status : ℕ} (x : List ℕ) → words ≡ export_words x
-    → RunsExport x source sink status → RunsCommand words source sink panel journal status
+pub compact_commanded : {words : List (List ℕ)} {source : SourceRun} {sink records : SinkRun} {panel : PanelRun} {journal : Option History} {status : ℕ} → words ≡ compact_words
+    → RunsCompact source sink records status → RunsCommand words source sink records panel journal status
+compact_commanded are runs = record {
+  check = λ e. absurd (other_second compact_words check_words are e refl);
+  script = λ e. absurd (other_letter compact_words script_words are e refl);
+  trust = λ e. absurd (other_letter compact_words trust_words are e refl);
+  prove = λ e. absurd (other_letter compact_words prove_words are e refl);
+  audit = λ e. absurd (other_letter compact_words audit_words are e refl);
+  explain = λ e. absurd (other_letter compact_words explain_words are e refl);
+  recover = λ e. absurd (other_letter compact_words recover_words are e refl);
+  compact = λ e. runs;
+  export = λ name e is. absurd (cc (sym are ∙ e));
+  core = λ number steps e within. absurd (cc (sym are ∙ e));
+  drill = λ number workers calls e within. absurd (cc (sym are ∙ e));
+}
+
+pub export_commanded : {words : List (List ℕ)} {source : SourceRun} {sink records : SinkRun} {panel : PanelRun} {journal : Option History} {status : ℕ} (x : List ℕ) → words ≡ export_words x
+    → RunsExport x source sink status → RunsCommand words source sink records panel journal status
 export_commanded {source = source} {sink = sink} {status = status} x are runs = record {
   check = λ e. absurd (cc (sym are ∙ e));
   script = λ e. absurd (cc (sym are ∙ e));
@@ -168,6 +201,7 @@ export_commanded {source = source} {sink = sink} {status = status} x are runs = 
   audit = λ e. absurd (cc (sym are ∙ e));
   explain = λ e. absurd (cc (sym are ∙ e));
   recover = λ e. absurd (cc (sym are ∙ e));
+  compact = λ e. absurd (cc (sym are ∙ e));
   export = λ name e is. (let same = export_same name x (sym e ∙ are) in rw same runs);
   core = λ number steps e within. absurd (cc (sym are ∙ e));
   drill = λ number workers calls e within. absurd (cc (sym are ∙ e));
@@ -176,8 +210,8 @@ export_commanded {source = source} {sink = sink} {status = status} x are runs = 
     export_same : (name other : List ℕ) → export_words name ≡ export_words other → name ≡ other
     export_same name other e = cc e
 
-pub core_commanded : {words : List (List ℕ)} {source : SourceRun} {sink : SinkRun} {panel : PanelRun} {journal : Option History} {status : ℕ} (m n : ℕ) → words ≡ core_words m n → IsLoad m n
-    → RunsCore m n sink status → RunsCommand words source sink panel journal status
+pub core_commanded : {words : List (List ℕ)} {source : SourceRun} {sink records : SinkRun} {panel : PanelRun} {journal : Option History} {status : ℕ} (m n : ℕ) → words ≡ core_words m n → IsLoad m n
+    → RunsCore m n sink status → RunsCommand words source sink records panel journal status
 core_commanded {sink = sink} {status = status} m n are mine runs = record {
   check = λ e. absurd (cc (sym are ∙ e));
   script = λ e. absurd (cc (sym are ∙ e));
@@ -186,13 +220,14 @@ core_commanded {sink = sink} {status = status} m n are mine runs = record {
   audit = λ e. absurd (cc (sym are ∙ e));
   explain = λ e. absurd (cc (sym are ∙ e));
   recover = λ e. absurd (cc (sym are ∙ e));
+  compact = λ e. absurd (cc (sym are ∙ e));
   export = λ name e is. absurd (cc (sym are ∙ e));
   core = λ number steps e within. (let same = core_same number steps m n within mine (sym e ∙ are) in rw (same.0, same.1) runs);
   drill = λ number workers calls e within. absurd (cc (sym are ∙ e));
 }
 
-pub drill_commanded : {words : List (List ℕ)} {source : SourceRun} {sink : SinkRun} {panel : PanelRun} {journal : Option History} {status : ℕ} (l m n : ℕ) → words ≡ drill_words l m n → IsDrill l m n
-    → RunsDrill l m n sink status → RunsCommand words source sink panel journal status
+pub drill_commanded : {words : List (List ℕ)} {source : SourceRun} {sink records : SinkRun} {panel : PanelRun} {journal : Option History} {status : ℕ} (l m n : ℕ) → words ≡ drill_words l m n → IsDrill l m n
+    → RunsDrill l m n sink status → RunsCommand words source sink records panel journal status
 drill_commanded {source = source} {sink = sink} {status = status} l m n are mine runs = record {
   check = λ e. absurd (cc (sym are ∙ e));
   script = λ e. absurd (cc (sym are ∙ e));
@@ -201,6 +236,7 @@ drill_commanded {source = source} {sink = sink} {status = status} l m n are mine
   audit = λ e. absurd (cc (sym are ∙ e));
   explain = λ e. absurd (cc (sym are ∙ e));
   recover = λ e. absurd (cc (sym are ∙ e));
+  compact = λ e. absurd (cc (sym are ∙ e));
   export = λ name e is. absurd (cc (sym are ∙ e));
   core = λ number steps e within. absurd (cc (sym are ∙ e));
   drill = λ number workers calls e within. (let same = drill_same number workers calls l m n within mine (sym e ∙ are) in rw (same.0, same.1, same.2) runs);
@@ -208,9 +244,9 @@ drill_commanded {source = source} {sink = sink} {status = status} l m n are mine
 
 -- ---- Where there was no memory for the words, nothing was read or written
 
-pub memory_commanded : {words : List (List ℕ)} {source : SourceRun} {sink : SinkRun} {panel : PanelRun} {status : ℕ} → status ≡ 6 → sink.sent ≡ [] → source.faults_now ≡ source.faults
-    → sink.faults_now ≡ sink.faults → RunsCommand words source sink panel None status
-memory_commanded {source = source} {sink = sink} {panel = panel} {status = status} six none still still_too = record {
+pub memory_commanded : {words : List (List ℕ)} {source : SourceRun} {sink records : SinkRun} {panel : PanelRun} {status : ℕ} → status ≡ 6 → sink.sent ≡ [] → source.faults_now ≡ source.faults
+    → sink.faults_now ≡ sink.faults → records.sent ≡ [] → records.faults_now ≡ records.faults → RunsCommand words source sink records panel None status
+memory_commanded {source = source} {sink = sink} {panel = panel} {status = status} six none still still_too unrecorded still_there = record {
   check = λ e. runs_check (check_memory six none still still_too);
   script = λ e. runs_script (script_memory six none still still_too);
   trust = λ e. runs_answer (λ answer is e three. apart status 6 3 six three refl) (answer_memory six none still still_too);
@@ -218,6 +254,7 @@ memory_commanded {source = source} {sink = sink} {panel = panel} {status = statu
   audit = λ e. runs_answer (λ answer is e three. apart status 6 3 six three refl) (answer_memory six none still still_too);
   explain = λ e. runs_answer (λ answer is e three. apart status 6 3 six three refl) (answer_memory six none still still_too);
   recover = λ e. runs_answer (λ answer is e three. apart status 6 3 six three refl) (answer_memory six none still still_too);
+  compact = λ e. record { text_status = 6; text = runs_answer (λ answer is e three. apart 6 6 3 refl three refl) (answer_memory refl none still still_too); numbers = unwritten (λ z. apart 6 6 0 refl z refl) six unrecorded still_there };
   export = λ name e is. runs_answer (λ answer is e three. apart status 6 3 six three refl) (answer_memory six none still still_too);
   core = λ number steps e within. runs_load (load_memory six none still_too);
   drill = λ number workers calls e within. runs_load (load_memory six none still_too);

@@ -11,13 +11,13 @@ use Rattle.std.proofs.lemmas.Str.{IsUtf8-from_ascii}
 use Rattle.std.proofs.lemmas.Str.Ascii.{IsAscii-from_all}
 use Rattle.std.specs.Prelude.{nat_le, ◌&&◌}
 use Rattle.nal_term.specs.Secrets.{is_secret_byte}
-use Rattle.nexus_run.specs.Commands.{IsCommand, IsDrill, IsLoad, IsWithin, audit_words, check_words, command_words, core_words, drill_words, explain_words, export_words, prove_words, recover_words, script_words, serve_words, talk_word, talk_words, trust_words}
+use Rattle.nexus_run.specs.Commands.{IsCommand, IsDrill, IsLoad, IsWithin, audit_words, check_words, command_words, compact_words, core_words, drill_words, explain_words, export_words, prove_words, recover_words, script_words, serve_words, talk_word, talk_words, trust_words}
 use Rattle.nal_term.specs.Names.{IsName, is_letter, is_word, is_word_byte}
 use Rattle.nexus_client.specs.declared.inputs.TalkInput.{TalkInput}
 use Rattle.nexus_client.specs.declared.inputs.TalkInput.TheVariants.{RequestLines, PeerBundle}
 use Rattle.service_commands.specs.Services.{IsAddress, IsService}
 use Rattle.nexus_run.specs.declared.commands.Command.{Command}
-use Rattle.nexus_run.specs.declared.commands.Command.TheVariants.{Check, Script, Core, Trust, Prove, Audit, Explain, Recover, Drill}
+use Rattle.nexus_run.specs.declared.commands.Command.TheVariants.{Check, Script, Core, Trust, Prove, Audit, Explain, Recover, Compact, Drill}
 
 -- one text more
 pub next_text : {T W : Type 0} (f : T → List ℕ) (g : W → List ℕ) (ts us : List T) (ws : List W) (t : T) (w : W) (k : ℕ) → map f ts ≡ take k (map g ws)
@@ -47,6 +47,10 @@ prove_words_are_texts = All-cons IsUtf8 (codes "prove") [] (codes "prove", (refl
 recover_words_are_texts : All IsUtf8 recover_words
 unfolding lib.Utf8.encode
 recover_words_are_texts = All-cons IsUtf8 (codes "recover") [] (codes "recover", (refl, refl)) (All-nil IsUtf8)
+
+compact_words_are_texts : All IsUtf8 compact_words
+unfolding lib.Utf8.encode
+compact_words_are_texts = All-cons IsUtf8 (codes "compact") [] (codes "compact", (refl, refl)) (All-nil IsUtf8)
 
 audit_words_are_texts : All IsUtf8 audit_words
 unfolding lib.Utf8.encode
@@ -220,6 +224,7 @@ plain_is_text Prove within = prove_words_are_texts
 plain_is_text Audit within = audit_words_are_texts
 plain_is_text Explain within = explain_words_are_texts
 plain_is_text Recover within = recover_words_are_texts
+plain_is_text Compact within = compact_words_are_texts
 plain_is_text (Drill number workers calls) within = drill_words_are_texts number workers calls within
 plain_is_text (Core number steps) within = core_words_are_texts number steps within
 

@@ -3,19 +3,20 @@ use Rattle.std.specs.Prelude.{◌≡◌, ℕ, List, Option}
 use Rattle.nal_term.specs.Names.{IsName}
 use Rattle.policy_history.specs.Values.{History}
 use Rattle.run_streams.specs.Runs.{SinkRun, SourceRun}
-use Rattle.nexus_run.specs.Commands.{IsDrill, IsLoad, audit_words, check_words, core_words, drill_words, explain_words, export_words, prove_words, recover_words, script_words, trust_words}
+use Rattle.nexus_run.specs.Commands.{IsDrill, IsLoad, audit_words, check_words, compact_words, core_words, drill_words, explain_words, export_words, prove_words, recover_words, script_words, trust_words}
 use Rattle.nexus_run.specs.LoadRuns.{RunsCore, RunsDrill}
 use Rattle.answer_commands.specs.Audits.{RunsAudit}
 use Rattle.answer_commands.specs.Explains.{RunsExplain}
 use Rattle.answer_commands.specs.Exports.{RunsExport}
 use Rattle.answer_commands.specs.CheckRuns.{RunsCheck}
+use Rattle.answer_commands.specs.Compacts.{RunsCompact}
 use Rattle.answer_commands.specs.Proves.{RunsProve}
 use Rattle.answer_commands.specs.Recovers.{RunsRecover}
 use Rattle.script_command.specs.Scripts.{PanelRun, RunsScript}
 use Rattle.answer_commands.specs.Trusts.{RunsTrust}
 
 -- what a run with these words is, for each command
-pub record RunsCommand (words : List (List ℕ)) (source : SourceRun) (sink : SinkRun) (panel : PanelRun) (journal : Option History) (status : ℕ) : Type 0 where
+pub record RunsCommand (words : List (List ℕ)) (source : SourceRun) (sink records : SinkRun) (panel : PanelRun) (journal : Option History) (status : ℕ) : Type 0 where
   pub check : words ≡ check_words → RunsCheck source sink status
   pub script : words ≡ script_words → RunsScript source sink panel journal status
   pub trust : words ≡ trust_words → RunsTrust source sink status
@@ -23,6 +24,7 @@ pub record RunsCommand (words : List (List ℕ)) (source : SourceRun) (sink : Si
   pub audit : words ≡ audit_words → RunsAudit source sink status
   pub explain : words ≡ explain_words → RunsExplain source sink status
   pub recover : words ≡ recover_words → RunsRecover source sink status
+  pub compact : words ≡ compact_words → RunsCompact source sink records status
   pub export : (name : List ℕ) → words ≡ export_words name → IsName name → RunsExport name source sink status
   pub core : (number steps : ℕ) → words ≡ core_words number steps → IsLoad number steps → RunsCore number steps sink status
   pub drill : (number workers calls : ℕ) → words ≡ drill_words number workers calls → IsDrill number workers calls → RunsDrill number workers calls sink status

@@ -6,7 +6,7 @@ use Rattle.nexus_client.specs.declared.inputs.TalkInput.{TalkInput}
 use Rattle.nexus_client.specs.declared.inputs.TalkInput.TheVariants.{RequestLines, PeerBundle}
 use Rattle.service_commands.specs.Services.{IsAddress, IsService}
 use Rattle.nexus_run.specs.declared.commands.Command.{Command}
-use Rattle.nexus_run.specs.declared.commands.Command.TheVariants.{Check, Script, Core, Trust, Prove, Audit, Explain, Recover, Drill}
+use Rattle.nexus_run.specs.declared.commands.Command.TheVariants.{Check, Script, Core, Trust, Prove, Audit, Explain, Recover, Compact, Drill}
 
 abbrev pub check_words : List (List ℕ)
 check_words = codes "check" ∷ []
@@ -28,6 +28,9 @@ explain_words = codes "explain" ∷ []
 
 abbrev pub recover_words : List (List ℕ)
 recover_words = codes "recover" ∷ []
+
+abbrev pub compact_words : List (List ℕ)
+compact_words = codes "compact" ∷ []
 
 -- a number from which a load is drawn, and how many steps it has
 abbrev pub core_words : ℕ → ℕ → List (List ℕ)
@@ -61,6 +64,7 @@ command_words Prove = prove_words
 command_words Audit = audit_words
 command_words Explain = explain_words
 command_words Recover = recover_words
+command_words Compact = compact_words
 command_words (Core number steps) = core_words number steps
 command_words (Drill number workers calls) = drill_words number workers calls
 

@@ -39,6 +39,8 @@ pub enum Command {
     Explain,
     /// Makes a policy text of one that was cut.
     Recover,
+    /// Makes a policy of the entries that still matter.
+    Compact,
     /// Takes so many steps of a load that is drawn from a number.
     Core {
         number: u64,
@@ -170,6 +172,8 @@ pub fn command_of(words: &[&str]) -> Option<Command>
         Some(Command::Explain)
     } else if is_word(words, "recover") {
         Some(Command::Recover)
+    } else if is_word(words, "compact") {
+        Some(Command::Compact)
     } else {
         load_of(words)
     }

@@ -3,12 +3,12 @@ ghost use Rattle.std.specs.Prelude.{◌≡◌, ◌≢◌, ◌⊎◌, ℕ, None, 
 ghost use Rattle.nx_io.specs.Streams.{Gave, Grows, gained};
 ghost use Rattle.run_streams.specs.Runs.{sink_run, source_run};
 ghost use Rattle.nexus_run.specs.Commanded.{RunsCommand};
-ghost use Rattle.nexus_run.specs.Commands.{IsPlain, core_words, drill_words, script_words};
+ghost use Rattle.nexus_run.specs.Commands.{IsPlain, compact_words, core_words, drill_words, script_words};
 ghost use Rattle.script_command.specs.Scripts.{panel_run};
 
 use crate::commands::{Command, command_of, export_of};
 use crate::load::{drill, load};
-use answer_commands::{Found, Recovered, answer_input, check, export};
+use answer_commands::{Found, Recovered, answer_input, check, compact, export};
 use audit_form::Told;
 use authority_ask::Panel;
 use explain_form::ExplanationText;
@@ -27,23 +27,26 @@ use trust_check::Trust;
 /// can reach it; `prove` reads labels and a goal, and writes a proof by a chain of delegations; `audit` reads a policy
 /// text and recorded verdicts, and writes whether each is right; `explain` reads a policy text and a call, and writes
 /// its verdict and what that comes from; `recover` reads a policy text that may be cut, and writes it whole; `export`
-/// reads a policy text, and writes the bundle of the labels that a principal holds; `core` reads nothing, and writes
-/// the line of a generated load; and so does `drill`, whose load runs on threads.
+/// reads a policy text, and writes the bundle of the labels that a principal holds; `compact` reads a policy text, writes that
+/// of the entries that still matter, and then to the records a line with the old and the new number of each label; `core` reads
+/// nothing, and writes the line of a generated load; and so does `drill`, whose load runs on threads.
 ///
 /// The status is 0 where all was done (of `check` at `allowed`, of `trust` at `safe`, of `explain` at `allowed`, of
 /// `prove` at a proof, of `audit` where each record is right), 1 at `denied`, where a goal is not safe, where there is
-/// no chain, where a record is wrong and where there is no principal to export, 2 where the words are not those of a command, which then reads and writes
-/// nothing, 3 where the input is refused, 4 where the source failed, 5 where the sink failed, 6 where memory ran out,
-/// and 8 where an authority could not be reached. At 4, 6 and 8 nothing was written, and at 5 a proper part of what was
-/// to be. `docs/FORMATS.md`, "Statuses", states this.
+/// no chain, where a record is wrong and where there is no principal to export, 2 where the words are not those of a
+/// command, which then reads and writes nothing, 3 where the input is refused, 4 where the source failed, 5 where the
+/// sink failed, or of `compact` the records, 6 where memory ran out, and 8 where an authority could not be reached. At
+/// 4, 6 and 8 nothing was written, and at 5 a proper part of what was to be. `docs/FORMATS.md`, "Statuses", states
+/// this.
 ///
 /// The input is what the source gives in this call. It is read to its first end, unless it is too large. The panel is
-/// handed back; only `script` uses it.
-pub fn run_plain<R, S: Source, K: Sink, P: Panel>(
+/// handed back; only `script` uses it, and only `compact` the records.
+pub fn run_plain<R, S: Source, C: Sink, K: Sink, P: Panel>(
     rt: &R,
     alloc: Global,
     words: &[&str],
     input: &mut S,
+    records: &mut C,
     output: &mut K,
     panel: P,
 ) -> PlainEnd<P>
@@ -53,11 +56,14 @@ where
         → (result.status ≡ 2) × (input.new ≡ input.old) × (output.new ≡ output.old) }
     ensures gave { Gave (S.left input.old) (S.left input.new) (S.given input.old) (S.given input.new) }
     ensures sent { Grows (K.sent output.old) (K.sent output.new) }
+    ensures recorded { Grows (C.sent records.old) (C.sent records.new) }
+    ensures unrecorded { map (λ w. w.now) words.now ≢ compact_words → records.new ≡ records.old }
     ensures said { Grows (P.said panel) (P.said result.panel) }
     ensures untouched { (result.status ≡ 4) ⊎ (result.status ≡ 6) → output.new ≡ output.old }
     ensures command { RunsCommand (map (λ w. w.now) words.now)
         (source_run (S.left input.old) (S.given input.old) (S.given input.new) (S.over input.new) (S.faults input.old) (S.faults input.new))
         (sink_run (K.sent output.old) (K.sent output.new) (K.faults output.old) (K.faults output.new))
+        (sink_run (C.sent records.old) (C.sent records.new) (C.faults records.old) (C.faults records.new))
         (panel_run (P.said panel) (P.said result.panel) (P.asks panel) (P.asks result.panel) (P.reached panel) (P.reached result.panel)
         (P.faults panel) (P.faults result.panel))
         result.journal result.status }
@@ -106,6 +112,11 @@ where
         },
         Some(Command::Recover) => PlainEnd {
             status: answer_input::<Recovered, S, K>(alloc, &(), input, output),
+            journal: None,
+            panel,
+        },
+        Some(Command::Compact) => PlainEnd {
+            status: compact(alloc, input, output, records),
             journal: None,
             panel,
         },

@@ -10,7 +10,7 @@ ghost use Rattle.nexus_serve.specs.Views.{door_view, link_view, panel_view, repo
 ghost use Rattle.nexus_client.specs.declared.inputs.TalkInput.{TalkInput};
 ghost use Rattle.service_commands.specs.Clients.{EndsClient, RunsClient};
 ghost use Rattle.nexus_run.specs.Commanded.{RunsCommand};
-ghost use Rattle.nexus_run.specs.Commands.{IsCommand, IsServiceCall, IsTalkCall, core_words, drill_words, script_words, serve_words, talk_words};
+ghost use Rattle.nexus_run.specs.Commands.{IsCommand, IsServiceCall, IsTalkCall, compact_words, core_words, drill_words, script_words, serve_words, talk_words};
 ghost use Rattle.service_commands.specs.Services.{IsAddress, IsService, HandsBack, RunsService};
 ghost use Rattle.script_command.specs.Scripts.{panel_run};
 
@@ -19,7 +19,7 @@ use crate::plain::run_plain;
 use authority_ask::Panel;
 use nx_io::{Door, Gate, Link, Sink, Source};
 use service_commands::{ClientEnd, Ended, TalkCall, client, run_service};
-use std::alloc::Global;
+use std::alloc::{AllocGlobal, Global};
 use std::net::{Net, TcpListener, TcpStream};
 use std::rt::Clock;
 use std::sync::Wait;
@@ -31,26 +31,28 @@ use std::thread::Threads;
 /// and a goal, and writes a proof by a chain of delegations; `audit` reads a policy text and recorded verdicts, and
 /// writes whether each is right; `explain` reads a policy text and a call, and writes its verdict and what that comes
 /// from; `recover` reads a policy text that may be cut, and writes it whole; `export` reads a policy text, and writes
-/// the bundle of the labels that a principal holds; `core` and `drill` read nothing, and write the line of a generated
-/// load, which `drill` runs on threads; `client` reads request lines, sends each over a link to an address, and writes
+/// the bundle of the labels that a principal holds; `compact` reads a policy text, writes that of the entries that still matter,
+/// and then to the records a line with the old and the new number of each label; `core` and `drill` read nothing, and write the
+/// line of a generated load, which `drill` runs on threads; `client` reads request lines, sends each over a link to an address, and writes
 /// the line of its reply before the next is sent, and so does `import` for a bundle that a peer says; `serve` reads a policy, listens at an address,
 /// serves the sessions of its workers, and writes the policy text as the journal grows.
 ///
 /// The status is 0 where all was done (of `check` at `allowed`, of `trust` at `safe`, of `explain` at `allowed`, of
 /// `prove` at a proof, of `audit` where each record is right), 1 at `denied`, where a goal is not safe, where there is
-/// no chain, where a record is wrong and where there is no principal to export, 2 where the words are not those of a command, which then reads and writes
-/// nothing, 3 where the input is refused, 4 where the source failed, 5 where the sink failed, 6 where memory ran out, 7
-/// where the door or a share of it failed, or the link of a talk, 8 where an authority could not be reached, and 9
-/// where the link of a talk ended before a whole reply or gave what is no reply. `docs/FORMATS.md`, "Statuses",
-/// states this.
+/// no chain, where a record is wrong and where there is no principal to export, 2 where the words are not those of a
+/// command, which then reads and writes nothing, 3 where the input is refused, 4 where the source failed, 5 where the
+/// sink failed, or of `compact` the records, 6 where memory ran out, 7 where the door or a share of it failed, or the
+/// link of a talk, 8 where an authority could not be reached, and 9 where the link of a talk ended before a whole reply
+/// or gave what is no reply. `docs/FORMATS.md`, "Statuses", states this.
 ///
 /// The input is what the source gives in this call. It is read to its first end, unless it is too large. Door and panel
-/// are handed back; only `serve`, `client` and `import` use the door, and only `script` and `serve` the panel.
-pub fn run<R, S: Source, K, D, P, G>(
+/// are handed back; only `serve`, `client` and `import` use the door, only `script` and `serve` the panel, and only
+/// `compact` the records, which are lent.
+pub fn run<R, S: Source, C: Sink, K, D, P, G>(
     rt: &R,
-    alloc: Global,
     words: &[&str],
     input: &mut S,
+    records: &mut C,
     output: K,
     door: D,
     panel: P,
@@ -62,17 +64,25 @@ where
     D::Link: Link + Send + Drop,
     P: Panel + Send + Drop,
     G: Gate + Sync,
-    R: Net<Listener = TcpListener, Stream = TcpStream> + Clock + Wait + Threads + Sync,
+    R: Net<Listener = TcpListener, Stream = TcpStream>
+        + AllocGlobal
+        + Clock
+        + Wait
+        + Threads
+        + Sync,
     ensures other_words { ¬ IsCommand (map (λ w. w.now) words.now)
         → (result.status ≡ 2) × (input.new ≡ input.old) × HandsBack result.output (λ k. k ≡ output) }
     ensures gave { Gave (S.left input.old) (S.left input.new) (S.given input.old) (S.given input.new) }
     ensures sent { ¬ IsServiceCall (map (λ w. w.now) words.now) → HandsBack result.output (λ k. Grows (K.sent output) (K.sent k)) }
+    ensures recorded { Grows (C.sent records.old) (C.sent records.new) }
+    ensures unrecorded { map (λ w. w.now) words.now ≢ compact_words → records.new ≡ records.old }
     ensures said { Grows (P.said panel) (P.said result.panel) }
     ensures undialed { ¬ IsServiceCall (map (λ w. w.now) words.now) → result.dialed ≡ None → result.status ≢ 7 → result.door ≡ door }
     ensures untouched { ¬ IsServiceCall (map (λ w. w.now) words.now) → result.dialed ≡ None → (result.status ≡ 4) ⊎ (result.status ≡ 6) → HandsBack result.output (λ k. k ≡ output) }
     ensures command { ¬ IsServiceCall (map (λ w. w.now) words.now) → HandsBack result.output (λ k. RunsCommand (map (λ w. w.now) words.now)
         (source_run (S.left input.old) (S.given input.old) (S.given input.new) (S.over input.new) (S.faults input.old) (S.faults input.new))
         (sink_run (K.sent output) (K.sent k) (K.faults output) (K.faults k))
+        (sink_run (C.sent records.old) (C.sent records.new) (C.faults records.old) (C.faults records.new))
         (panel_run (P.said panel) (P.said result.panel) (P.asks panel) (P.asks result.panel) (P.reached panel) (P.reached result.panel)
         (P.faults panel) (P.faults result.panel))
         result.journal result.status) }
@@ -106,6 +116,7 @@ where
     ensures other_panel { map (λ w. w.now) words.now ≢ script_words → ¬ IsServiceCall (map (λ w. w.now) words.now) → (result.panel ≡ panel) × (result.journal ≡ None) }
     ensures dialed { ¬ IsTalkCall (map (λ w. w.now) words.now) → result.dialed ≡ None }
 {
+    let alloc = rt.alloc();
     if let Some(service) = service_of(words) {
         return run_service(rt, alloc, service, input, output, door, panel, gate);
     }
@@ -113,7 +124,7 @@ where
         Some(call) => run_talk(rt, alloc, call, input, output, door, panel),
         None => {
             let mut output = output;
-            let end = run_plain(rt, alloc, words, input, &mut output, panel);
+            let end = run_plain(rt, alloc, words, input, records, &mut output, panel);
             Ended {
                 status: end.status,
                 output: Some(output),

@@ -12,7 +12,7 @@ ghost use Rattle.nexus_run.specs.Arguments.{words_of_call};
 ghost use Rattle.nexus_client.specs.declared.inputs.TalkInput.{TalkInput};
 ghost use Rattle.service_commands.specs.Clients.{RunsClient};
 ghost use Rattle.nexus_run.specs.Commanded.{RunsCommand};
-ghost use Rattle.nexus_run.specs.Commands.{IsCommand, IsServiceCall, IsTalkCall, core_words, drill_words, script_words, serve_words, talk_words};
+ghost use Rattle.nexus_run.specs.Commands.{IsCommand, IsServiceCall, IsTalkCall, compact_words, core_words, drill_words, script_words, serve_words, talk_words};
 ghost use Rattle.service_commands.specs.Services.{IsAddress, IsService, HandsBack, RunsService};
 ghost use Rattle.script_command.specs.Scripts.{panel_run};
 
@@ -22,7 +22,7 @@ use authority_ask::Panel;
 use nx_io::{Door, Gate, Link, Sink, Source};
 use policy_history::Journal;
 use session_core::Report;
-use std::alloc::Global;
+use std::alloc::{AllocGlobal, Global};
 use std::net::{Net, TcpListener, TcpStream};
 use std::process::ExitCode;
 use std::rt::Clock;
@@ -45,11 +45,11 @@ pub struct Finished<D: Door, P: Panel, K: Sink> {
 
 /// The whole program over its surroundings: `run` on all words after the program's name, ended by its status. A word
 /// that is not UTF-8 is no word of a command.
-pub fn start<R, A: Arguments, S: Source, K, D, P, G>(
+pub fn start<R, A: Arguments, S: Source, C: Sink, K, D, P, G>(
     rt: &R,
-    alloc: Global,
     arguments: &mut A,
     input: &mut S,
+    records: &mut C,
     output: K,
     door: D,
     panel: P,
@@ -61,19 +61,28 @@ where
     D::Link: Link + Send + Drop,
     P: Panel + Send + Drop,
     G: Gate + Sync,
-    R: Net<Listener = TcpListener, Stream = TcpStream> + Clock + Wait + Threads + Sync,
+    R: Net<Listener = TcpListener, Stream = TcpStream>
+        + AllocGlobal
+        + Clock
+        + Wait
+        + Threads
+        + Sync,
     ensures words { Grows (A.told arguments.old) (A.told arguments.new) }
     ensures all_words { exit_status result.code ≢ 6 → IsTrue (A.over arguments.new) }
     ensures other_words { ¬ IsCommand (words_of_call (gained (A.told arguments.old) (A.told arguments.new)))
         → ((exit_status result.code ≡ 2) ⊎ (exit_status result.code ≡ 6)) × (input.new ≡ input.old) × HandsBack result.output (λ k. k ≡ output) }
     ensures gave { Gave (S.left input.old) (S.left input.new) (S.given input.old) (S.given input.new) }
     ensures sent { ¬ IsServiceCall (words_of_call (gained (A.told arguments.old) (A.told arguments.new))) → HandsBack result.output (λ k. Grows (K.sent output) (K.sent k)) }
+    ensures recorded { Grows (C.sent records.old) (C.sent records.new) }
+    ensures unrecorded { words_of_call (gained (A.told arguments.old) (A.told arguments.new)) ≢ compact_words
+        → records.new ≡ records.old }
     ensures said { Grows (P.said panel) (P.said result.panel) }
     ensures undialed { ¬ IsServiceCall (words_of_call (gained (A.told arguments.old) (A.told arguments.new))) → result.dialed ≡ None → exit_status result.code ≢ 7 → result.door ≡ door }
     ensures untouched { ¬ IsServiceCall (words_of_call (gained (A.told arguments.old) (A.told arguments.new))) → result.dialed ≡ None → (exit_status result.code ≡ 4) ⊎ (exit_status result.code ≡ 6) → HandsBack result.output (λ k. k ≡ output) }
     ensures command { ¬ IsServiceCall (words_of_call (gained (A.told arguments.old) (A.told arguments.new))) → HandsBack result.output (λ k. RunsCommand (words_of_call (gained (A.told arguments.old) (A.told arguments.new)))
         (source_run (S.left input.old) (S.given input.old) (S.given input.new) (S.over input.new) (S.faults input.old) (S.faults input.new))
         (sink_run (K.sent output) (K.sent k) (K.faults output) (K.faults k))
+        (sink_run (C.sent records.old) (C.sent records.new) (C.faults records.old) (C.faults records.new))
         (panel_run (P.said panel) (P.said result.panel) (P.asks panel) (P.asks result.panel) (P.reached panel) (P.reached result.panel)
         (P.faults panel) (P.faults result.panel))
         result.journal (exit_status result.code)) }
@@ -107,6 +116,7 @@ where
     ensures other_panel { words_of_call (gained (A.told arguments.old) (A.told arguments.new)) ≢ script_words → ¬ IsServiceCall (words_of_call (gained (A.told arguments.old) (A.told arguments.new))) → (result.panel ≡ panel) × (result.journal ≡ None) }
     ensures dialed { ¬ IsTalkCall (words_of_call (gained (A.told arguments.old) (A.told arguments.new))) → result.dialed ≡ None }
 {
+    let alloc = rt.alloc();
     let Ok(words) = words_of_call(alloc, arguments) else {
         return stopped(alloc, 6, output, door, panel);
     };
@@ -114,9 +124,9 @@ where
         Ok(Some(texts)) => {
             let ended = run(
                 rt,
-                alloc,
                 texts.as_slice(),
                 input,
+                records,
                 output,
                 door,
                 panel,

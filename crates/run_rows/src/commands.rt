@@ -1,5 +1,5 @@
 // Whole inputs with the line that is written of each, and what faults of the source and of the sink come to.
-use crate::runs::{comes_to, pieces, play, play_faults, words_of};
+use crate::runs::{Streams, comes_to, pieces, play, play_faults, words_of};
 use std::alloc::{AllocError, Global};
 use std::net::{Net, TcpListener, TcpStream};
 use std::process::Abort;
@@ -132,6 +132,46 @@ fn labels_are_exported(rt: HostRuntime) -> Result<(), AllocError> {
     play(&rt, rt.alloc(), &["export", "alice"], pieces(7, 3), EXPORTS)
 }
 
+// A policy whose goal, proof, label and binding were changed, one that nothing changes, and inputs that are no policy. Behind `+` stand the old
+// and the new numbers of labels.
+const COMPACTED: &str =
+    "nexus 2|principal fs pf|principal bob pb|1 fs object f|1 fs goal read f : true|1 fs goal read f : fs says may(?subject)|\
+    1 fs say fs : may(eve)|1 fs say fs : may(bob)|1 fs delete 4|1 fs transfer 5 bob|2 bob transfer 5 fs|1 fs transfer 5 bob|\
+    2 bob proof read f : proof 2 ; 1 true_i : true ; end|2 bob noproof read f|\
+    2 bob proof read f : proof 2 ; 1 label : fs says may(bob) ; end|end| -> 0 none:nexus 2|principal fs pf|principal bob pb|\
+    1 fs object f|1 fs goal read f : fs says may(?subject)|1 fs say fs : may(bob)|1 fs transfer 3 bob|2 bob transfer 3 fs|\
+    1 fs transfer 3 bob|2 bob proof read f : proof 2 ; 1 label : fs says may(bob) ; end|end|+5 3|
+nexus 2|principal fs pf|authority 0 clock|1 fs bind fs 0|1 fs bind fs.a 0|1 fs unbind fs|1 fs say fs : a|1 fs say fs : b|1 fs delete 4|1 fs say fs : c|end| -> \
+    0 none:nexus 2|principal fs pf|authority 0 clock|1 fs bind fs.a 0|1 fs say fs : b|1 fs say fs : c|end|+5 2|7 3|
+nexus 2|principal fs pf|1 fs object f|end| -> 0 none:nexus 2|principal fs pf|1 fs object f|end|
+nexus 2|principal fs pf|1 fs object f| -> 3 none:refused line 4|
+nexus 2|principal fs pf|1 bob object f|end| -> 3 none:refused line 3|";
+
+// A policy of one label, where the first write of a record fails, and its second.
+const LABELLED: &str = "nexus 2|principal fs pf|1 fs say fs : a|end|";
+
+const RECORD_FAULTS: [(u64, &str); 2] = [
+    (1, "5 none:nexus 2|principal fs pf|1 fs say fs : a|end|"),
+    (2, "5 none:nexus 2|principal fs pf|1 fs say fs : a|end|+1 1"),
+];
+
+const COMPACT_FAULTS: [(u64, u64, &str); 2] = [(2, 0, "4 some:"), (0, 5, "5 none:nexu")];
+
+#[test]
+fn policies_are_compacted(rt: HostRuntime) -> Result<(), AllocError> {
+    let alloc = rt.alloc();
+    play(&rt, alloc, &["compact"], pieces(7, 3), COMPACTED)?;
+    play_faults(&rt, alloc, &["compact"], LABELLED, &COMPACT_FAULTS)?;
+    for (record_fails, due) in RECORD_FAULTS {
+        let streams = Streams {
+            record_fails,
+            ..pieces(7, 3)
+        };
+        comes_to(&rt, alloc, &["compact"], "", LABELLED, streams, due)?;
+    }
+    Ok(())
+}
+
 // Each row is words, ` -> ` and what comes of a run with them.
 fn play_words<R>(rt: &R, alloc: Global, rows: &str) -> Result<(), AllocError>
 where
@@ -166,6 +206,7 @@ script script -> 2 all:
 check script -> 2 all:
 trust trust -> 2 all:
 audit audit -> 2 all:
+compact compact -> 2 all:
 export -> 2 all:
 export says -> 2 all:
 export alice bob -> 2 all:

@@ -9,10 +9,10 @@ use authority_ask::MemPanel;
 use journal_text::reply_line;
 use nexus_client::request_of_line;
 use nexus_run::{Ended, run};
-use nx_io::{Bytes, DoorPlan, Gate, MemDoor, MemLink, MemSink, MemSource, OpenGate};
+use nx_io::{Bytes, Discard, DoorPlan, Gate, MemDoor, MemLink, MemSink, MemSource, OpenGate};
 use session_core::{Report, SessionEnd};
 use session_wire::{ReplyRead, read_reply};
-use std::alloc::{AllocError, Global};
+use std::alloc::{AllocError, AllocGlobal, Global};
 use std::mem;
 use std::net::{Net, TcpListener, TcpStream};
 use std::process::Abort;
@@ -264,7 +264,12 @@ fn ended<R, G: Gate + Sync>(
     gate: &G,
 ) -> Result<Ended<MemDoor, MemPanel, MemSink>, AllocError>
 where
-    R: Net<Listener = TcpListener, Stream = TcpStream> + Clock + Wait + Threads + Sync,
+    R: Net<Listener = TcpListener, Stream = TcpStream>
+        + AllocGlobal
+        + Clock
+        + Wait
+        + Threads
+        + Sync,
 {
     let policy = spelled(alloc, day.at("policy"))?;
     let mut source = MemSource::new(alloc, policy.as_slice(), 100, &[])?;
@@ -282,7 +287,12 @@ fn ended_over<R, G: Gate + Sync>(
     source: &mut MemSource,
 ) -> Result<Ended<MemDoor, MemPanel, MemSink>, AllocError>
 where
-    R: Net<Listener = TcpListener, Stream = TcpStream> + Clock + Wait + Threads + Sync,
+    R: Net<Listener = TcpListener, Stream = TcpStream>
+        + AllocGlobal
+        + Clock
+        + Wait
+        + Threads
+        + Sync,
 {
     let words = words_of(alloc, day.at("words"))?;
     let answers = asks_of(alloc, day.at("answers"))?;
@@ -304,7 +314,12 @@ fn ended_by<R, G: Gate + Sync>(
     panel: MemPanel,
 ) -> Result<Ended<MemDoor, MemPanel, MemSink>, AllocError>
 where
-    R: Net<Listener = TcpListener, Stream = TcpStream> + Clock + Wait + Threads + Sync,
+    R: Net<Listener = TcpListener, Stream = TcpStream>
+        + AllocGlobal
+        + Clock
+        + Wait
+        + Threads
+        + Sync,
 {
     match door_of(alloc, day) {
         Ok(door) => ended_with(rt, alloc, day, gate, words, source, panel, door),
@@ -327,10 +342,24 @@ fn ended_with<R, G: Gate + Sync>(
     door: MemDoor,
 ) -> Result<Ended<MemDoor, MemPanel, MemSink>, AllocError>
 where
-    R: Net<Listener = TcpListener, Stream = TcpStream> + Clock + Wait + Threads + Sync,
+    R: Net<Listener = TcpListener, Stream = TcpStream>
+        + AllocGlobal
+        + Clock
+        + Wait
+        + Threads
+        + Sync,
 {
     match MemSink::new(alloc, day.size("room"), 11, &[day.number("write")]) {
-        Ok(sink) => Ok(run(rt, alloc, words, source, sink, door, panel, gate)),
+        Ok(sink) => Ok(run(
+            rt,
+            words,
+            source,
+            &mut Discard::new(),
+            sink,
+            door,
+            panel,
+            gate,
+        )),
         Err(AllocError) => {
             drop(door);
             drop(panel);
@@ -373,7 +402,13 @@ pub fn try_day<R, G: Gate + Sync>(
     gate: &G,
 ) -> Result<(), AllocError>
 where
-    R: Net<Listener = TcpListener, Stream = TcpStream> + Clock + Wait + Threads + Sync + Abort,
+    R: Net<Listener = TcpListener, Stream = TcpStream>
+        + AllocGlobal
+        + Clock
+        + Wait
+        + Threads
+        + Sync
+        + Abort,
 {
     let ended = ended(rt, alloc, day, gate)?;
     let compared = compare(rt, alloc, day, &ended);
@@ -384,7 +419,13 @@ where
 // Each of the days, which empty lines part, comes to what it should.
 pub fn try_days<R>(rt: &R, alloc: Global, days: &str, other: &str) -> Result<(), AllocError>
 where
-    R: Net<Listener = TcpListener, Stream = TcpStream> + Clock + Wait + Threads + Sync + Abort,
+    R: Net<Listener = TcpListener, Stream = TcpStream>
+        + AllocGlobal
+        + Clock
+        + Wait
+        + Threads
+        + Sync
+        + Abort,
 {
     for own in days.split("\n\n") {
         try_day(rt, alloc, Day { own, other }, &OpenGate)?;

@@ -1,7 +1,7 @@
 // Plays rows of runs that are neither a service nor a client, over streams and a panel in memory. In a row `|` stands for a line feed.
 use authority_ask::{Ask, MemPanel};
 use nexus_run::run_plain;
-use nx_io::{MemSink, MemSource, Sink, Source};
+use nx_io::{MemSink, MemSource};
 use std::alloc::{AllocError, Global};
 use std::mem;
 use std::net::{Net, TcpListener, TcpStream};
@@ -10,13 +10,15 @@ use std::rt::Clock;
 use std::sync::Wait;
 use std::thread::Threads;
 
-// The pieces in which bytes are read and written, and the numbers of the read, the write and the reach that fail, 0 where none does.
+// The pieces in which bytes are read and written, and the numbers of the read, the write, the write of a record and the reach that fail, 0
+// where none does.
 #[derive(Clone, Copy)]
 pub struct Streams {
     pub read: usize,
     pub write: usize,
     pub read_fails: u64,
     pub write_fails: u64,
+    pub record_fails: u64,
     pub reach_fails: u64,
 }
 
@@ -27,6 +29,7 @@ pub const fn pieces(read: usize, write: usize) -> Streams {
         write,
         read_fails: 0,
         write_fails: 0,
+        record_fails: 0,
         reach_fails: 0,
     }
 }
@@ -76,12 +79,13 @@ pub fn asks_of(alloc: Global, letters: &str) -> Result<Vec<Ask>, AllocError> {
 
 // The status of a run with these words, over a panel that gives these answers. What is handed back is kept, since it takes long to prove that it may be
 // dropped.
-pub fn status_of<R, S: Source, K: Sink>(
+fn status_of<R>(
     rt: &R,
     alloc: Global,
     words: &[&str],
-    source: &mut S,
-    sink: &mut K,
+    source: &mut MemSource,
+    records: &mut MemSink,
+    sink: &mut MemSink,
     answers: &[Ask],
     reach_fails: u64,
 ) -> Result<u8, AllocError>
@@ -89,7 +93,7 @@ where
     R: Net<Listener = TcpListener, Stream = TcpStream> + Clock + Wait + Threads + Sync,
 {
     let panel = MemPanel::new(alloc, answers, &[reach_fails], &[])?;
-    let end = run_plain(rt, alloc, words, source, sink, panel);
+    let end = run_plain(rt, alloc, words, source, records, sink, panel);
     let status = end.status;
     mem::forget(end);
     Ok(status)
@@ -106,16 +110,21 @@ fn left_of(left: usize, whole: usize) -> &'static str {
     }
 }
 
-// The status, how much of the input is left, and what was written.
+// The status, how much of the input is left, what was written, and behind `+` the records, where there are some.
 fn shown(
     alloc: Global,
     status: Result<u8, AllocError>,
     left: &'static str,
     sent: &[u8],
+    recorded: &[u8],
 ) -> Result<Vec<u8>, AllocError> {
     let status = status?;
     let mut shown = format!(in alloc; "{status} {left}:")?.into_bytes();
     show(sent, &mut shown)?;
+    if !recorded.is_empty() {
+        shown.push(b'+')?;
+        show(recorded, &mut shown)?;
+    }
     Ok(shown)
 }
 
@@ -149,6 +158,25 @@ fn told_from<R>(
 where
     R: Net<Listener = TcpListener, Stream = TcpStream> + Clock + Wait + Threads + Sync,
 {
+    let mut records = MemSink::new(alloc, 4096, streams.write.max(1), &[streams.record_fails])?;
+    let told = told_with(rt, alloc, words, answers, source, streams, &mut records);
+    drop(records);
+    told
+}
+
+// And with these records.
+fn told_with<R>(
+    rt: &R,
+    alloc: Global,
+    words: &[&str],
+    answers: &[Ask],
+    source: &mut MemSource,
+    streams: Streams,
+    records: &mut MemSink,
+) -> Result<Vec<u8>, AllocError>
+where
+    R: Net<Listener = TcpListener, Stream = TcpStream> + Clock + Wait + Threads + Sync,
+{
     let whole = source.left().len();
     let mut sink = MemSink::new(alloc, 4096, streams.write.max(1), &[streams.write_fails])?;
     let status = status_of(
@@ -156,12 +184,13 @@ where
         alloc,
         words,
         source,
+        records,
         &mut sink,
         answers,
         streams.reach_fails,
     );
     let left = left_of(source.left().len(), whole);
-    let told = shown(alloc, status, left, sink.sent());
+    let told = shown(alloc, status, left, sink.sent(), records.sent());
     drop(sink);
     told
 }

@@ -1,15 +1,12 @@
 // What no clause says of readers, writers and arguments: only what was given, and which faults were counted.
-use crate::runs::status_of;
+use answer_commands::check;
 use nexus_run::{SystemArguments, texts, words_of_call};
 use nx_io::{Discard, MemSource, StdSink, StdSource};
 use std::alloc::{AllocError, Global};
 use std::env::FillError;
 use std::io::{self, ErrorKind, Read, Write};
 use std::mem;
-use std::net::{Net, TcpListener, TcpStream};
-use std::rt::{Clock, Env};
-use std::sync::Wait;
-use std::thread::Threads;
+use std::rt::Env;
 
 const ALLOWED: &str =
     "nexus check 1\nsubject alice\nlabel alice says ok\ngoal alice says ok\nproof 1\n1 label : alice says ok\nend\n";
@@ -40,16 +37,12 @@ impl Read for Scripted {
 }
 
 // How often a run of `check` over such a reader found it failing, behind its status.
-fn read_by<R>(rt: &R, alloc: Global, letters: &'static str) -> Result<(u8, u64), AllocError>
-where
-    R: Net<Listener = TcpListener, Stream = TcpStream> + Clock + Wait + Threads + Sync,
-{
+fn read_by(alloc: Global, letters: &'static str) -> (u8, u64) {
     let mut source = StdSource::new(Scripted { letters, calls: 0 });
-    let mut sink = Discard::new();
-    let status = status_of(rt, alloc, &["check"], &mut source, &mut sink, &[], 0);
+    let status = check(alloc, &mut source, &mut Discard::new());
     let faults = source.faults();
     mem::forget(source);
-    Ok((status?, faults))
+    (status, faults)
 }
 
 // What comes after the end is not read: with it the first input would be refused.
@@ -58,7 +51,7 @@ const READERS: [(&str, u8, u64); 4] = [("wex", 0, 0), ("ow", 4, 1), ("iiw", 0, 0
 #[test]
 fn a_reader_is_read_to_its_first_end_or_fault(rt: HostRuntime) -> Result<(), AllocError> {
     for (letters, status, faults) in READERS {
-        assert_eq!(rt; read_by(&rt, rt.alloc(), letters)?, (status, faults));
+        assert_eq!(rt; read_by(rt.alloc(), letters), (status, faults));
     }
     Ok(())
 }
@@ -85,25 +78,22 @@ impl Write for FailsOnce {
 }
 
 // The status of a run of `check` over a writer that fails so.
-fn written_by<R>(rt: &R, alloc: Global, error: ErrorKind) -> Result<u8, AllocError>
-where
-    R: Net<Listener = TcpListener, Stream = TcpStream> + Clock + Wait + Threads + Sync,
-{
+fn written_by(alloc: Global, error: ErrorKind) -> Result<u8, AllocError> {
     let mut source = MemSource::new(alloc, ALLOWED.as_bytes(), 7, &[])?;
     let mut sink = StdSink::new(FailsOnce {
         error,
         has_failed: false,
     });
-    let status = status_of(rt, alloc, &["check"], &mut source, &mut sink, &[], 0);
+    let status = check(alloc, &mut source, &mut sink);
     mem::forget(sink);
-    status
+    Ok(status)
 }
 
 #[test]
 fn a_write_that_fails_ends_the_program(rt: HostRuntime) -> Result<(), AllocError> {
     let alloc = rt.alloc();
-    assert_eq!(rt; written_by(&rt, alloc, ErrorKind::BrokenPipe)?, 5);
-    assert_eq!(rt; written_by(&rt, alloc, ErrorKind::Interrupted)?, 0);
+    assert_eq!(rt; written_by(alloc, ErrorKind::BrokenPipe)?, 5);
+    assert_eq!(rt; written_by(alloc, ErrorKind::Interrupted)?, 0);
     Ok(())
 }
 

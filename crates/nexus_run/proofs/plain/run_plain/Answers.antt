@@ -2,7 +2,7 @@ use Rattle.std.specs.Prelude.{option_map}
 use Rattle.policy_history.specs.Values.{entry_trees}
 use Rattle.proof_lines.specs.Lines.{line_trees}
 use Rattle.answer_commands.proofs.ForCallers.{runs_as, runs_check}
-use Rattle.nexus_run.proofs.Commanded.{audit_commanded, check_commanded, core_commanded, drill_commanded, explain_commanded, export_commanded, none_commanded, not_plain, prove_commanded, recover_commanded, script_commanded, trust_commanded}
+use Rattle.nexus_run.proofs.Commanded.{audit_commanded, check_commanded, compact_commanded, core_commanded, drill_commanded, explain_commanded, export_commanded, none_commanded, not_plain, prove_commanded, recover_commanded, script_commanded, trust_commanded}
 use Rattle.nexus_run.proofs.LoadEnds.{runs_load}
 use Rattle.script_command.proofs.ForCallers.{runs_script}
 use Rattle.nexus_run.proofs.plain.run_plain.Goals as goal
@@ -33,6 +33,12 @@ returns-in-Some-Explain-clause-command g c = explain_commanded (rw c.in-Some-Exp
 
 pub returns-in-Some-Recover-clause-command : goal.returns-in-Some-Recover-clause-command
 returns-in-Some-Recover-clause-command g c = recover_commanded (rw c.in-Some-Recover.field-0-is at c.in-Some-Recover.ensures).1 (runs_as (λ recovered. record { head = recovered.journal.head; entries = entry_trees recovered.journal.entries }) c.answer_input-in-Some-Recover.ensures.runs)
+
+pub returns-in-Some-Compact-clause-command : goal.returns-in-Some-Compact-clause-command
+returns-in-Some-Compact-clause-command g c = compact_commanded (rw c.in-Some-Compact.field-0-is at c.in-Some-Compact.ensures).1 c.compact.ensures.runs
+
+pub returns-in-Some-Compact-clause-unrecorded : goal.returns-in-Some-Compact-clause-unrecorded
+returns-in-Some-Compact-clause-unrecorded g c = λ other. absurd (other (rw c.in-Some-Compact.field-0-is at c.in-Some-Compact.ensures).1)
 
 pub returns-in-Some-Core-clause-command : goal.returns-in-Some-Core-clause-command
 returns-in-Some-Core-clause-command g c =

@@ -103,10 +103,10 @@ returns-in-Ok-None-clause-talk g c =
     λ talk address words is. absurd (none (inr (inr (talk, address, is, c.in-Ok.ensures.words ∙ words))))
 
 pub returns-in_default-clause-command : goal.returns-in_default-clause-command
-returns-in_default-clause-command g c = λ plain. rw (c.stopped.ensures.output, c.stopped.ensures.unused.0) (memory_commanded c.stopped.ensures.code (gained-nothing (g.K.Sink.sent c.args.output)) refl refl)
+returns-in_default-clause-command g c = λ plain. rw (c.stopped.ensures.output, c.stopped.ensures.unused.0) (memory_commanded c.stopped.ensures.code (gained-nothing (g.K.Sink.sent c.args.output)) refl refl (gained-nothing (g.C.Sink.sent c.args.records.now)) refl)
 
 pub returns-clause-command : goal.returns-clause-command
-returns-clause-command g c = λ plain. rw (c.stopped-in-Err.ensures.output, c.stopped-in-Err.ensures.unused.0) (memory_commanded c.stopped-in-Err.ensures.code (gained-nothing (g.K.Sink.sent c.args.output)) refl refl)
+returns-clause-command g c = λ plain. rw (c.stopped-in-Err.ensures.output, c.stopped-in-Err.ensures.unused.0) (memory_commanded c.stopped-in-Err.ensures.code (gained-nothing (g.K.Sink.sent c.args.output)) refl refl (gained-nothing (g.C.Sink.sent c.args.records.now)) refl)
 
 pub returns-in_default-clause-talk : goal.returns-in_default-clause-talk
 returns-in_default-clause-talk g c =
@@ -126,3 +126,9 @@ returns-in_default-clause-earned g c = λ h es is. absurd (no_journal _ h es c.s
 
 pub returns-clause-earned : goal.returns-clause-earned
 returns-clause-earned g c = λ h es is. absurd (no_journal _ h es c.stopped-in-Err.ensures.unused.0 is)
+
+pub returns-in-Ok-Some-clause-unrecorded : goal.returns-in-Ok-Some-clause-unrecorded
+returns-in-Ok-Some-clause-unrecorded g c =
+    let texts = rw (c.in-Ok-Some.field-0-is, c.as_slice.ensures.value, ← c.as_slice-in-Ok-Some.ensures.value) at c.in-Ok-Some.ensures in
+    let same = texts ∙ c.in-Ok.ensures.words in
+    λ other. c.run-ended.ensures.unrecorded (λ is. other (sym same ∙ is))
