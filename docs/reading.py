@@ -25,6 +25,7 @@ COMMANDS = {
     "explain": ["answer_commands/Explains"],
     "recover": ["answer_commands/Recovers"],
     "export": ["answer_commands/Exports"],
+    "compact": ["answer_commands/Compacts"],
     "script": ["script_command/Scripts"],
     "serve": ["service_commands/Services", "nexus_serve/TrueReports"],
     "client": ["service_commands/Clients"],

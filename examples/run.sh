@@ -190,6 +190,13 @@ elif ! python3 -B "$examples/peers/run.py" "$built"; then
     failed=$((failed + 1))
 fi
 
+# Policies of the entries that still matter, and a service that is renewed.
+if ! python3 -c 'import sys; sys.exit(sys.version_info < (3, 9))' 2>/dev/null; then
+    echo "compact: skipped, since there is no python3 of 3.9 or later"
+elif ! python3 -B "$examples/compact/run.py" "$built"; then
+    failed=$((failed + 1))
+fi
+
 # The commands of README and TOUR as they stand there, which run ./nexus.
 if ! python3 -c 'import sys; sys.exit(sys.version_info < (3, 9))' 2>/dev/null; then
     echo "documents: skipped, since there is no python3 of 3.9 or later"

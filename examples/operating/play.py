@@ -150,8 +150,9 @@ def play_sessions(work: Path) -> None:
 
 
 def shell_of(heading: str) -> str:
-    """The indented lines of a section of the document that begin with `$`, as a script."""
-    section = DOCUMENT.read_text().split(heading, 1)[1].split("\n## ", 1)[0]
+    """The indented lines of a section of the document that begin with `$`, as a script. It goes on to the next heading of its level."""
+    level = len(heading) - len(heading.lstrip("#"))
+    section = re.split(rf"\n#{{1,{level}}} ", DOCUMENT.read_text().split(heading, 1)[1], maxsplit=1)[0]
     return "\n".join(line[6:] for line in section.splitlines() if line.startswith("    $ "))
 
 
