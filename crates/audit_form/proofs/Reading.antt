@@ -1,16 +1,16 @@
 -- The lines behind the policy: which may follow, and what the whole input then is.
-use Rattle.std.proofs.Common.{◌≡◌, ◌<◌, ◌≤◌, ◌+◌, ◌==◌, inl, inr, ℕ, List, [], ◌∷◌, ◌++◌, Bool, true, false, length, codes, refl, sym, subst, ◌∙◌, arith}
+use Rattle.std.proofs.Common.{◌≡◌, ◌<◌, ◌≤◌, ◌+◌, inl, inr, ℕ, List, [], ◌∷◌, ◌++◌, length, codes, refl, sym, subst, arith}
 use Rattle.std.specs.List.{All}
-use Rattle.std.proofs.lemmas.Bool.Decides.{Decides-eqb}
 use Rattle.std.proofs.lemmas.List.Elements.{All-nil, All-cons, All-append}
 use Rattle.policy_history.specs.declared.heads.Head.{Head}
 use Rattle.policy_history.specs.Events.{EntryTree}
-use Rattle.form_lines.specs.Reading.{Leads, LeadsThrough, here, on}
+use Rattle.form_lines.specs.Reading.{IsStuck, IsWrongAt, Leads, LeadsThrough, here, on}
+use Rattle.form_lines.proofs.ForCallers.{long_left}
 use Rattle.audit_check.specs.Audits.{IsWithin}
 use Rattle.audit_check.specs.declared.records.Record.{Record}
-use Rattle.audit_form.specs.AuditForm.{Follows, Stage, end, ended, most_records, one, record_due}
+use Rattle.audit_form.specs.AuditForm.{Follows, IsEnded, Stage, end, ended, most_records, one, record_due}
 use Rattle.audit_form.specs.AuditForm.{AuditTree, IsAuditForm, header, in_policy, in_records, most_session}
-use Rattle.audit_form.specs.Inner.Reading.{IsWrongAfter, IsWrongBehind, IsWrongInput}
+use Rattle.audit_form.specs.Inner.Reading.{Behind, FollowsBehind, IsEndedBehind, IsWrongAfter, IsWrongBehind, IsWrongInput, behind, same}
 use Rattle.audit_form.specs.declared.read.AuditError.{AuditError}
 use Rattle.audit_form.specs.declared.read.AuditError.TheVariants.{Wrong, Memory}
 use Rattle.audit_form.specs.RecordLines.{IsRecordLine}
@@ -22,10 +22,10 @@ use Rattle.text_lines.specs.Lines.{after_line, first_line, line_length}
 
 module _ (h : Head) (es : List EntryTree) where
   -- a line that may follow and is not `end` is that of a record
-  pub record_follows : (line : List ℕ) (records : List Record) (next : Stage) → (line ≡ codes "end" → ⊥) → Follows h es (record_due records) line next
-      → (r : Record) × (length records < most_records) × IsRecordLine h es line r × (next ≡ record_due (records ++ r ∷ []))
-  record_follows line records next other (one r few l) = (r, few, l, refl)
-  record_follows line records next other (end e) = absurd (other e)
+  pub record_follows : (line : List ℕ) (records : List Record) (next : Behind) → (line ≡ codes "end" → ⊥) → FollowsBehind (behind h es (record_due records)) line next
+      → (r : Record) × (length records < most_records) × IsRecordLine h es line r × (next ≡ behind h es (record_due (records ++ r ∷ [])))
+  record_follows line records next other (same (one r few l)) = (r, few, l, refl)
+  record_follows line records next other (same (end e)) = absurd (other e)
 
   -- the records of a stage are
   abbrev AreWithin : Stage → Type 0
@@ -41,20 +41,38 @@ module _ (h : Head) (es : List EntryTree) where
   pub records_within : (text : List ℕ) (records : List Record) → LeadsThrough (Follows h es) (record_due []) text (ended records) → All (IsWithin h es) records
   records_within text records l = all_within l.1 (All-nil (IsWithin h es))
 
--- what is left of a text
-pub some_left : (rest : List ℕ) (is_empty : Bool) → is_empty ≡ (length rest == 0) → is_empty ≡ false → rest ≡ [] → ⊥
-some_left rest is_empty e f q = let t = (Decides-eqb (length rest) 0).1 (rw q refl) in absurd (cc (e, f, t))
+-- ---- The lines behind a policy, with the policy
 
-pub none_left : (rest : List ℕ) (is_empty : Bool) → is_empty ≡ (length rest == 0) → is_empty ≡ true → rest ≡ []
-none_left [] is_empty e t = refl
-none_left (b ∷ rest) is_empty e t = let zero_long = (Decides-eqb (length (b ∷ rest)) 0).0 (sym e ∙ t) in absurd (omega (arith, zero_long))
+-- the same lines lead on, and the policy stays
+pub led_behind : {h : Head} {es : List EntryTree} {stage : Stage} {last : Behind} {text rest : List ℕ} {n : ℕ} → Leads FollowsBehind (behind h es stage) text n last rest
+    → (end : Stage) × (last ≡ behind h es end) × Leads (Follows h es) stage text n end rest
+led_behind {stage = stage} here = (stage, refl, here)
+led_behind (on some (same f) leads) = let h = led_behind leads in (h.0, h.1, on some f h.2)
 
-pub long_left : (rest : List ℕ) → (rest ≡ [] → ⊥) → 0 < length rest
-long_left [] some = absurd (some refl)
-long_left (b ∷ rest) some = omega arith
+pub leads_behind : {h : Head} {es : List EntryTree} {stage last : Stage} {text rest : List ℕ} {n : ℕ} → Leads (Follows h es) stage text n last rest
+    → Leads FollowsBehind (behind h es stage) text n (behind h es last) rest
+leads_behind here = here
+leads_behind (on some f leads) = on some (same f) (leads_behind leads)
 
-pub same_records : {a b : List Record} → ended a ≡ ended b → a ≡ b
-same_records e = cc
+stuck_behind : {h : Head} {es : List EntryTree} {stage : Stage} {last : Behind} {rest : List ℕ} → last ≡ behind h es stage → IsStuck FollowsBehind IsEndedBehind last rest
+    → IsStuck (Follows h es) IsEnded stage rest
+stuck_behind e (inl none) = inl (none.0, λ ends. none.1 (subst IsEndedBehind (sym e) ends))
+stuck_behind {h = h} {es = es} {rest = rest} e (inr some) =
+    inr (some.0, λ next f. some.1 (behind h es next) (subst (λ (b : Behind). FollowsBehind b (first_line rest) (behind h es next)) (sym e) (same f)))
+
+pub wrong_behind : (h : Head) (es : List EntryTree) (stage : Stage) (text : List ℕ) (k : ℕ) → IsWrongAt FollowsBehind IsEndedBehind (behind h es stage) text k
+    → IsWrongAt (Follows h es) IsEnded stage text k
+wrong_behind h es stage text k w =
+    let led = led_behind w.led in
+    record { before = w.before; last = led.0; rest = w.rest; number = w.number; led = led.2; stuck = stuck_behind led.1 w.stuck }
+
+-- where the last line was read, all lines lead to the records
+pub records_read : {h x : Head} {es xs : List EntryTree} {text : List ℕ} {last : Behind} {records : List Record} {n : ℕ} → last ≡ behind x xs (ended records)
+    → Leads FollowsBehind (behind h es (record_due [])) text n last [] → LeadsThrough (Follows h es) (record_due []) text (ended records)
+records_read {h = h} {es = es} {text = text} {records = records} {n = n} e leads =
+    let led = led_behind leads in
+    let end : led.0 ≡ ended records = cc (e, led.1) in
+    (n, subst (λ (s : Stage). Leads (Follows h es) (record_due []) text n s []) end led.2)
 
 -- ---- The lines of the policy
 

@@ -1,7 +1,7 @@
 //! Reading an input of `audit`.
-ghost use Rattle.std.specs.Prelude.{◌≡◌, ◌≢◌, ◌↔◌, ◌≤◌, ◌+◌, ◌<◌, ◌^◌, [], IfErr, IfOk, IsTrue, List, MatchOption, ℕ, length, codes, All};
+ghost use Rattle.std.specs.Prelude.{◌≡◌, ◌≢◌, ◌↔◌, ◌≤◌, ◌+◌, ◌<◌, ◌^◌, [], IfErr, IfOk, IsTrue, List, ℕ, length, codes, All};
 ghost use Rattle.policy_history.specs.Values.{entry_trees};
-ghost use Rattle.form_lines.specs.Reading.{IsWrongAt, LeadsThrough};
+ghost use Rattle.form_lines.specs.Reading.{LeadsThrough};
 ghost use Rattle.policy_history.specs.declared.heads.Head.{Head};
 ghost use Rattle.policy_history.specs.Events.{EntryTree};
 ghost use Rattle.journal_text.specs.PolicyFronts.{IsFront};
@@ -9,13 +9,13 @@ ghost use Rattle.journal_text.specs.PolicyText.{most_bytes};
 ghost use Rattle.audit_check.specs.Audits.{IsWithin};
 ghost use Rattle.audit_check.specs.declared.records.Record as call;
 ghost use Rattle.audit_form.specs.AuditForm as form;
-ghost use Rattle.audit_form.specs.AuditForm.{Follows, IsAuditForm, IsEnded, Stage, ended, most_session, record_due};
-ghost use Rattle.audit_form.specs.Inner.Reading.{IsWrongAfter, IsWrongBehind, IsWrongInput, form_tree, stage_of};
+ghost use Rattle.audit_form.specs.AuditForm.{Follows, IsAuditForm, ended, most_session, record_due};
+ghost use Rattle.audit_form.specs.Inner.Reading.{Behind, FollowsBehind, IsWrongAfter, IsWrongBehind, IsWrongInput, behind, form_tree, stage_of};
 
 use crate::record_lines::read_record;
 use crate::texts::is_text;
 use audit_check::Record;
-use form_lines::LineError;
+use form_lines::{FormError, LineError, Progress, read_lines};
 use journal_text::{PolicyError, PolicyFront, read_front};
 use policy_history::Journal;
 use std::alloc::Global;
@@ -40,11 +40,12 @@ pub enum AuditError {
     Memory,
 }
 
-/// How much of the lines behind the policy was read.
+/// A policy, and how much of the lines behind it was read.
 #[derive(Drop)]
-pub enum Progress {
-    RecordDue(Vec<Record>),
-    Ended(Vec<Record>),
+pub enum AuditProgress<'a> {
+    /// A record, or the last line, behind these records.
+    RecordDue(&'a Journal, Vec<Record>),
+    Ended(&'a Journal, Vec<Record>),
 }
 
 /// Reads an input of `audit`, which has at most 67,108,864 bytes. `Wrong` exactly where the text has not its form, with the
@@ -112,66 +113,63 @@ fn read_records(
     ensures refused { IfErr result (λ e. e ≢ AuditError.Memory → (others : List call.Record)
         → ¬ LeadsThrough (Follows journal.now.head (entry_trees journal.now.entries)) (record_due []) text.now (ended others)) }
 {
-    let mut progress = Progress::RecordDue(Vec::new(alloc));
-    let mut rest = text;
-    let mut lines = before;
-    while !rest.is_empty() {
-        let (line, after) = first_line(rest);
-        lines += 1;
-        progress = match progress.after(alloc, journal, line) {
-            Ok(next) => next,
-            Err(LineError::Wrong) => return Err(AuditError::Wrong { line: lines }),
-            Err(LineError::Memory) => return Err(AuditError::Memory),
-        };
-        rest = after;
-    }
-    match progress.ended() {
-        Some(records) => Ok(records),
-        None => Err(AuditError::Wrong { line: lines + 1 }),
+    let first = AuditProgress::RecordDue(journal, Vec::new(alloc));
+    match read_lines(alloc, first, text) {
+        Ok(AuditProgress::Ended(_, records)) => Ok(records),
+        Ok(_) => unreachable!(),
+        Err(FormError::Wrong { line }) => Err(AuditError::Wrong {
+            line: before + line,
+        }),
+        Err(FormError::Memory) => Err(AuditError::Memory),
     }
 }
 
-impl Progress {
-    /// The progress after one line more. `Wrong` exactly where the line may not stand there.
-    fn after(self, alloc: Global, journal: &Journal, line: &[u8]) -> Result<Progress, LineError>
-        ensures ok { IfOk result (λ next. Follows journal.now.head (entry_trees journal.now.entries) (stage_of self) line.now (stage_of next)) }
-        ensures only { IfOk result (λ next. (other : Stage) → Follows journal.now.head (entry_trees journal.now.entries) (stage_of self) line.now other → other ≡ stage_of next) }
-        ensures wrong { IfErr result (λ e. e ≢ LineError.Memory → (next : Stage) → ¬ Follows journal.now.head (entry_trees journal.now.entries) (stage_of self) line.now next) }
-    {
+impl<'a> Progress for AuditProgress<'a> {
+    ghost use Rattle.audit_form.specs.Inner.Reading.{Behind, FollowsBehind, IsEndedBehind, stage_of};
+
+    ghost Stage = { Behind };
+
+    ghost stage = { stage_of };
+
+    ghost follows = { FollowsBehind };
+
+    ghost is_end = { IsEndedBehind };
+
+    fn after(self, alloc: Global, line: &[u8]) -> Result<AuditProgress<'a>, LineError> {
         match self {
-            Progress::RecordDue(records) => {
+            AuditProgress::RecordDue(journal, records) => {
                 if is_text(line, "end") {
-                    Ok(Progress::Ended(records))
+                    Ok(AuditProgress::Ended(journal, records))
                 } else {
                     after_record(alloc, journal, records, line)
                 }
             }
-            Progress::Ended(_) => Err(LineError::Wrong),
+            AuditProgress::Ended(_, _) => Err(LineError::Wrong),
         }
     }
 
-    /// The records, where all was read. None exactly where the input is not at its end.
-    fn ended(self) -> Option<Vec<Record>>
-        ensures { MatchOption result (¬ IsEnded (stage_of self)) (λ records. stage_of self ≡ ended records.items) }
-    {
-        match self {
-            Progress::Ended(records) => Some(records),
-            Progress::RecordDue(_) => None,
-        }
+    fn is_ended(&self) -> bool {
+        matches!(self, AuditProgress::Ended(_, _))
     }
 }
 
 /// The progress after a line that is not the last.
-fn after_record(
+fn after_record<'a>(
     alloc: Global,
-    journal: &Journal,
+    journal: &'a Journal,
     records: Vec<Record>,
     line: &[u8],
-) -> Result<Progress, LineError>
+) -> Result<AuditProgress<'a>, LineError>
     requires { line.now ≢ codes "end" }
-    ensures ok { IfOk result (λ next. Follows journal.now.head (entry_trees journal.now.entries) (record_due records.items) line.now (stage_of next)) }
-    ensures only { IfOk result (λ next. (other : Stage) → Follows journal.now.head (entry_trees journal.now.entries) (record_due records.items) line.now other → other ≡ stage_of next) }
-    ensures wrong { IfErr result (λ e. e ≢ LineError.Memory → (next : Stage) → ¬ Follows journal.now.head (entry_trees journal.now.entries) (record_due records.items) line.now next) }
+    ensures ok { IfOk result (λ next. FollowsBehind
+        (behind journal.now.head (entry_trees journal.now.entries) (record_due records.items))
+        line.now (stage_of next)) }
+    ensures only { IfOk result (λ next. (other : Behind) → FollowsBehind
+        (behind journal.now.head (entry_trees journal.now.entries) (record_due records.items))
+        line.now other → other ≡ stage_of next) }
+    ensures wrong { IfErr result (λ e. e ≢ LineError.Memory → (next : Behind) → ¬ FollowsBehind
+        (behind journal.now.head (entry_trees journal.now.entries) (record_due records.items))
+        line.now next) }
 {
     if records.len() >= MOST_RECORDS {
         return Err(LineError::Wrong);
@@ -182,7 +180,7 @@ fn after_record(
         Err(error) => return Err(error),
     };
     match records.push(recorded) {
-        Ok(()) => Ok(Progress::RecordDue(records)),
+        Ok(()) => Ok(AuditProgress::RecordDue(journal, records)),
         Err(_) => Err(LineError::Memory),
     }
 }

@@ -1,8 +1,8 @@
 -- What a reader that goes line by line knows of the whole text.
-use Rattle.std.proofs.Common.{◌≡◌, ◌≢◌, ◌==◌, ◌<◌, ◌+◌, ℕ, List, [], ◌∷◌, length, Bool, true, false, refl, sym, subst, ◌∙◌, arith}
+use Rattle.std.proofs.Common.{◌≡◌, ◌≢◌, ◌==◌, ◌<◌, ◌≤◌, ◌+◌, ℕ, List, [], ◌∷◌, length, length-drop, Bool, true, false, refl, sym, subst, ◌∙◌, arith}
 use Rattle.std.proofs.lemmas.Bool.Decides.{Decides-eqb}
-use Rattle.text_lines.specs.Lines.{first_line, after_line}
-use Rattle.form_lines.specs.Reading.{Leads, here, on, LeadsThrough}
+use Rattle.text_lines.specs.Lines.{first_line, after_line, line_length}
+use Rattle.form_lines.specs.Reading.{Leads, here, on, LeadsThrough, IsWrongAt}
 
 module _ {Stage : Type 0} (Follows : Stage → List ℕ → Stage → Type 0) where
   -- one line more
@@ -61,3 +61,20 @@ none_left (b ∷ rest) is_empty e t = let zero_long = (Decides-eqb (length (b �
 pub long_left : (rest : List ℕ) → (rest ≡ [] → ⊥) → 0 < length rest
 long_left [] some = absurd (some refl)
 long_left (b ∷ rest) some = omega arith
+
+-- ---- How many lines there can be
+
+-- each line that was read is a byte or more
+few_lines : {Stage : Type 0} {Follows : Stage → List ℕ → Stage → Type 0} {stage last : Stage} {text rest : List ℕ} {n : ℕ} → Leads Follows stage text n last rest
+    → n + length rest ≤ length text
+few_lines here = omega arith
+few_lines (on {text = text} some f l) =
+    let later = few_lines l in
+    let long = long_left text some in
+    let dropped = length-drop (line_length text + 1) text in
+    omega (arith, later, long, dropped)
+
+-- the number of a wrong line is at most one more than that of bytes
+pub wrong_line_within : {Stage : Type 0} {Follows : Stage → List ℕ → Stage → Type 0} {IsEnd : Stage → Type 0} {first : Stage} {text : List ℕ} {k : ℕ} → IsWrongAt Follows IsEnd first text k
+    → k ≤ length text + 1
+wrong_line_within w = let few = few_lines w.led in let number = w.number in omega (arith, few, number)

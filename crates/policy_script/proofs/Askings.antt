@@ -1,17 +1,18 @@
 -- The lines of requests: what is read of each, and of all.
-use Rattle.std.proofs.Common.{◌≡◌, ◌≢◌, ◌<◌, ◌≤◌, ◌+◌, ◌-◌, ◌^◌, ◌==◌, true, false, ℕ, List, [], ◌∷◌, ◌++◌, length, refl, sym, ap, subst, ◌∙◌, append_assoc, arith}
+use Rattle.std.proofs.Common.{◌≡◌, ◌≢◌, ◌<◌, ◌≤◌, ◌+◌, ◌-◌, ◌^◌, inl, inr, ℕ, List, [], ◌∷◌, ◌++◌, refl, sym, ap, subst, ◌∙◌, append_assoc, arith}
 use Rattle.std.proofs.lemmas.List.{append-nil}
-use Rattle.std.proofs.lemmas.Bool.Decides.{Decides-eqb}
 use Rattle.std.proofs.lemmas.Fmt.{decimal_injective}
 use Rattle.std.specs.Fmt.{decimal}
 use Rattle.policy_history.specs.PolicyLines.{spaced}
+use Rattle.form_lines.specs.Reading.{IsStuck, Leads, LeadsThrough, here, on}
 use Rattle.text_lines.specs.Lines.{after_line, first_line}
 use Rattle.session_wire.specs.declared.requests.Request.{Request}
 use Rattle.session_core.specs.declared.lines.Asking.{Asking}
 use Rattle.journal_text.specs.Inner.PolicyReading.{IsUnspaced}
 use Rattle.journal_text.specs.RequestLines.{IsRequestLine}
 use Rattle.journal_text.proofs.WordsForCallers.{number_in_front}
-use Rattle.policy_script.specs.ScriptForm.{AreAskings, none, next, IsAskingLine, IsWrongAsking, here, later}
+use Rattle.policy_script.specs.ScriptForm.{AreAskings, none, next, IsAskingLine, IsWrongAsking, here as wrong_here, later}
+use Rattle.policy_script.specs.Inner.Reading.{Follows, MayEnd}
 
 -- ---- One line
 
@@ -62,80 +63,26 @@ no_number line word rest formed unspaced bad other l =
 
 -- ---- All lines
 
-pub empty_of : (xs : List ℕ) → (length xs == 0) ≡ true → xs ≡ []
-empty_of [] e = refl
-empty_of (x ∷ xs) e = let h = (Decides-eqb (length (x ∷ xs)) 0).0 e in absurd (omega (arith, h))
+-- what is read behind some requests is those, and the requests of the lines
+pub requests_read : {before last : List Asking} {text rest : List ℕ} {n : ℕ} → Leads Follows before text n last rest → rest ≡ []
+    → (more : List Asking) × AreAskings text more × (last ≡ before ++ more)
+requests_read {before = before} here e = ([], subst (λ (t : List ℕ). AreAskings t []) (sym e) none, sym (append-nil before))
+requests_read {before = before} (on some f leads) e =
+    let h = requests_read leads e in
+    (f.asking ∷ h.0, next some f.is_line h.1, h.2 ∙ ap (λ (xs : List Asking). xs ++ h.0) f.next_is ∙ append_assoc before (f.asking ∷ []) h.0)
 
-pub some_of : (xs : List ℕ) → (length xs == 0) ≡ false → xs ≢ []
-some_of xs e q = let t = (Decides-eqb (length xs) 0).1 (ap length q) in absurd (cc (t, e))
+pub requests_lead : {text : List ℕ} {more : List Asking} (before : List Asking) → AreAskings text more → LeadsThrough Follows before text (before ++ more)
+requests_lead before none = (0, subst (λ (xs : List Asking). Leads Follows before [] 0 xs []) (sym (append-nil before)) here)
+requests_lead before (next {text = text} {asking = asking} {askings = askings} some line are) =
+    let longer = before ++ asking ∷ [] in
+    let h = requests_lead longer are in
+    let same = append_assoc before (asking ∷ []) askings in
+    let follows : Follows before (first_line text) longer = record { asking = asking; is_line = line; next_is = refl } in
+    (h.0 + 1, on some follows (subst (λ (xs : List Asking). Leads Follows longer (after_line text) h.0 xs []) same h.1))
 
-pub some_length : (xs : List ℕ) → xs ≢ [] → 0 < length xs
-some_length [] some = absurd (some refl)
-some_length (x ∷ xs) some = omega arith
-
--- what the lines of a text that is not empty begin with
-pub record IsCut (text : List ℕ) (askings : List Asking) : Type 0 where
-  pub first : Asking
-  pub others : List Asking
-  pub are : askings ≡ first ∷ others
-  pub line : IsAskingLine (first_line text) first
-  pub behind : AreAskings (after_line text) others
-
-pub cut : {text : List ℕ} {askings : List Asking} → text ≢ [] → AreAskings text askings → IsCut text askings
-cut some none = absurd (some refl)
-cut some (next {asking = asking} {askings = askings} more line behind) = record { first = asking; others = askings; are = refl; line = line; behind = behind }
-
-pub no_line : {text : List ℕ} {askings : List Asking} → text ≡ [] → AreAskings text askings → askings ≡ []
-no_line e none = refl
-no_line e (next more line behind) = absurd (more e)
-
--- what is known of lines that were read: those behind them may be any
-pub record IsReadSoFar (text rest : List ℕ) (items : List Asking) (read : ℕ) : Type 0 where
-  pub ok : (more : List Asking) → AreAskings rest more → AreAskings text (items ++ more)
-  pub only : (others : List Asking) → AreAskings text others → (more : List Asking) × (others ≡ items ++ more) × AreAskings rest more
-  pub wrong : (j : ℕ) → IsWrongAsking rest j → IsWrongAsking text (read + j)
-
-pub nothing_read : (text : List ℕ) → IsReadSoFar text text [] 0
-nothing_read text = record {
-  ok = λ more a. a;
-  only = λ others a. (others, refl, a);
-  wrong = λ j w. let same : 0 + j ≡ j = omega arith in subst (IsWrongAsking text) (sym same) w;
-}
-
-pub one_read : (text rest : List ℕ) (items : List Asking) (read : ℕ) (asking : Asking) → IsReadSoFar text rest items read → rest ≢ [] → IsAskingLine (first_line rest) asking
-    → ((other : Asking) → IsAskingLine (first_line rest) other → other ≡ asking) → IsReadSoFar text (after_line rest) (items ++ asking ∷ []) (read + 1)
-one_read text rest items read asking so some line only = record {
-  ok = λ more a. subst (AreAskings text) (sym (append_assoc items (asking ∷ []) more)) (so.ok (asking ∷ more) (next some line a));
-  only = λ others a.
-      let h = so.only others a in
-      let c = cut some h.2 in
-      let first : c.first ≡ asking = only c.first c.line in
-      let all : others ≡ (items ++ asking ∷ []) ++ c.others =
-      h.1 ∙ ap (λ xs. items ++ xs) (c.are ∙ ap (λ x. x ∷ c.others) first) ∙ sym (append_assoc items (asking ∷ []) c.others) in
-      (c.others, all, c.behind);
-  wrong = λ j w.
-      let same : read + 1 + j ≡ read + (j + 1) = omega arith in
-      subst (IsWrongAsking text) (sym same) (so.wrong (j + 1) (later asking some line w));
-}
-
--- where nothing is left, all was read
-pub all_read : (text rest : List ℕ) (items : List Asking) (read : ℕ) → IsReadSoFar text rest items read → rest ≡ [] → AreAskings text items
-all_read text rest items read so last =
-    let left : AreAskings rest [] = subst (λ (r : List ℕ). AreAskings r []) (sym last) none in
-    subst (AreAskings text) (append-nil items) (so.ok [] left)
-
-pub only_read : (text rest : List ℕ) (items : List Asking) (read : ℕ) → IsReadSoFar text rest items read → rest ≡ [] → (others : List Asking) → AreAskings text others → others ≡ items
-only_read text rest items read so last others a =
-    let h = so.only others a in
-    h.1 ∙ ap (λ xs. items ++ xs) (no_line last h.2) ∙ append-nil items
-
--- where the next line is none, the lines are none
-pub line_wrong : (text rest : List ℕ) (items : List Asking) (read : ℕ) → IsReadSoFar text rest items read → rest ≢ [] → ((other : Asking) → IsAskingLine (first_line rest) other → ⊥)
-    → IsWrongAsking text (read + 1)
-line_wrong text rest items read so some bad = so.wrong 1 (here some bad)
-
-pub line_refused : (text rest : List ℕ) (items : List Asking) (read : ℕ) → IsReadSoFar text rest items read → rest ≢ [] → ((other : Asking) → IsAskingLine (first_line rest) other → ⊥)
-    → (others : List Asking) → AreAskings text others → ⊥
-line_refused text rest items read so some bad others a =
-    let c = cut some (so.only others a).2 in
-    bad c.first c.line
+-- where the next line is none, the lines are wrong there
+pub wrong_request : {before last : List Asking} {text rest : List ℕ} {n : ℕ} → Leads Follows before text n last rest → IsStuck Follows MayEnd last rest → IsWrongAsking text (n + 1)
+wrong_request here (inl ends) = absurd (ends.1 tt)
+wrong_request {before = before} here (inr bad) =
+    wrong_here bad.0 (λ asking line. bad.1 (before ++ asking ∷ []) (record { asking = asking; is_line = line; next_is = refl }))
+wrong_request (on some f leads) stuck = later f.asking some f.is_line (wrong_request leads stuck)

@@ -5,11 +5,13 @@ ghost use Rattle.session_core.specs.declared.lines.Asking.{Asking};
 ghost use Rattle.policy_script.specs.ScriptForm.{AreAskings, IsAskingLine, IsScript, ScriptTree};
 ghost use Rattle.policy_script.specs.Inner.Reading.{IsWrongAfter, IsWrongInput, script_tree};
 
+use form_lines as line;
+use form_lines::{FormError, Progress, read_lines};
 use journal_text::{LineError, PolicyError, PolicyFront, read_front, read_request, split_word};
 use policy_history::Journal;
 use session_core::Asking;
 use std::alloc::Global;
-use text_lines::{first_line, read_number};
+use text_lines::read_number;
 
 /// The greatest number that a session of the policy's entries may have, so that the number after those of 64 more is below the
 /// greatest.
@@ -23,6 +25,12 @@ const SESSIONS: u64 = 64;
 pub struct Script {
     pub journal: Journal,
     pub askings: Vec<Asking>,
+}
+
+/// The requests of the lines that were read, in their order.
+#[derive(Drop)]
+pub struct Askings {
+    pub list: Vec<Asking>,
 }
 
 /// Why an input was not read.
@@ -73,23 +81,47 @@ fn read_askings(alloc: Global, text: &[u8], before: u64) -> Result<Vec<Asking>, 
     ensures wrong { IfErr result (IsWrongAfter before text.now) }
     ensures refused { IfErr result (λ e. e ≢ ScriptError.Memory → (others : List Asking) → ¬ AreAskings text.now others) }
 {
-    let mut askings = Vec::new(alloc);
-    let mut rest = text;
-    let mut line = before;
-    while !rest.is_empty() {
-        line += 1;
-        let (front, after) = first_line(rest);
-        let asking = match read_asking(alloc, front) {
-            Ok(asking) => asking,
-            Err(LineError::Bad) => return Err(ScriptError::Wrong { line }),
-            Err(LineError::Memory) => return Err(ScriptError::Memory),
-        };
-        let Ok(()) = askings.push(asking) else {
-            return Err(ScriptError::Memory);
-        };
-        rest = after;
+    let first = Askings {
+        list: Vec::new(alloc),
+    };
+    match read_lines(alloc, first, text) {
+        Ok(last) => Ok(last.list),
+        Err(FormError::Wrong { line }) => Err(ScriptError::Wrong {
+            line: before + line,
+        }),
+        Err(FormError::Memory) => Err(ScriptError::Memory),
     }
-    Ok(askings)
+}
+
+impl Progress for Askings {
+    ghost use Rattle.std.specs.Prelude.{List};
+    ghost use Rattle.session_core.specs.declared.lines.Asking.{Asking};
+    ghost use Rattle.policy_script.specs.Inner.Reading.{Follows, MayEnd};
+
+    ghost Stage = { List Asking };
+
+    ghost stage = { λ askings. askings.list.items };
+
+    ghost follows = { Follows };
+
+    ghost is_end = { MayEnd };
+
+    fn after(self, alloc: Global, line: &[u8]) -> Result<Askings, line::LineError> {
+        let mut list = self.list;
+        let asking = match read_asking(alloc, line) {
+            Ok(asking) => asking,
+            Err(LineError::Bad) => return Err(line::LineError::Wrong),
+            Err(LineError::Memory) => return Err(line::LineError::Memory),
+        };
+        match list.push(asking) {
+            Ok(()) => Ok(Askings { list }),
+            Err(_) => Err(line::LineError::Memory),
+        }
+    }
+
+    fn is_ended(&self) -> bool {
+        true
+    }
 }
 
 /// Reads the line of a request. `Bad` exactly where it is none.

@@ -6,10 +6,9 @@ ghost use Rattle.prove_form.specs.ProveForm.{IsProveForm};
 
 use crate::answers::ProveError;
 use crate::givens::ProveForm;
-use crate::progress::Progress;
-use form_lines::LineError;
+use crate::progress::ProveProgress;
+use form_lines::{FormError, read_lines};
 use std::alloc::Global;
-use text_lines::first_line;
 
 /// Reads an input of `prove`. `Wrong` exactly where the text has not its form, with the lowest line that is wrong.
 /// `docs/FORMATS.md`, "The input of `prove`", states the form.
@@ -20,21 +19,10 @@ pub fn read_prove(alloc: Global, text: &[u8]) -> Result<ProveForm, ProveError>
     ensures wrong { IfErr result (IsWrongInput text.now) }
     ensures refused { IfErr result (λ e. e ≢ ProveError.Memory → (other : form.ProveForm) → ¬ IsProveForm text.now other) }
 {
-    let mut progress = Progress::HeaderDue;
-    let mut rest = text;
-    let mut lines = 0u64;
-    while !rest.is_empty() {
-        let (line, after) = first_line(rest);
-        lines += 1;
-        progress = match progress.after(alloc, line) {
-            Ok(next) => next,
-            Err(LineError::Wrong) => return Err(ProveError::Wrong { line: lines }),
-            Err(LineError::Memory) => return Err(ProveError::Memory),
-        };
-        rest = after;
-    }
-    match progress.ended() {
-        Some(form) => Ok(form),
-        None => Err(ProveError::Wrong { line: lines + 1 }),
+    match read_lines(alloc, ProveProgress::HeaderDue, text) {
+        Ok(ProveProgress::Ended(form)) => Ok(form),
+        Ok(_) => unreachable!(),
+        Err(FormError::Wrong { line }) => Err(ProveError::Wrong { line }),
+        Err(FormError::Memory) => Err(ProveError::Memory),
     }
 }

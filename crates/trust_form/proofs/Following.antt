@@ -1,6 +1,5 @@
 -- Which line may follow at a stage, from the word with which it begins.
-use Rattle.std.proofs.Common.{◌≡◌, ◌<◌, ◌==◌, ◌++◌, ◌∷◌, [], ℕ, List, Bool, true, false, length, arith, codes, refl, sym, subst, ap, ◌∙◌}
-use Rattle.std.proofs.lemmas.Bool.Decides.{Decides-eqb}
+use Rattle.std.proofs.Common.{◌≡◌, ◌++◌, ℕ, List, codes, refl, sym, subst, ap}
 use Rattle.nal_term.specs.Names.{IsName}
 use Rattle.form_lines.specs.Statements.{IsGoal, IsStatement}
 use Rattle.trust_form.specs.declared.words.Word.{Word}
@@ -68,26 +67,8 @@ same_name e f = cc
 pub after_subject : (line x : List ℕ) (next : Stage) → line ≡ codes "subject " ++ x → Follows subject_due line next → IsName x × (next ≡ goal_due (subject_alone x))
 after_subject line x next d (subject {x = y} e n) = let same = same_name e d in (subst (λ u. IsName u) same n, ap (λ u. goal_due (subject_alone u)) same)
 
-pub subjectless : (line : List ℕ) (next : Stage) → ((x : List ℕ) → line ≡ codes "subject " ++ x → ⊥) → Follows subject_due line next → ⊥
-subjectless line next none (subject e n) = none _ e
-
 pub after_end_due : (line : List ℕ) (form : TrustForm) (next : Stage) → Follows (end_due form) line next → (line ≡ codes "end") × (next ≡ ended form)
 after_end_due line form next (end e) = (e, refl)
-
-pub after_ended : (line : List ℕ) (form : TrustForm) (next : Stage) → Follows (ended form) line next → ⊥
-after_ended line form next f = elim f [ ]
-
--- what is left of a text
-pub some_left : (rest : List ℕ) (is_empty : Bool) → is_empty ≡ (length rest == 0) → is_empty ≡ false → rest ≡ [] → ⊥
-some_left rest is_empty e f q = let t = (Decides-eqb (length rest) 0).1 (rw q refl) in absurd (cc (e, f, t))
-
-pub none_left : (rest : List ℕ) (is_empty : Bool) → is_empty ≡ (length rest == 0) → is_empty ≡ true → rest ≡ []
-none_left [] is_empty e t = refl
-none_left (b ∷ rest) is_empty e t = let zero_long = (Decides-eqb (length (b ∷ rest)) 0).0 (sym e ∙ t) in absurd (omega (arith, zero_long))
-
-pub long_left : (rest : List ℕ) → (rest ≡ [] → ⊥) → 0 < length rest
-long_left [] some = absurd (some refl)
-long_left (b ∷ rest) some = omega arith
 
 pub same_form : {a b : TrustForm} → ended a ≡ ended b → a ≡ b
 same_form e = cc

@@ -1,17 +1,17 @@
 //! Which line may follow which in an input of `trust`.
-ghost use Rattle.std.specs.Prelude.{◌≡◌, ◌≢◌, ◌↔◌, IfErr, IfOk, IsTrue, MatchOption};
+ghost use Rattle.std.specs.Prelude.{◌≡◌, ◌≢◌, ◌↔◌, IfErr, IfOk, IsTrue};
 ghost use Rattle.trust_form.specs.Inner.Reading.{IsAfter, form_tree, givens_tree, stage_of};
-ghost use Rattle.trust_form.specs.TrustForm.{Follows, IsEnded, Stage, end_due, ended, goal_due, header_due, subject_due};
+ghost use Rattle.trust_form.specs.TrustForm.{Follows, Stage, end_due, goal_due, header_due, subject_due};
 
 use crate::givens::{Givens, TrustForm};
 use crate::words::{Word, word_of};
-use form_lines::{LineError, goal};
+use form_lines::{LineError, Progress, goal};
 use std::alloc::Global;
 use text_lines::after_word;
 
 /// How much of an input was read. `docs/FORMATS.md`, "The input of `trust`", says which line may stand where.
 #[derive(Drop)]
-pub enum Progress {
+pub enum TrustProgress {
     HeaderDue,
     SubjectDue,
     /// The goal, or more of what stands before it.
@@ -20,55 +20,52 @@ pub enum Progress {
     Ended(TrustForm),
 }
 
-impl Progress {
-    /// The progress after one line more. `Wrong` exactly where the line may not stand there.
-    pub fn after(self, alloc: Global, line: &[u8]) -> Result<Progress, LineError>
-        ensures ok { IfOk result (λ next. Follows (stage_of self) line.now (stage_of next)) }
-        ensures only { IfOk result (λ next. (other : Stage) → Follows (stage_of self) line.now other → other ≡ stage_of next) }
-        ensures wrong { IfErr result (λ e. e ≢ LineError.Memory → (next : Stage) → ¬ Follows (stage_of self) line.now next) }
-    {
+impl Progress for TrustProgress {
+    ghost use Rattle.trust_form.specs.Inner.Reading.{stage_of};
+    ghost use Rattle.trust_form.specs.TrustForm.{Follows, IsEnded, Stage};
+
+    ghost Stage = { Stage };
+
+    ghost stage = { stage_of };
+
+    ghost follows = { Follows };
+
+    ghost is_end = { IsEnded };
+
+    fn after(self, alloc: Global, line: &[u8]) -> Result<TrustProgress, LineError> {
         match self {
-            Progress::HeaderDue => after_start(line),
-            Progress::SubjectDue => after_subject(alloc, line),
-            Progress::GoalDue(givens) => after_givens(alloc, givens, line),
-            Progress::EndDue(form) => after_goal(form, line),
-            Progress::Ended(_) => Err(LineError::Wrong),
+            TrustProgress::HeaderDue => after_start(line),
+            TrustProgress::SubjectDue => after_subject(alloc, line),
+            TrustProgress::GoalDue(givens) => after_givens(alloc, givens, line),
+            TrustProgress::EndDue(form) => after_goal(form, line),
+            TrustProgress::Ended(_) => Err(LineError::Wrong),
         }
     }
 
-    /// What was read, where all was. None exactly where the input is not at its end.
-    pub fn ended(self) -> Option<TrustForm>
-        ensures { MatchOption result (¬ IsEnded (stage_of self)) (λ form. stage_of self ≡ ended (form_tree form)) }
-    {
-        match self {
-            Progress::Ended(form) => Some(form),
-            Progress::HeaderDue => None,
-            Progress::SubjectDue => None,
-            Progress::GoalDue(_) => None,
-            Progress::EndDue(_) => None,
-        }
+    fn is_ended(&self) -> bool {
+        matches!(self, TrustProgress::Ended(_))
     }
 }
 
-fn after_start(line: &[u8]) -> Result<Progress, LineError>
+fn after_start(line: &[u8]) -> Result<TrustProgress, LineError>
     ensures ok { IfOk result (λ next. Follows header_due line.now (stage_of next)) }
     ensures only { IfOk result (λ next. (other : Stage) → Follows header_due line.now other → other ≡ stage_of next) }
     ensures wrong { IfErr result (λ e. e ≢ LineError.Memory → (next : Stage) → ¬ Follows header_due line.now next) }
 {
     if is_line(line, "nexus trust 1") {
-        Ok(Progress::SubjectDue)
+        Ok(TrustProgress::SubjectDue)
     } else {
         Err(LineError::Wrong)
     }
 }
 
-fn after_goal(form: TrustForm, line: &[u8]) -> Result<Progress, LineError>
+fn after_goal(form: TrustForm, line: &[u8]) -> Result<TrustProgress, LineError>
     ensures ok { IfOk result (λ next. Follows (end_due (form_tree form)) line.now (stage_of next)) }
     ensures only { IfOk result (λ next. (other : Stage) → Follows (end_due (form_tree form)) line.now other → other ≡ stage_of next) }
     ensures wrong { IfErr result (λ e. e ≢ LineError.Memory → (next : Stage) → ¬ Follows (end_due (form_tree form)) line.now next) }
 {
     if is_line(line, "end") {
-        Ok(Progress::Ended(form))
+        Ok(TrustProgress::Ended(form))
     } else {
         Err(LineError::Wrong)
     }
@@ -81,7 +78,7 @@ fn is_line(line: &[u8], text: &str) -> bool
     line == text.as_bytes()
 }
 
-fn after_subject(alloc: Global, line: &[u8]) -> Result<Progress, LineError>
+fn after_subject(alloc: Global, line: &[u8]) -> Result<TrustProgress, LineError>
     ensures ok { IfOk result (λ next. Follows subject_due line.now (stage_of next)) }
     ensures only { IfOk result (λ next. (other : Stage) → Follows subject_due line.now other → other ≡ stage_of next) }
     ensures wrong { IfErr result (λ e. e ≢ LineError.Memory → (next : Stage) → ¬ Follows subject_due line.now next) }
@@ -90,12 +87,12 @@ fn after_subject(alloc: Global, line: &[u8]) -> Result<Progress, LineError>
         return Err(LineError::Wrong);
     };
     match Givens::of_subject(alloc, name) {
-        Ok(givens) => Ok(Progress::GoalDue(givens)),
+        Ok(givens) => Ok(TrustProgress::GoalDue(givens)),
         Err(error) => Err(error),
     }
 }
 
-fn after_givens(alloc: Global, givens: Givens, line: &[u8]) -> Result<Progress, LineError>
+fn after_givens(alloc: Global, givens: Givens, line: &[u8]) -> Result<TrustProgress, LineError>
     ensures ok { IfOk result (λ next. Follows (goal_due (givens_tree givens)) line.now (stage_of next)) }
     ensures only { IfOk result (λ next. (other : Stage)
         → Follows (goal_due (givens_tree givens)) line.now other → other ≡ stage_of next) }
@@ -115,18 +112,23 @@ fn after_givens(alloc: Global, givens: Givens, line: &[u8]) -> Result<Progress, 
 }
 
 /// The progress after the text behind a word. `Wrong` exactly where the text is not as the word asks.
-fn after_text(alloc: Global, givens: Givens, word: Word, text: &[u8]) -> Result<Progress, LineError>
+fn after_text(
+    alloc: Global,
+    givens: Givens,
+    word: Word,
+    text: &[u8],
+) -> Result<TrustProgress, LineError>
     ensures ok { IfOk result (λ next. IsAfter word (givens_tree givens) text.now (stage_of next)) }
     ensures only { IfOk result (λ next. (other : Stage) → IsAfter word (givens_tree givens) text.now other → other ≡ stage_of next) }
     ensures wrong { IfErr result (λ e. e ≢ LineError.Memory → (next : Stage) → ¬ IsAfter word (givens_tree givens) text.now next) }
 {
     match word {
         Word::Goal => match goal(alloc, text) {
-            Ok(goal) => Ok(Progress::EndDue(TrustForm { givens, goal })),
+            Ok(goal) => Ok(TrustProgress::EndDue(TrustForm { givens, goal })),
             Err(error) => Err(error),
         },
         _ => match givens.with(alloc, word, text) {
-            Ok(givens) => Ok(Progress::GoalDue(givens)),
+            Ok(givens) => Ok(TrustProgress::GoalDue(givens)),
             Err(error) => Err(error),
         },
     }

@@ -12,8 +12,8 @@ use Rattle.audit_check.specs.declared.records.Recorded.{Recorded}
 use Rattle.audit_form.specs.declared.read.AuditForm as read
 use Rattle.audit_form.specs.declared.read.AuditError.{AuditError}
 use Rattle.audit_form.specs.declared.read.AuditError.TheVariants.{Wrong, Memory}
-use Rattle.audit_form.specs.declared.read.Progress.{Progress}
-use Rattle.audit_form.specs.declared.read.Progress.TheVariants.{RecordDue, Ended}
+use Rattle.audit_form.specs.declared.read.AuditProgress.{AuditProgress}
+use Rattle.audit_form.specs.declared.read.AuditProgress.TheVariants.{RecordDue, Ended}
 use Rattle.audit_form.specs.AuditForm.{AuditTree, Follows, IsEnded, IsWrongLine, Stage, ended, most_session, record_due}
 use Rattle.audit_form.specs.RecordLines.{AreFew, answers_text, told_text}
 use Rattle.audit_form.specs.VerdictTexts.{IsNumbered}
@@ -41,10 +41,21 @@ pub record AreWords (line at name op object told : List ℕ) : Type 0 where
 abbrev pub form_tree : read.AuditForm → AuditTree
 form_tree form = record { head = form.journal.head; entries = entry_trees form.journal.entries; records = form.records.items }
 
+-- a policy, and how much of the lines behind it stands
+pub data Behind : Type 0 where
+  behind : Head → List EntryTree → Stage → Behind
+
+-- which line may follow which behind a policy, which stays the same
+pub data FollowsBehind : Behind → List ℕ → Behind → Type 0 where
+  same : {h : Head} {es : List EntryTree} {stage next : Stage} {line : List ℕ} → Follows h es stage line next → FollowsBehind (behind h es stage) line (behind h es next)
+
+abbrev pub IsEndedBehind : Behind → Type 0
+IsEndedBehind (behind h es stage) = IsEnded stage
+
 -- the stage that the reader's progress is
-abbrev pub stage_of : Progress → Stage
-stage_of (RecordDue records) = record_due records.items
-stage_of (Ended records) = ended records.items
+abbrev pub stage_of : AuditProgress → Behind
+stage_of (RecordDue journal records) = behind journal.now.head (entry_trees journal.now.entries) (record_due records.items)
+stage_of (Ended journal records) = behind journal.now.head (entry_trees journal.now.entries) (ended records.items)
 
 -- the line that is told is the lowest that is wrong
 abbrev pub IsWrongInput : List ℕ → AuditError → Type 0

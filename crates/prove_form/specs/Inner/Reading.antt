@@ -7,8 +7,8 @@ use Rattle.prove_form.specs.declared.answers.ProveError.{ProveError}
 use Rattle.prove_form.specs.declared.answers.ProveError.TheVariants.{Wrong, Memory}
 use Rattle.prove_form.specs.declared.givens.Givens as read
 use Rattle.prove_form.specs.declared.givens.ProveForm as read_form
-use Rattle.prove_form.specs.declared.progress.Progress.{Progress}
-use Rattle.prove_form.specs.declared.progress.Progress.TheVariants.{HeaderDue, SubjectDue, GoalDue, EndDue, Ended}
+use Rattle.prove_form.specs.declared.progress.ProveProgress.{ProveProgress}
+use Rattle.prove_form.specs.declared.progress.ProveProgress.TheVariants.{HeaderDue, SubjectDue, GoalDue, EndDue, Ended}
 use Rattle.prove_form.specs.ProveForm.{Givens, ProveForm, Stage, header_due, subject_due, goal_due, end_due, ended, form_with, with_label, IsSaidGoal, IsWrongLine}
 
 -- the plain value of what is given
@@ -20,7 +20,7 @@ abbrev pub form_tree : read_form.ProveForm → ProveForm
 form_tree form = form_with (givens_tree form.givens) (formula_tree form.goal)
 
 -- the stage that the reader's progress is
-abbrev pub stage_of : Progress → Stage
+abbrev pub stage_of : ProveProgress → Stage
 stage_of HeaderDue = header_due
 stage_of SubjectDue = subject_due
 stage_of (GoalDue g) = goal_due (givens_tree g)

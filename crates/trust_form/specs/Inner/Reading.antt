@@ -7,8 +7,8 @@ use Rattle.trust_form.specs.declared.answers.TrustError.{TrustError}
 use Rattle.trust_form.specs.declared.answers.TrustError.TheVariants.{Wrong, Memory}
 use Rattle.trust_form.specs.declared.givens.Givens as read
 use Rattle.trust_form.specs.declared.givens.TrustForm as read_form
-use Rattle.trust_form.specs.declared.progress.Progress.{Progress}
-use Rattle.trust_form.specs.declared.progress.Progress.TheVariants.{HeaderDue, SubjectDue, GoalDue, EndDue, Ended}
+use Rattle.trust_form.specs.declared.progress.TrustProgress.{TrustProgress}
+use Rattle.trust_form.specs.declared.progress.TrustProgress.TheVariants.{HeaderDue, SubjectDue, GoalDue, EndDue, Ended}
 use Rattle.trust_form.specs.declared.words.Word.{Word}
 use Rattle.trust_form.specs.declared.words.Word.TheVariants.{Label, Untrusted, Loose, Fact, Goal}
 use Rattle.trust_form.specs.TrustForm.{Givens, TrustForm, Stage, header_due, subject_due, goal_due, end_due, ended, form_with, with_label, with_untrusted, with_loose, with_fact, IsPrincipal, IsFact, IsWrongLine}
@@ -28,7 +28,7 @@ abbrev pub form_tree : read_form.TrustForm → TrustForm
 form_tree form = form_with (givens_tree form.givens) (formula_tree form.goal)
 
 -- the stage that the reader's progress is
-abbrev pub stage_of : Progress → Stage
+abbrev pub stage_of : TrustProgress → Stage
 stage_of HeaderDue = header_due
 stage_of SubjectDue = subject_due
 stage_of (GoalDue g) = goal_due (givens_tree g)

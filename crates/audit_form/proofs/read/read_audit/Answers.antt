@@ -1,8 +1,9 @@
 use Rattle.std.proofs.Common.{◌≡◌, [], sym, ◌∙◌}
 use Rattle.policy_history.specs.Values.{entry_trees}
+use Rattle.form_lines.proofs.ForCallers.{some_left}
 use Rattle.text_lines.specs.Lines.{first_line}
 use Rattle.audit_form.specs.AuditForm.{header}
-use Rattle.audit_form.proofs.Reading.{other_records, policy_error, records_error, records_within, some_left}
+use Rattle.audit_form.proofs.Reading.{other_records, policy_error, records_error, records_within}
 use Rattle.audit_form.proofs.read.read_audit.Goals.{Else-not-is_text}
 use Rattle.audit_form.proofs.read.read_audit.Goals as goal
 

@@ -1,6 +1,6 @@
 use Rattle.std.proofs.Common.{refl, sym, ap, ◌∙◌}
+use Rattle.form_lines.proofs.ForCallers.{some_left}
 use Rattle.text_lines.specs.Lines.{after_line, first_line}
-use Rattle.audit_form.proofs.Reading.{some_left}
 use Rattle.explain_form.specs.ExplainForm.{end, further, question}
 use Rattle.explain_form.proofs.read.read_asked.Goals as goal
 

@@ -1,5 +1,0 @@
-use Rattle.audit_form.specs.AuditForm.{end}
-use Rattle.audit_form.proofs.read.Progress.after.Goals as goal
-
-pub returns-then-is_text-clause-ok : goal.returns-then-is_text-clause-ok
-returns-then-is_text-clause-ok c = rw c.in-RecordDue.is (end (c.is_text.ensures.0 c.if-is_text.true))
