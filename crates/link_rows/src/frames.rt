@@ -1,6 +1,6 @@
 // Frames over links in memory, which give them in pieces of 1, 2, 3 and all bytes. The bytes of each table are written by
 // hand, after docs/FORMATS.md, "Frames".
-ghost use Rattle.std.specs.Prelude.{◌≤◌};
+ghost use Rattle.std.specs.Prelude.{◌≡◌, ◌≤◌, false};
 
 use crate::tables::hold;
 use crate::texts::number;
@@ -62,7 +62,9 @@ fn read_all(
     }
 }
 
-fn read_link(alloc: Global, link: &mut MemLink) -> Result<String, AllocError> {
+fn read_link(alloc: Global, link: &mut MemLink) -> Result<String, AllocError>
+    requires { link.old.closed ≡ false }
+{
     let mut reader = FrameReader::new(alloc)?;
     let mut count = 0u64;
     for _ in 0..3u64 {
@@ -249,7 +251,9 @@ pub fn request_told(alloc: Global, text: &str) -> Result<String, AllocError> {
     }
 }
 
-fn kind_told(alloc: Global, frame: &[u8], link: &mut MemLink) -> Result<String, AllocError> {
+fn kind_told(alloc: Global, frame: &[u8], link: &mut MemLink) -> Result<String, AllocError>
+    requires { link.old.closed ≡ false }
+{
     let mut reader = FrameReader::new(alloc)?;
     let framed = reader.next(link);
     drop(reader);
@@ -333,7 +337,9 @@ fn read_one(
     }
 }
 
-fn told_of_reply(alloc: Global, bytes: &[u8], link: &mut MemLink) -> Result<String, AllocError> {
+fn told_of_reply(alloc: Global, bytes: &[u8], link: &mut MemLink) -> Result<String, AllocError>
+    requires { link.old.closed ≡ false }
+{
     let read = read_reply(link);
     if begins_with(bytes, &read) {
         format!(in alloc; "{read:?} {}", link.left().len())

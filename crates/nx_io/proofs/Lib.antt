@@ -1,3 +1,4 @@
+pub mod DoorCalls
 pub mod ForCallers
 pub mod Told
 mod Waiting

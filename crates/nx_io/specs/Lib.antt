@@ -1,3 +1,4 @@
+pub mod DoorCalls
 pub mod Doors
 pub mod Duplexes
 pub mod Histories

@@ -1,8 +1,9 @@
 -- Doors in memory, as contracts see them.
-use Rattle.std.specs.Prelude.{◌≡◌, ℕ, List, [], ◌∷◌, Bool, false, None, Some}
+use Rattle.std.specs.Prelude.{◌≡◌, ℕ, List, [], ◌∷◌, None, Some}
 use Rattle.std.specs.List.{All}
 use Rattle.std.specs.declared.option.Option.{Option}
 use Rattle.std.specs.Option.{option_map}
+use Rattle.nx_io.specs.DoorCalls.{DoorCall, DoorOrigin, new_origin}
 use Rattle.nx_io.specs.Links.{IsFreshLink}
 use Rattle.nx_io.specs.MemoryLinks.{Wire}
 use Rattle.nx_io.specs.Streams.{one_more}
@@ -16,18 +17,15 @@ pub record Plan : Type 0 where
   pub fails : List ℕ
 
 -- a door: the links to come as `next` will give them, the plans of the shares to come, the link that `dial` will give, the
--- numbers of the calls that fail, the calls so far, whether it is over, how many links it gave, the addresses at which it
--- listens, and the faults
+-- numbers of the calls that fail, the number of the last call, where it came from, and its calls
 pub record Doorway : Type 0 where
   pub links : List Wire
   pub plans : List Plan
   pub dialed : Option Wire
   pub fails : List ℕ
-  pub calls : ℕ
-  pub over : Bool
-  pub gave : ℕ
-  pub listened : List (List ℕ)
-  pub faults : ℕ
+  pub number : ℕ
+  pub origin : DoorOrigin
+  pub calls : List DoorCall
 
 -- the plan as contracts see it
 abbrev pub plan_of : DoorPlan → Plan
@@ -54,11 +52,9 @@ new_doorway plans dialed fails = record {
   plans = plans;
   dialed = dialed;
   fails = fails;
-  calls = 0;
-  over = false;
-  gave = 0;
-  listened = [];
-  faults = 0;
+  number = 0;
+  origin = new_origin;
+  calls = [];
 }
 
 -- the plan of the next share: it has no links and no failing calls where none is left
@@ -66,9 +62,9 @@ abbrev pub next_plan : List Plan → Plan
 next_plan [] = record { links = []; fails = [] }
 next_plan (plan ∷ plans) = plan
 
--- a share by a plan, of a door that listens at these addresses
-abbrev pub share_by : Plan → List (List ℕ) → Doorway
-share_by plan listened = record (new_doorway [] None plan.fails) { links = numbered 0 plan.links; listened = listened }
+-- a share by a plan, which came from there
+abbrev pub share_by : Plan → DoorOrigin → Doorway
+share_by plan origin = record (new_doorway [] None plan.fails) { links = numbered 0 plan.links; origin = origin }
 
 -- a link as a door gives it that dialed an address
 abbrev pub dialed_at : List ℕ → Wire → Wire

@@ -1,4 +1,4 @@
--- Links over streams and doors over sockets, as contracts see them.
+-- Links over streams, as contracts see them.
 use Rattle.std.specs.Prelude.{ℕ, List, [], Bool, false}
 use Rattle.std.specs.declared.option.Option.{Option}
 use Rattle.nx_io.specs.Streams.{Grows}
@@ -28,9 +28,3 @@ pub record Socket (S : Type 0) : Type 0 where
 -- a link over a stream, over which no byte has passed yet
 abbrev pub new_socket : {S : Type 0} → S → ℕ → Option (List ℕ) → Socket S
 new_socket stream place toward = record { stream = stream; taken = []; sent = []; over = false; place = place; toward = toward; faults = 0 }
-
--- a door: how many links it gave, the addresses at which it listened, and the faults
-pub record Listening : Type 0 where
-  pub gave : ℕ
-  pub listened : List (List ℕ)
-  pub faults : ℕ

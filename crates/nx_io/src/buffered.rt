@@ -100,6 +100,13 @@ impl<S: Duplex> Buffered<S> {
         }
     }
 
+    /// Whether the stream was shut.
+    pub(crate) fn is_shut(&self) -> bool
+        ensures { result ≡ S.shut self.now.stream }
+    {
+        self.stream.is_shut()
+    }
+
     /// Writes what waits, and shuts the stream. It is `Failed` where that could not be written.
     pub(crate) fn close(&mut self) -> Reach
         ensures shut { S.shut self.new.stream ≡ true }

@@ -1,9 +1,9 @@
-// Where links come from, by the histories of what was given, and by a count of faults.
+// Where links come from, by the history of the calls.
 // `docs/ARCHITECTURE.md`, "What contracts see of the outside", states the form that all such traits have.
-ghost use Rattle.std.specs.Prelude.{◌≡◌, ◌≤◌, Bool, List, None, Option, Some, ℕ};
-ghost use Rattle.nx_io.specs.Streams.{faults_after_reach};
+ghost use Rattle.std.specs.Prelude.{◌≡◌, ◌∷◌, ◌++◌, [], List, None, Option, Some};
 ghost use Rattle.nx_io.specs.Links.{IsFreshLink};
-ghost use Rattle.nx_io.specs.Doors.{Gives, IfDialed, IfGiven, IfMade, IsFreshDoor, KeepsLinks, faults_after_dial, faults_after_next, faults_after_share, gave_after, listened_after, no_more_after};
+ghost use Rattle.nx_io.specs.DoorCalls.{DoorCall, DoorOrigin, dial_call, gave_in, listen_call, next_call, share_call, share_of};
+ghost use Rattle.nx_io.specs.Doors.{Gives, IfDialed, IfGiven, IfMade};
 
 use crate::links::Link;
 use crate::streams::{Reach, Shared};
@@ -35,72 +35,54 @@ pub trait Door {
     /// Its links.
     type Link: Link;
 
-    /// The links still to come, as `next` will give them, where the door knows them: one in memory does.
+    /// The links still to come, as `next` will give them, where the door knows them: one in memory does. No other call changes them.
     ghost links: { Self → Option (List Self.Link) };
 
-    /// Whether `NoMore` was answered.
-    ghost over: { Self → Bool };
+    /// Where it came from: how many shares lie between it and a door that is none, and where it listened as it was made, which is where its
+    /// maker listened then. No call changes it.
+    ghost origin: { Self → DoorOrigin };
 
-    /// How many links `next` has given. The number stands still at its type's end.
-    ghost gave: { Self → ℕ };
+    /// Its calls, with how each went, in order. A share begins with none. Every door tells them.
+    ghost calls: { Self → List DoorCall };
 
-    /// The addresses at which it listens, in order. Every door tells them.
-    ghost listened: { Self → List (List ℕ) };
-
-    /// How often the door has failed. The count stands still at its type's end.
-    ghost faults: { Self → ℕ };
-
-    /// Listens at an address, for peers to connect.
-    ///
-    /// `Failed` comes only where the door failed in this call: the count of faults rises by one at `Failed`, and stands still
-    /// at `Ready`.
+    /// Listens at an address, for peers to connect. `Failed` comes only where the door failed in this call.
     fn listen<R: Net<Listener = TcpListener, Stream = TcpStream> + Clock>(
         &mut self,
         rt: &R,
         address: &[u8],
     ) -> Reach
-        ensures listened { listened self.new ≡ listened_after result address.now (listened self.old) }
-        ensures links { KeepsLinks (links self.old) (links self.new) (over self.old) (over self.new) (gave self.old) (gave self.new) }
-        ensures later { faults self.old ≤ faults self.new }
-        ensures count { faults self.new ≡ faults_after_reach result (faults self.old) };
+        ensures calls { calls self.new ≡ calls self.old ++ listen_call address.now result ∷ [] }
+        ensures links { links self.new ≡ links self.old }
+        ensures origin { origin self.new ≡ origin self.old };
 
-    /// A door that listens where this one does, has given no link and has not failed yet.
+    /// A door that listens where this one does, and of which nothing was asked yet.
     ///
-    /// `Failed` comes only where this door failed in this call: its count of faults rises by one at `Failed`, and stands
-    /// still otherwise. `NoMemory` says that there was no memory for the share.
+    /// `Failed` comes only where this door failed in this call. `NoMemory` says that there was no memory for the share.
     fn share(&mut self) -> Shared<Self>
     where
         Self: Sized,
-        ensures fresh { IfMade result (λ share. IsFreshDoor (over share) (gave share) (faults share)) }
-        ensures shared { IfMade result (λ share. listened share ≡ listened self.old) }
-        ensures listened { listened self.new ≡ listened self.old }
-        ensures links { KeepsLinks (links self.old) (links self.new) (over self.old) (over self.new) (gave self.old) (gave self.new) }
-        ensures later { faults self.old ≤ faults self.new }
-        ensures count { faults self.new ≡ faults_after_share result (faults self.old) };
+        ensures fresh { IfMade result (λ share. calls share ≡ []) }
+        ensures shared { IfMade result (λ share. origin share ≡ share_of (origin self.old) (calls self.old)) }
+        ensures calls { calls self.new ≡ calls self.old ++ share_call result ∷ [] }
+        ensures links { links self.new ≡ links self.old }
+        ensures origin { origin self.new ≡ origin self.old };
 
     /// The next link that a peer has opened.
     ///
     /// `Link` gives the first one to come; its place is the number of links that were given, with it. `NoMore` comes only
-    /// where none is to come. `Failed` comes only where the door failed in this call, and gave none. The count of faults rises
-    /// by one at `Failed` and at no other answer.
+    /// where none is to come. `Failed` comes only where the door failed in this call, and gave none.
     fn next<R: Net<Listener = TcpListener, Stream = TcpStream> + Clock>(
         &mut self,
         rt: &R,
     ) -> Next<Self::Link>
         ensures fresh { IfGiven result (λ link. IsFreshLink (Self.Link.taken link) (Self.Link.sent link) (Self.Link.over link) (Self.Link.closed link) (Self.Link.faults link)) }
-        ensures place { IfGiven result (λ link. Self.Link.place link ≡ gave self.new) }
+        ensures place { IfGiven result (λ link. Self.Link.place link ≡ gave_in (calls self.new)) }
         ensures toward { IfGiven result (λ link. Self.Link.toward link ≡ None) }
         ensures links { Gives result (links self.old) (links self.new) }
-        ensures over { over self.new ≡ no_more_after result (over self.old) }
-        ensures gave { gave self.new ≡ gave_after result (gave self.old) }
-        ensures listened { listened self.new ≡ listened self.old }
-        ensures later { faults self.old ≤ faults self.new }
-        ensures count { faults self.new ≡ faults_after_next result (faults self.old) };
+        ensures calls { calls self.new ≡ calls self.old ++ next_call result ∷ [] }
+        ensures origin { origin self.new ≡ origin self.old };
 
-    /// A link to the peer at an address.
-    ///
-    /// `Failed` comes only where the door failed in this call: the count of faults rises by one at `Failed`, and stands still
-    /// where there is a link.
+    /// A link to the peer at an address. `Failed` comes only where the door failed in this call.
     fn dial<R: Net<Listener = TcpListener, Stream = TcpStream> + Clock>(
         &mut self,
         rt: &R,
@@ -109,10 +91,9 @@ pub trait Door {
         ensures fresh { IfDialed result (λ link. IsFreshLink (Self.Link.taken link) (Self.Link.sent link) (Self.Link.over link) (Self.Link.closed link) (Self.Link.faults link)) }
         ensures place { IfDialed result (λ link. Self.Link.place link ≡ 0) }
         ensures toward { IfDialed result (λ link. Self.Link.toward link ≡ Some address.now) }
-        ensures links { KeepsLinks (links self.old) (links self.new) (over self.old) (over self.new) (gave self.old) (gave self.new) }
-        ensures listened { listened self.new ≡ listened self.old }
-        ensures later { faults self.old ≤ faults self.new }
-        ensures count { faults self.new ≡ faults_after_dial result (faults self.old) };
+        ensures calls { calls self.new ≡ calls self.old ++ dial_call address.now result ∷ [] }
+        ensures links { links self.new ≡ links self.old }
+        ensures origin { origin self.new ≡ origin self.old };
 }
 
 /// A moment of a session at which a [`Gate`] is told where it stands.

@@ -15,6 +15,15 @@ pub enum History {
 }
 
 impl History {
+    /// The history of these bytes.
+    pub fn of(piece: &[u8]) -> History
+        ensures { bytes_of result ≡ piece.now }
+    {
+        let mut told = History::Start;
+        told.tell(piece);
+        told
+    }
+
     /// Appends a piece. Compiled code does nothing for it.
     pub fn tell(&mut self, piece: &[u8])
         ensures { bytes_of self.new ≡ bytes_of self.old ++ piece.now }

@@ -1,6 +1,6 @@
 // Connections to a peer, by the histories of what was taken and sent, and by a count of their faults.
 // `docs/ARCHITECTURE.md`, "What contracts see of the outside", states the form that all such traits have.
-ghost use Rattle.std.specs.Prelude.{◌≡◌, ◌<◌, ◌≤◌, Bool, List, Option, ℕ, length, true};
+ghost use Rattle.std.specs.Prelude.{◌≡◌, ◌<◌, ◌≤◌, Bool, List, Option, ℕ, false, length, true};
 ghost use Rattle.nx_io.specs.Streams.{MayRise, Reads, ReadsWithin, SendsAll, Writes, WritesWithin, faults_after_reach, faults_after_read, faults_after_write, given_after, over_after};
 ghost use Rattle.nx_io.specs.Links.{KeepsComing, KeepsGoing, KeepsOrigin};
 
@@ -33,13 +33,14 @@ pub trait Link {
     /// How often the link has failed. The count stands still at its type's end.
     ghost faults: { Self → ℕ };
 
-    /// Takes some bytes into the front of the buffer, which has room for one at least.
+    /// Takes some bytes into the front of the buffer, which has room for one at least. The link is open.
     ///
     /// `Bytes(n)` took the first n bytes to come, n being at least 1, and put them there. `End` comes only where
     /// none is to come. `Failed` comes only where the link failed in this call, and took none. The count of faults
     /// rises by one at `Failed` and at no other answer.
     fn take(&mut self, into: &mut [u8]) -> Got
-        requires { 0 < length into.old }
+        requires room { 0 < length into.old }
+        requires open { closed self.old ≡ false }
         ensures within { ReadsWithin result into.new }
         ensures bytes { Reads result (left self.old) (left self.new) into.new }
         ensures taken { taken self.new ≡ given_after result (taken self.old) into.new }
@@ -49,13 +50,14 @@ pub trait Link {
         ensures later { faults self.old ≤ faults self.new }
         ensures count { faults self.new ≡ faults_after_read result (faults self.old) };
 
-    /// Sends some bytes of the front of a piece, which has one at least. They may wait in the link until it would wait
-    /// for bytes itself, or is closed.
+    /// Sends some bytes of the front of a piece, which has one at least. The link is open. The bytes may wait in it until it
+    /// would wait for bytes itself, or is closed.
     ///
     /// `Bytes(n)` accepted the first n bytes of the piece, n being at least 1. `Failed` comes only where the link failed
     /// in this call, and accepted none. The count of faults rises by one at `Failed` and at no other answer.
     fn send(&mut self, piece: &[u8]) -> Put
-        requires { 0 < length piece.now }
+        requires some { 0 < length piece.now }
+        requires open { closed self.old ≡ false }
         ensures within { WritesWithin result piece.now }
         ensures bytes { Writes result (sent self.old) (sent self.new) piece.now }
         ensures closed { closed self.new ≡ closed self.old }
@@ -75,11 +77,12 @@ pub trait Link {
         ensures count { MayRise (faults self.old) (faults self.new) };
 }
 
-/// Sends a whole piece over a link, in as many sends as it takes. It takes no memory.
+/// Sends a whole piece over an open link, in as many sends as it takes. It takes no memory.
 ///
 /// At `Ready` all of it was sent, and no send failed. `Failed` comes where one send failed, which was the last, and
 /// a proper part of the piece was sent.
 pub fn send_whole<L: Link>(link: &mut L, piece: &[u8]) -> Reach
+    requires open { L.closed link.old ≡ false }
     ensures bytes { SendsAll result (L.sent link.old) (L.sent link.new) piece.now }
     ensures closed { L.closed link.new ≡ L.closed link.old }
     ensures coming { KeepsComing (L.left link.old) (L.left link.new) (L.taken link.old) (L.taken link.new) (L.over link.old) (L.over link.new) }

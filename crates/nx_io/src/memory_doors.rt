@@ -1,15 +1,15 @@
 // A door in memory, whose links are given beforehand, and which fails at the calls that it is told.
-ghost use Rattle.std.specs.Prelude.{◌≡◌, ◌≢◌, ◌↔◌, ◌≤◌, ◌++◌, ◌∷◌, ◌⊎◌, [], IfOk, IfSome, IsTrue, None, Some, cond, drop, map};
+ghost use Rattle.std.specs.Prelude.{◌≡◌, ◌≢◌, ◌↔◌, ◌++◌, ◌∷◌, ◌⊎◌, [], IfOk, IfSome, IsTrue, None, Some, drop, map};
 ghost use Rattle.std.specs.Option.{option_map, option_to_list};
-ghost use Rattle.nx_io.specs.Histories.{addresses_of};
 ghost use Rattle.std.specs.List.{All, Contains};
-ghost use Rattle.nx_io.specs.Streams.{faults_after_reach, one_more};
-ghost use Rattle.nx_io.specs.Links.{IsFreshLink};
-ghost use Rattle.nx_io.specs.Doors.{Gives, IfDialed, IfGiven, IfMade, IsFreshDoor, KeepsLinks, faults_after_dial, faults_after_next, faults_after_share, gave_after, listened_after, no_more_after};
+ghost use Rattle.nx_io.specs.DoorCalls.{dial_call, faults_in, gave_in, listen_call, next_call, share_call, share_of};
+ghost use Rattle.nx_io.specs.Doors.{Gives, IfDialed, IfGiven, IfMade};
 ghost use Rattle.nx_io.specs.MemoryDoors.{Dials, IsFreshPlan, IsFreshWire, new_doorway, next_plan, plan_of, share_by};
+ghost use Rattle.nx_io.specs.Streams.{one_more};
 
+use crate::door_history::{DoorHistory, LoggedCall};
 use crate::doors::{Dial, Door, Next};
-use crate::listened::Listened;
+use crate::history::History;
 use crate::memory_links::MemLink;
 use crate::scripts::Script;
 use crate::streams::{Reach, Shared};
@@ -34,29 +34,25 @@ pub struct MemDoor {
     plans: VecDeque<DoorPlan>,
     dialed: Option<MemLink>,
     script: Script,
-    over: bool,
-    gave: u64,
-    listened: Listened,
+    history: DoorHistory,
 }
 
 impl Model for MemDoor {
     ghost use Rattle.std.specs.Prelude.{map, IfSome};
     ghost use Rattle.std.specs.List.{All};
-    ghost use Rattle.nx_io.specs.Histories.{addresses_of};
+    ghost use Rattle.nx_io.specs.DoorCalls.{gave_in};
     ghost use Rattle.nx_io.specs.MemoryDoors.{Doorway, IsFreshPlan, IsFreshWire, numbered, plan_of};
 
     ghost Value = { Doorway };
 
     ghost view = { λ d. record {
-      links = numbered d.gave d.links.items;
+      links = numbered (gave_in d.history.calls) d.links.items;
       plans = map plan_of d.plans.items;
       dialed = d.dialed;
       fails = d.script.fails.items;
-      calls = d.script.calls;
-      over = d.over;
-      gave = d.gave;
-      listened = addresses_of d.listened;
-      faults = d.script.faults;
+      number = d.script.calls;
+      origin = d.history.origin;
+      calls = d.history.calls;
     } };
 
     ghost invariant = { λ d. All IsFreshWire d.links.items × All IsFreshPlan d.plans.items × IfSome d.dialed IsFreshWire };
@@ -81,16 +77,15 @@ impl MemDoor {
             plans: VecDeque::from(plans),
             dialed,
             script: Script::new(alloc, fails)?,
-            over: false,
-            gave: 0,
-            listened: Listened::Start,
+            history: DoorHistory::new(),
         })
     }
 
-    // A share by a plan, of a door that listens at these addresses.
-    fn by_plan(alloc: Global, plan: Option<DoorPlan>, listened: Listened) -> MemDoor
-        requires { IfSome plan IsFreshPlan }
-        ensures { result ≡ share_by (next_plan (option_to_list (option_map plan_of plan))) (addresses_of listened) }
+    // A share by a plan, of which nothing was asked yet.
+    fn by_plan(alloc: Global, plan: Option<DoorPlan>, history: DoorHistory) -> MemDoor
+        requires plan { IfSome plan IsFreshPlan }
+        requires fresh { history.calls ≡ [] }
+        ensures { result ≡ share_by (next_plan (option_to_list (option_map plan_of plan))) history.origin }
     {
         let DoorPlan { links, fails } = match plan {
             Some(plan) => plan,
@@ -105,38 +100,30 @@ impl MemDoor {
             plans: VecDeque::new(alloc),
             dialed: None,
             script: Script::of(fails),
-            over: false,
-            gave: 0,
-            listened,
+            history,
         }
     }
 
     /// How many links the door gave by `next`.
     pub fn gave(&self) -> u64
-        ensures { result ≡ self.now.gave }
+        ensures { result ≡ gave_in self.now.calls }
     {
-        self.gave
+        self.history.gave()
     }
 
     /// How often the door has failed.
     pub fn faults(&self) -> u64
-        ensures { result ≡ self.now.faults }
+        ensures { result ≡ faults_in self.now.calls }
     {
-        self.script.faults
+        self.history.faults()
     }
 
-    // Counts a call, and says whether it is one of those that fail. Such a one is a fault.
+    // Counts a call, and says whether it is one of those that fail.
     fn call_fails(&mut self) -> bool
-        ensures told { IsTrue result ↔ Contains self.old.fails self.new.calls }
-        ensures others { self.new ≡ record self.old { calls = one_more self.old.calls; faults = self.new.faults } }
-        ensures later { self.old.faults ≤ self.new.faults }
-        ensures count { self.new.faults ≡ cond result (one_more self.old.faults) self.old.faults }
+        ensures told { IsTrue result ↔ Contains self.old.fails self.new.number }
+        ensures others { self.new ≡ record self.old { number = one_more self.old.number } }
     {
-        let fails = self.script.call_fails();
-        if fails {
-            self.script.fault();
-        }
-        fails
+        self.script.call_fails()
     }
 }
 
@@ -145,13 +132,9 @@ impl Door for MemDoor {
 
     ghost links = { λ d. Some d.links };
 
-    ghost over = { λ d. d.over };
+    ghost origin = { λ d. d.origin };
 
-    ghost gave = { λ d. d.gave };
-
-    ghost listened = { λ d. d.listened };
-
-    ghost faults = { λ d. d.faults };
+    ghost calls = { λ d. d.calls };
 
     /// As of any door. It fails where its call's number is listed, and nowhere else.
     fn listen<R: Net<Listener = TcpListener, Stream = TcpStream> + Clock>(
@@ -159,41 +142,44 @@ impl Door for MemDoor {
         _rt: &R,
         address: &[u8],
     ) -> Reach
-        ensures listened { self.new.listened ≡ listened_after result address.now self.old.listened }
-        ensures links { KeepsLinks (Some self.old.links) (Some self.new.links) self.old.over self.new.over self.old.gave self.new.gave }
-        ensures later { self.old.faults ≤ self.new.faults }
-        ensures count { self.new.faults ≡ faults_after_reach result self.old.faults }
-        ensures failed { (result ≡ Reach.Failed) ↔ Contains self.old.fails self.new.calls }
-        ensures others { self.new ≡ record self.old { calls = one_more self.old.calls; listened = self.new.listened; faults = self.new.faults } }
+        ensures calls { self.new.calls ≡ self.old.calls ++ listen_call address.now result ∷ [] }
+        ensures links { Some self.new.links ≡ Some self.old.links }
+        ensures origin { self.new.origin ≡ self.old.origin }
+        ensures failed { (result ≡ Reach.Failed) ↔ Contains self.old.fails self.new.number }
+        ensures others { self.new ≡ record self.old { number = one_more self.old.number; calls = self.new.calls } }
     {
+        let told = History::of(address);
         if self.call_fails() {
+            self.history.add(LoggedCall::NotListened { address: told });
             return Reach::Failed;
         }
-        self.listened.tell(address);
+        self.history.add(LoggedCall::Listened { address: told });
         Reach::Ready
     }
 
     /// As of any door. The share has the next of the plans, and no links where none is left. It fails where its call's number is
     /// listed, and nowhere else.
     fn share(&mut self) -> Shared<MemDoor>
-        ensures fresh { IfMade result (λ share. IsFreshDoor share.over share.gave share.faults) }
-        ensures shared { IfMade result (λ share. share.listened ≡ self.old.listened) }
-        ensures listened { self.new.listened ≡ self.old.listened }
-        ensures links { KeepsLinks (Some self.old.links) (Some self.new.links) self.old.over self.new.over self.old.gave self.new.gave }
-        ensures later { self.old.faults ≤ self.new.faults }
-        ensures count { self.new.faults ≡ faults_after_share result self.old.faults }
-        ensures made { IfMade result (λ share. share ≡ share_by (next_plan self.old.plans) self.old.listened) }
+        ensures fresh { IfMade result (λ share. share.calls ≡ []) }
+        ensures shared { IfMade result (λ share. share.origin ≡ share_of self.old.origin self.old.calls) }
+        ensures calls { self.new.calls ≡ self.old.calls ++ share_call result ∷ [] }
+        ensures links { Some self.new.links ≡ Some self.old.links }
+        ensures origin { self.new.origin ≡ self.old.origin }
+        ensures made { IfMade result (λ share. share ≡ share_by (next_plan self.old.plans) (share_of self.old.origin self.old.calls)) }
         ensures used { IfMade result (λ _. self.new.plans ≡ drop 1 self.old.plans) }
-        ensures failed { (result ≡ Shared.Failed) ↔ Contains self.old.fails self.new.calls }
+        ensures failed { (result ≡ Shared.Failed) ↔ Contains self.old.fails self.new.number }
         ensures unused { result ≡ Shared.Failed → self.new.plans ≡ self.old.plans }
-        ensures others { self.new ≡ record self.old { plans = self.new.plans; calls = one_more self.old.calls; faults = self.new.faults } }
+        ensures others { self.new ≡ record self.old { plans = self.new.plans; number = one_more self.old.number; calls = self.new.calls } }
         ensures sound { result ≢ Shared.NoMemory }
     {
         if self.call_fails() {
+            self.history.add(LoggedCall::NotShared);
             return Shared::Failed;
         }
         let plan = self.plans.pop_front();
-        Shared::Made(MemDoor::by_plan(self.alloc, plan, self.listened.copy()))
+        let history = self.history.of_share();
+        self.history.add(LoggedCall::Shared);
+        Shared::Made(MemDoor::by_plan(self.alloc, plan, history))
     }
 
     /// As of any door. It fails where its call's number is listed, and nowhere else.
@@ -202,27 +188,25 @@ impl Door for MemDoor {
         _rt: &R,
     ) -> Next<MemLink>
         ensures fresh { IfGiven result IsFreshWire }
-        ensures place { IfGiven result (λ link. link.place ≡ self.new.gave) }
+        ensures place { IfGiven result (λ link. link.place ≡ gave_in self.new.calls) }
         ensures toward { IfGiven result (λ link. link.toward ≡ None) }
         ensures links { Gives result (Some self.old.links) (Some self.new.links) }
-        ensures over { self.new.over ≡ no_more_after result self.old.over }
-        ensures gave { self.new.gave ≡ gave_after result self.old.gave }
-        ensures listened { self.new.listened ≡ self.old.listened }
-        ensures later { self.old.faults ≤ self.new.faults }
-        ensures count { self.new.faults ≡ faults_after_next result self.old.faults }
-        ensures failed { (result ≡ Next.Failed) ↔ Contains self.old.fails self.new.calls }
-        ensures others { self.new ≡ record self.old { links = self.new.links; calls = one_more self.old.calls; over = self.new.over; gave = self.new.gave; faults = self.new.faults } }
+        ensures calls { self.new.calls ≡ self.old.calls ++ next_call result ∷ [] }
+        ensures origin { self.new.origin ≡ self.old.origin }
+        ensures failed { (result ≡ Next.Failed) ↔ Contains self.old.fails self.new.number }
+        ensures others { self.new ≡ record self.old { links = self.new.links; number = one_more self.old.number; calls = self.new.calls } }
     {
         if self.call_fails() {
+            self.history.add(LoggedCall::NotGiven);
             return Next::Failed;
         }
         match self.links.pop_front() {
             Some(link) => {
-                self.gave = self.gave.saturating_add(1);
-                Next::Link(link.given_as(self.gave))
+                self.history.add(LoggedCall::Gave);
+                Next::Link(link.given_as(self.history.gave()))
             }
             None => {
-                self.over = true;
+                self.history.add(LoggedCall::GaveNoMore);
                 Next::NoMore
             }
         }
@@ -237,21 +221,25 @@ impl Door for MemDoor {
         ensures fresh { IfDialed result IsFreshWire }
         ensures place { IfDialed result (λ link. link.place ≡ 0) }
         ensures toward { IfDialed result (λ link. link.toward ≡ Some address.now) }
-        ensures links { KeepsLinks (Some self.old.links) (Some self.new.links) self.old.over self.new.over self.old.gave self.new.gave }
-        ensures listened { self.new.listened ≡ self.old.listened }
-        ensures later { self.old.faults ≤ self.new.faults }
-        ensures count { self.new.faults ≡ faults_after_dial result self.old.faults }
+        ensures calls { self.new.calls ≡ self.old.calls ++ dial_call address.now result ∷ [] }
+        ensures links { Some self.new.links ≡ Some self.old.links }
+        ensures origin { self.new.origin ≡ self.old.origin }
         ensures dialed { Dials result address.now self.old.dialed self.new.dialed }
-        ensures failed { (result ≡ Dial.Failed) ↔ (Contains self.old.fails self.new.calls ⊎ (self.old.dialed ≡ None)) }
-        ensures others { self.new ≡ record self.old { dialed = self.new.dialed; calls = one_more self.old.calls; faults = self.new.faults } }
+        ensures failed { (result ≡ Dial.Failed) ↔ (Contains self.old.fails self.new.number ⊎ (self.old.dialed ≡ None)) }
+        ensures others { self.new ≡ record self.old { dialed = self.new.dialed; number = one_more self.old.number; calls = self.new.calls } }
     {
+        let told = History::of(address);
         if self.call_fails() {
+            self.history.add(LoggedCall::NotDialed { address: told });
             return Dial::Failed;
         }
         match self.dialed.take() {
-            Some(link) => Dial::Link(link.dialed_at(address)),
+            Some(link) => {
+                self.history.add(LoggedCall::Dialed { address: told });
+                Dial::Link(link.dialed_at(address))
+            }
             None => {
-                self.script.fault();
+                self.history.add(LoggedCall::NotDialed { address: told });
                 Dial::Failed
             }
         }

@@ -1,5 +1,5 @@
 // A link in memory, which fails at the calls that it is told.
-ghost use Rattle.std.specs.Prelude.{◌<◌, ◌≡◌, ◌↔◌, ◌≤◌, IfOk, IsTrue, Some, None, length, true};
+ghost use Rattle.std.specs.Prelude.{◌<◌, ◌≡◌, ◌↔◌, ◌≤◌, IfOk, IsTrue, Some, None, false, length, true};
 ghost use Rattle.std.specs.Option.{option_map};
 ghost use Rattle.nx_io.specs.Streams.{MayRise, Reads, ReadsWithin, Writes, WritesWithin, faults_after_read, faults_after_write, given_after, over_after};
 ghost use Rattle.nx_io.specs.Links.{KeepsComing, KeepsGoing, KeepsOrigin};
@@ -145,7 +145,8 @@ impl Link for MemLink {
 
     /// As of any link. A take fails where its number is listed, and nowhere else.
     fn take(&mut self, into: &mut [u8]) -> Got
-        requires { 0 < length into.old }
+        requires room { 0 < length into.old }
+        requires open { self.old.closed ≡ false }
         ensures within { ReadsWithin result into.new }
         ensures bytes { Reads result (Some self.old.supply.left) (Some self.new.supply.left) into.new }
         ensures taken { self.new.supply.given ≡ given_after result self.old.supply.given into.new }
@@ -166,7 +167,8 @@ impl Link for MemLink {
 
     /// As of any link. A send fails where its number is listed or no room is left, and nowhere else.
     fn send(&mut self, piece: &[u8]) -> Put
-        requires { 0 < length piece.now }
+        requires some { 0 < length piece.now }
+        requires open { self.old.closed ≡ false }
         ensures within { WritesWithin result piece.now }
         ensures bytes { Writes result self.old.store.sent self.new.store.sent piece.now }
         ensures closed { self.new.closed ≡ self.old.closed }

@@ -68,6 +68,13 @@ impl<S: Duplex> StreamLink<S> {
         StreamLink::over(stream, 0, None)
     }
 
+    /// Whether the link was closed.
+    pub fn is_closed(&self) -> bool
+        ensures { result ≡ S.shut self.now.stream }
+    {
+        self.traffic.is_shut()
+    }
+
     /// How often the link has failed.
     pub fn faults(&self) -> u64
         ensures { result ≡ self.now.faults }
@@ -96,7 +103,7 @@ impl<S: Duplex> Link for StreamLink<S> {
     /// As of any link. Before it reads from the stream, all that was sent is written to it. At `End` all that the stream gave was
     /// taken. A closed link fails.
     fn take(&mut self, into: &mut [u8]) -> Got
-        requires { 0 < length into.old }
+        requires room { 0 < length into.old }
         ensures within { ReadsWithin result into.new }
         ensures bytes { Reads result None None into.new }
         ensures taken { self.new.taken ≡ given_after result self.old.taken into.new }
@@ -121,7 +128,7 @@ impl<S: Duplex> Link for StreamLink<S> {
 
     /// As of any link. It reads nothing. A closed link fails.
     fn send(&mut self, piece: &[u8]) -> Put
-        requires { 0 < length piece.now }
+        requires some { 0 < length piece.now }
         ensures within { WritesWithin result piece.now }
         ensures bytes { Writes result self.old.sent self.new.sent piece.now }
         ensures closed { S.shut self.new.stream ≡ S.shut self.old.stream }

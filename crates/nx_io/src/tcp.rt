@@ -1,15 +1,17 @@
 // Links and doors over TCP. The calls of the network stand in this file alone.
-ghost use Rattle.std.specs.Prelude.{◌≡◌, ◌≢◌, [], IfErr, None, Some, false, true};
+ghost use Rattle.std.specs.Prelude.{◌≡◌, ◌≢◌, ◌∷◌, ◌++◌, [], IfErr, None, Some, false, true};
 ghost use Rattle.std.specs.IoError.{error_kind};
 ghost use Rattle.std.specs.Option.{option_map};
 ghost use Rattle.nx_io.specs.Histories.{bytes_of};
+ghost use Rattle.nx_io.specs.DoorCalls.{faults_in, gave_in, new_origin, next_call};
+ghost use Rattle.nx_io.specs.Doors.{Gives, IfGiven};
 ghost use Rattle.nx_io.specs.Links.{IsFreshLink};
 
+use crate::door_history::{DoorHistory, LoggedCall};
 use crate::doors::{Dial, Door, Next};
 use crate::duplex::StdDuplex;
 use crate::history::History;
 use crate::links::Link;
-use crate::listened::Listened;
 use crate::stream_links::StreamLink;
 use crate::streams::{Got, Put, Reach, Shared};
 use std::io::{self, ErrorKind};
@@ -43,6 +45,13 @@ impl TcpLink {
         TcpLink {
             link: StreamLink::over(StdDuplex::new(stream), place, toward),
         }
+    }
+
+    /// Whether the link was closed.
+    pub fn is_closed(&self) -> bool
+        ensures { result ≡ self.now.stream.shut }
+    {
+        self.link.is_closed()
     }
 
     /// How often the link has failed.
@@ -83,42 +92,37 @@ impl Link for TcpLink {
     }
 }
 
-/// Where TCP connections come from, which counts its faults. It accepts at the address at which it listened last.
+/// Where TCP connections come from. It accepts at the address at which it listened last.
 #[derive(Drop)]
 pub struct TcpDoor {
     listener: Option<TcpListener>,
-    gave: u64,
-    listened: Listened,
-    faults: u64,
+    history: DoorHistory,
 }
 
 impl Model for TcpDoor {
-    ghost use Rattle.nx_io.specs.Histories.{addresses_of};
-    ghost use Rattle.nx_io.specs.Sockets.{Listening};
+    ghost use Rattle.nx_io.specs.DoorCalls.{DoorCalls};
 
-    ghost Value = { Listening };
+    ghost Value = { DoorCalls };
 
-    ghost view = { λ d. record { gave = d.gave; listened = addresses_of d.listened; faults = d.faults } };
+    ghost view = { λ d. d.history };
 }
 
 impl TcpDoor {
     /// A door that doesn't listen yet.
     pub fn new() -> TcpDoor
-        ensures { result ≡ record { gave = 0; listened = []; faults = 0 } }
+        ensures { result ≡ record { origin = new_origin; calls = [] } }
     {
         TcpDoor {
             listener: None,
-            gave: 0,
-            listened: Listened::Start,
-            faults: 0,
+            history: DoorHistory::new(),
         }
     }
 
     /// How often the door has failed.
     pub fn faults(&self) -> u64
-        ensures { result ≡ self.now.faults }
+        ensures { result ≡ faults_in self.now.calls }
     {
-        self.faults
+        self.history.faults()
     }
 }
 
@@ -127,13 +131,9 @@ impl Door for TcpDoor {
 
     ghost links = { λ _. None };
 
-    ghost over = { λ _. false };
+    ghost origin = { λ d. d.origin };
 
-    ghost gave = { λ d. d.gave };
-
-    ghost listened = { λ d. d.listened };
-
-    ghost faults = { λ d. d.faults };
+    ghost calls = { λ d. d.calls };
 
     /// As of any door.
     fn listen<R: Net<Listener = TcpListener, Stream = TcpStream> + Clock>(
@@ -141,14 +141,15 @@ impl Door for TcpDoor {
         rt: &R,
         address: &[u8],
     ) -> Reach {
+        let told = History::of(address);
         match bound(rt, address) {
             Some(listener) => {
                 self.listener = Some(listener);
-                self.listened.tell(address);
+                self.history.add(LoggedCall::Listened { address: told });
                 Reach::Ready
             }
             None => {
-                self.faults = self.faults.saturating_add(1);
+                self.history.add(LoggedCall::NotListened { address: told });
                 Reach::Failed
             }
         }
@@ -157,32 +158,40 @@ impl Door for TcpDoor {
     /// As of any door. The share accepts from the same listener. It takes no memory.
     fn share(&mut self) -> Shared<TcpDoor> {
         match shared(&self.listener) {
-            Ok(listener) => Shared::Made(TcpDoor {
-                listener,
-                gave: 0,
-                listened: self.listened.copy(),
-                faults: 0,
-            }),
+            Ok(listener) => {
+                let history = self.history.of_share();
+                self.history.add(LoggedCall::Shared);
+                Shared::Made(TcpDoor { listener, history })
+            }
             Err(_) => {
-                self.faults = self.faults.saturating_add(1);
+                self.history.add(LoggedCall::NotShared);
                 Shared::Failed
             }
         }
     }
 
     /// As of any door. It waits for a peer, and fails where it doesn't listen. What fails for one connection alone is no
-    /// fault.
+    /// fault. It never answers that no link is to come.
     fn next<R: Net<Listener = TcpListener, Stream = TcpStream> + Clock>(
         &mut self,
         _rt: &R,
-    ) -> Next<TcpLink> {
+    ) -> Next<TcpLink>
+        ensures fresh { IfGiven result
+            (λ link. IsFreshLink link.taken link.sent link.over link.stream.shut link.faults) }
+        ensures place { IfGiven result (λ link. link.place ≡ gave_in self.new.calls) }
+        ensures toward { IfGiven result (λ link. link.toward ≡ None) }
+        ensures links { Gives {L = TcpLink} result None None }
+        ensures calls { self.new.calls ≡ self.old.calls ++ next_call result ∷ [] }
+        ensures origin { self.new.origin ≡ self.old.origin }
+        ensures endless { result ≢ Next.NoMore }
+    {
         match accepted(&self.listener) {
             Ok(stream) => {
-                self.gave = self.gave.saturating_add(1);
-                Next::Link(TcpLink::over(stream, self.gave, None))
+                self.history.add(LoggedCall::Gave);
+                Next::Link(TcpLink::over(stream, self.history.gave(), None))
             }
             Err(_) => {
-                self.faults = self.faults.saturating_add(1);
+                self.history.add(LoggedCall::NotGiven);
                 Next::Failed
             }
         }
@@ -194,14 +203,14 @@ impl Door for TcpDoor {
         rt: &R,
         address: &[u8],
     ) -> Dial<TcpLink> {
+        let told = History::of(address);
         match connected(rt, address) {
             Some(stream) => {
-                let mut toward = History::Start;
-                toward.tell(address);
-                Dial::Link(TcpLink::over(stream, 0, Some(toward)))
+                self.history.add(LoggedCall::Dialed { address: told });
+                Dial::Link(TcpLink::over(stream, 0, Some(History::of(address))))
             }
             None => {
-                self.faults = self.faults.saturating_add(1);
+                self.history.add(LoggedCall::NotDialed { address: told });
                 Dial::Failed
             }
         }

@@ -204,6 +204,7 @@ fn sit<
     requires taken { L.taken link.old ≡ [] }
     requires sent { L.sent link.old ≡ [] }
     requires over { L.over link.old ≡ false }
+    requires is_open { L.closed link.old ≡ false }
     ensures ready { IsReady board.now result.0 }
     ensures sat { HasSat (λ requests replies. HasGone session result.0 (record {
       said = P.said panel.old;
@@ -218,6 +219,7 @@ fn sit<
     }) requests replies) result.1 (L.taken link.new) (L.sent link.new) }
     ensures bytes { Gave (L.left link.old) (L.left link.new) (L.taken link.old) (L.taken link.new) }
     ensures over { L.over link.new ≡ is_over result.1 }
+    ensures is_open { L.closed link.new ≡ false }
     ensures origin { KeepsOrigin (L.place link.old) (L.place link.new) (L.toward link.old) (L.toward link.new) }
     ensures link_later { L.faults link.old ≤ L.faults link.new }
     ensures link_count { L.faults link.new ≡ faults_after_end result.1 (L.faults link.old) }

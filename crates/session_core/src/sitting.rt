@@ -49,7 +49,7 @@ pub trait Sitting<R, B, P>: Sized {
     fn replied(&self, rt: &R);
 }
 
-/// Takes and answers the frames of a session, in which nothing was told yet.
+/// Takes and answers the frames of a session, in which nothing was told yet. The link is open, and stays so.
 pub fn serve_sitting<R, B, P, S: Sitting<R, B, P> + Drop, L: Link>(
     rt: &R,
     alloc: Global,
@@ -63,12 +63,14 @@ pub fn serve_sitting<R, B, P, S: Sitting<R, B, P> + Drop, L: Link>(
     requires taken { L.taken link.old ≡ [] }
     requires sent { L.sent link.old ≡ [] }
     requires over { L.over link.old ≡ false }
+    requires is_open { L.closed link.old ≡ false }
     requires ready { S.ready sitting book.old panel.old }
     requires told { S.told sitting book.old panel.old sitting book.old panel.old [] [] }
     ensures ready { S.ready result.0 book.new panel.new }
     ensures served { HasSat (S.told sitting book.old panel.old result.0 book.new panel.new) result.1 (L.taken link.new) (L.sent link.new) }
     ensures bytes { Gave (L.left link.old) (L.left link.new) (L.taken link.old) (L.taken link.new) }
     ensures over { L.over link.new ≡ is_over result.1 }
+    ensures is_open { L.closed link.new ≡ false }
     ensures origin { KeepsOrigin (L.place link.old) (L.place link.new) (L.toward link.old) (L.toward link.new) }
     ensures link_later { L.faults link.old ≤ L.faults link.new }
     ensures link_count { L.faults link.new ≡ faults_after_end result.1 (L.faults link.old) }
@@ -98,7 +100,9 @@ fn serve_framed<R, B, P, S: Sitting<R, B, P>, L: Link>(
     panel: &mut P,
 ) -> (S, Option<SessionEnd>)
     requires ready { S.ready sitting book.old panel.old }
+    requires is_open { L.closed link.old ≡ false }
     ensures ready { S.ready result.0 book.new panel.new }
+    ensures is_open { L.closed link.new ≡ false }
     ensures turn { (first : S) (book_first : B) (panel_first : P) → IsTurnOf framed.now (S.told first book_first panel_first sitting book.old panel.old) (S.told first book_first panel_first result.0 book.new panel.new) (L.sent link.old) (L.sent link.new) result.1 }
     ensures coming { KeepsComing (L.left link.old) (L.left link.new) (L.taken link.old) (L.taken link.new) (L.over link.old) (L.over link.new) }
     ensures origin { KeepsOrigin (L.place link.old) (L.place link.new) (L.toward link.old) (L.toward link.new) }
@@ -140,8 +144,9 @@ fn tell<R, B, P, S: Sitting<R, B, P>>(rt: &R, sitting: &S, end: &Option<SessionE
 
 /// Sends a reply. What comes of it is the end of the session, where the link fails.
 fn send_reply<L: Link>(link: &mut L, reply: &Reply) -> Option<SessionEnd>
+    requires is_open { L.closed link.old ≡ false }
     ensures bytes { IsSent reply.now result (L.sent link.old) (L.sent link.new) }
-    ensures closed { L.closed link.new ≡ L.closed link.old }
+    ensures is_open { L.closed link.new ≡ false }
     ensures coming { KeepsComing (L.left link.old) (L.left link.new) (L.taken link.old) (L.taken link.new) (L.over link.old) (L.over link.new) }
     ensures origin { KeepsOrigin (L.place link.old) (L.place link.new) (L.toward link.old) (L.toward link.new) }
     ensures later { L.faults link.old ≤ L.faults link.new }

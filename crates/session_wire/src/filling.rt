@@ -1,4 +1,4 @@
-ghost use Rattle.std.specs.Prelude.{◌≡◌, ◌≤◌};
+ghost use Rattle.std.specs.Prelude.{◌≡◌, ◌≤◌, false};
 ghost use Rattle.nx_io.specs.Links.{KeepsGoing, KeepsOrigin};
 ghost use Rattle.session_wire.specs.Inner.Taking.{AreBytes, EndsAtEnd, FillsWithin, Takes, faults_after_fill, filled, over_after_fill};
 
@@ -14,8 +14,9 @@ pub(crate) enum Filled {
     Failed(usize),
 }
 
-/// Fills a buffer from a link, in as many takes as it needs. No byte more is taken.
+/// Fills a buffer from an open link, in as many takes as it needs. No byte more is taken.
 pub(crate) fn fill<L: Link>(link: &mut L, into: &mut [u8]) -> Filled
+    requires open { L.closed link.old ≡ false }
     ensures fit { AreBytes into.new }
     ensures within { FillsWithin result into.new }
     ensures bytes { Takes (L.left link.old) (L.left link.new) (L.taken link.old) (L.taken link.new) (filled result into.new) }

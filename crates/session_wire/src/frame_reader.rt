@@ -1,4 +1,4 @@
-ghost use Rattle.std.specs.Prelude.{◌≡◌, ◌<◌, ◌≤◌, ◌+◌, ◌^◌, IfOk, length};
+ghost use Rattle.std.specs.Prelude.{◌≡◌, ◌<◌, ◌≤◌, ◌+◌, ◌^◌, IfOk, length, false};
 ghost use Rattle.nx_io.specs.Links.{KeepsGoing, KeepsOrigin};
 ghost use Rattle.nx_io.specs.Streams.{Gave, gained};
 ghost use Rattle.session_wire.specs.Frames.{framed, most_payload};
@@ -68,13 +68,14 @@ impl FrameReader {
         })
     }
 
-    /// Reads the next frame, whatever the pieces in which it comes, and takes no byte behind it. It asks that fewer than
-    /// 2^63 bytes were taken.
+    /// Reads the next frame, whatever the pieces in which it comes, and takes no byte behind it. It asks that the link is open
+    /// and that fewer than 2^63 bytes were taken.
     ///
     /// A frame is judged before anything is copied of it: `Memory` comes only where a whole frame of a request was taken.
     /// After `End`, `Torn`, `Bad` and `ReadFault` there is no next frame.
     pub fn next<L: Link>(&mut self, link: &mut L) -> Framed
-        requires { self.old < 2 ^ 63 }
+        requires few { self.old < 2 ^ 63 }
+        requires open { L.closed link.old ≡ false }
         ensures size { self.new ≡ self.old + length (gained (L.taken link.old) (L.taken link.new)) }
         ensures few { self.new ≤ self.old + 33796 }
         ensures front { IsTakenFor result self.old (gained (L.taken link.old) (L.taken link.new)) }
@@ -101,6 +102,7 @@ fn read_frame<L: Link>(
 ) -> (Framed, usize)
     requires size { length buffer.old ≡ 33796 }
     requires start { start < 2 ^ 63 }
+    requires open { L.closed link.old ≡ false }
     ensures small { result.1 ≤ 33796 }
     ensures bytes { TakesFor result.0 result.1 start (L.left link.old) (L.left link.new) (L.taken link.old) (L.taken link.new) (L.over link.old) (L.over link.new) }
     ensures going { KeepsGoing (L.sent link.old) (L.sent link.new) (L.closed link.old) (L.closed link.new) }

@@ -1,4 +1,4 @@
-ghost use Rattle.std.specs.Prelude.{◌≡◌, ◌↔◌, ◌≤◌, ◌+◌, ◌*◌, ◌∷◌, ◌++◌, [], IfSome, IsTrue, MatchOption, None, Some, length};
+ghost use Rattle.std.specs.Prelude.{◌≡◌, ◌↔◌, ◌≤◌, ◌+◌, ◌*◌, ◌∷◌, ◌++◌, [], IfSome, IsTrue, MatchOption, None, Some, length, false};
 ghost use Rattle.nx_io.specs.Links.{KeepsGoing, KeepsOrigin};
 ghost use Rattle.nx_io.specs.Streams.{Gave, gained};
 ghost use Rattle.session_wire.specs.Frames.{HasFittingNumbers, number_bytes, reply_payload};
@@ -27,11 +27,12 @@ pub enum ReplyRead {
     ReadFault,
 }
 
-/// Reads a reply, whatever the pieces in which it comes, and takes no byte behind it. It takes no memory.
+/// Reads a reply of an open link, whatever the pieces in which it comes, and takes no byte behind it. It takes no memory.
 ///
 /// `Bad` comes after four bytes where no reply has their length, and after five where the kind is unknown or has another
 /// length. `docs/FORMATS.md`, "Frames", states the frames.
 pub fn read_reply<L: Link>(link: &mut L) -> ReplyRead
+    requires open { L.closed link.old ≡ false }
     ensures front { IsTakenForReply result (gained (L.taken link.old) (L.taken link.new)) }
     ensures bytes { Gave (L.left link.old) (L.left link.new) (L.taken link.old) (L.taken link.new) }
     ensures end { IsAtReplysEnd result (L.left link.new) }
@@ -46,6 +47,7 @@ pub fn read_reply<L: Link>(link: &mut L) -> ReplyRead
 
 /// As `read_reply`, with what was taken in one clause.
 fn take_reply<L: Link>(link: &mut L) -> ReplyRead
+    requires open { L.closed link.old ≡ false }
     ensures bytes { TakesForReply result (L.left link.old) (L.left link.new) (L.taken link.old) (L.taken link.new) (L.over link.old) (L.over link.new) }
     ensures going { KeepsGoing (L.sent link.old) (L.sent link.new) (L.closed link.old) (L.closed link.new) }
     ensures origin { KeepsOrigin (L.place link.old) (L.place link.new) (L.toward link.old) (L.toward link.new) }

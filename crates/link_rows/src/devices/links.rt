@@ -1,4 +1,6 @@
 // Links: generic code over one in memory.
+ghost use Rattle.std.specs.Prelude.{◌≡◌, false};
+
 use super::crosses;
 use crate::tables::hold;
 use crate::texts::{letters, number, numbers, text_of};
@@ -6,7 +8,9 @@ use nx_io::{Got, Link, MemLink, Reach, send_whole};
 use std::alloc::{AllocError, Global};
 
 // Sends back what a link gives, in at most so many takes, takes again after a fault, and closes at the end.
-fn echo<L: Link>(link: &mut L, takes: u64) -> Reach {
+fn echo<L: Link>(link: &mut L, takes: u64) -> Reach
+    requires { L.closed link.old ≡ false }
+{
     let mut buffer = [0; 16];
     for _ in 0..takes {
         match link.take(&mut buffer) {
@@ -64,7 +68,9 @@ fn told_of_link(
     }
 }
 
-fn sent_back(alloc: Global, link: &mut MemLink) -> Result<String, AllocError> {
+fn sent_back(alloc: Global, link: &mut MemLink) -> Result<String, AllocError>
+    requires { link.old.closed ≡ false }
+{
     crosses(link);
     let reach = echo(link, 16);
     let (sent, left) = (text_of(link.sent()), link.left().len());

@@ -23,9 +23,13 @@ loop-init g c = record {
   few = omega (arith, c.requires.reader);
   bytes = gave-nothing _ _;
   over = c.requires.over;
+  is_open = c.requires.is_open;
   origin = record { place_is = refl; toward_is = refl };
   link = refl;
 }
+
+pub serve_framed-next-requires-clause-is_open : goal.serve_framed-next-requires-clause-is_open
+serve_framed-next-requires-clause-is_open g c = c.next-framed.ensures.going.closed_is ∙ c.loop.invariant.is_open
 
 pub returns-in-Some-clause-served : goal.returns-in-Some-clause-served
 returns-in-Some-clause-served g c =
@@ -77,6 +81,7 @@ loop-preserved g c =
       few = omega (arith, inv.few, c.next-framed.ensures.few);
       bytes = rw (c.serve_framed-next.ensures.coming.left_is, c.serve_framed-next.ensures.coming.taken_is) (gave-on _ _ _ _ _ _ inv.bytes c.next-framed.ensures.bytes);
       over = c.serve_framed-next.ensures.coming.over_is ∙ over ∙ kept.0;
+      is_open = c.serve_framed-next.ensures.is_open;
       origin = record {
         place_is = c.serve_framed-next.ensures.origin.place_is ∙ c.next-framed.ensures.origin.place_is ∙ inv.origin.place_is;
         toward_is = c.serve_framed-next.ensures.origin.toward_is ∙ c.next-framed.ensures.origin.toward_is ∙ inv.origin.toward_is;

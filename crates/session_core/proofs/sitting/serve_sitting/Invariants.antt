@@ -12,6 +12,7 @@ invariant-loop g l = record {
   few : l.reader ≤ 33796 * l.counter;
   bytes : Gave (g.L.Link.left l.fn.link) (g.L.Link.left l.link) (g.L.Link.taken l.fn.link) (g.L.Link.taken l.link);
   over : g.L.Link.over l.link ≡ false;
+  is_open : g.L.Link.closed l.link ≡ false;
   origin : KeepsOrigin (g.L.Link.place l.fn.link) (g.L.Link.place l.link) (g.L.Link.toward l.fn.link) (g.L.Link.toward l.link);
   link : g.L.Link.faults l.link ≡ g.L.Link.faults l.fn.link;
 }
