@@ -22,12 +22,12 @@ use Rattle.verdict_words.specs.declared.views.Item.TheVariants.{Met}
 use Rattle.policy_book.specs.Books.{BookValue, IsMetIn, session_of}
 use Rattle.session_core.specs.ToldLaws.{ToldStaysTold}
 use Rattle.nexus_serve.specs.declared.service.ServeEnd.TheVariants.{Done, DoorFault}
-use Rattle.nexus_serve.specs.Views.{DoorView, PanelView, ReportView}
+use Rattle.nexus_serve.specs.Views.{PanelView, ReportView}
 use Rattle.nexus_serve.specs.Workers.{HaveWorked, SomeFailed}
-use Rattle.nexus_serve.specs.Services.{HasSeenAll, HaveOneOrder, IsServed, ServedView, Serves, SinkView, done, is_fault, no_memory, sessions_of}
+use Rattle.nexus_serve.specs.Services.{HasSeenAll, HaveOneOrder, IsServed, ServedView, Serves, SinkView, done, is_fault, sessions_of}
 use Rattle.nexus_serve.specs.Inner.Gathering.{gathered_all, joined, nothing, pass_of, rest_of, with_unused}
 use Rattle.nexus_serve.specs.Inner.Joining.{IsMetBy, met_report, reports_of, unused_of}
-use Rattle.nexus_serve.specs.Inner.Reporting.{IsLost, IsReported, end_of}
+use Rattle.nexus_serve.specs.Inner.Reporting.{IsReported, end_of}
 use Rattle.nexus_serve.specs.Inner.Serving.{AreDone, doors_of, panels_of}
 use Rattle.nexus_serve.specs.Inner.Working.{IsUnused, WorkerValue}
 use Rattle.nexus_serve.proofs.Gathering.{doors_gathered, joined_met, panels_gathered, passes_gathered, rests_gathered, some_failed, tells_all, unused_gathered}
@@ -68,9 +68,9 @@ all_behind P low whole front (e ∷ rest) is long each =
     let grown = length-append front (e ∷ []) in
     All-cons P e rest (each front e rest is long) (all_behind P low whole (front ++ e ∷ []) rest (is ∙ sym (append_assoc front (e ∷ []) rest)) (omega (arith, long, grown)) each)
 
-module _ {K P : Type 0} (panel : P → PanelView) (stays : ToldStaysTold) (book : BookValue K) (start : SinkView) (served : ServedView P) (most : ℕ) (hired workers : List (WorkerValue P))
+module _ {K P : Type 0} (panel : P → PanelView) (stays : ToldStaysTold) (book : BookValue K) (start : SinkView) (served : ServedView P) (most : ℕ) (hired workers : List (WorkerValue P)) (places spare : ℕ)
     (are_done : AreDone panel book.board book.board.origin.first most hired workers) (all_numbers : book.next ≡ book.board.origin.first + length workers * most)
-    (reported : IsReported book start (with_unused (gathered_all nothing workers)) served) (first_is : book.board.origin.first ≡ greatest_of (entry_trees book.board.origin.opening) + 1) where
+    (reported : IsReported book start (with_unused (gathered_all (nothing places spare) workers)) served) (first_is : book.board.origin.first ≡ greatest_of (entry_trees book.board.origin.opening) + 1) where
   abbrev board : Identity Entry Head
   board = book.board
 
@@ -86,12 +86,12 @@ module _ {K P : Type 0} (panel : P → PanelView) (stays : ToldStaysTold) (book 
   abbrev unused : List (PassValue Entry Head)
   unused = unused_of workers
 
-  passes : (with_unused (gathered_all nothing workers)).passes ≡ map pass_of reports ++ unused
-  passes = ap (λ l. l ++ (gathered_all nothing workers).unused) (passes_gathered nothing workers) ∙ ap (λ l. map pass_of reports ++ l) (unused_gathered nothing workers)
+  passes : (with_unused (gathered_all (nothing places spare) workers)).passes ≡ map pass_of reports ++ unused
+  passes = ap (λ l. l ++ (gathered_all (nothing places spare) workers).unused) (passes_gathered (nothing places spare) workers) ∙ ap (λ l. map pass_of reports ++ l) (unused_gathered (nothing places spare) workers)
 
   handed : served.reports ≡ map (met_report board es known) reports
   handed =
-      reported.reports ∙ ap (λ l. joined l (all_met book.board es known (with_unused (gathered_all nothing workers)).passes)) (rests_gathered nothing workers)
+      reported.reports ∙ ap (λ l. joined l (all_met book.board es known (with_unused (gathered_all (nothing places spare) workers)).passes)) (rests_gathered (nothing places spare) workers)
       ∙ ap (λ l. joined (map rest_of reports) (all_met book.board es known l)) passes
       ∙ ap (joined (map rest_of reports)) (map-append (λ (pass : PassValue Entry Head). met_of board es known pass.session pass.trail) (map pass_of reports) unused) ∙ joined_met board es known reports (all_met board es known unused)
 
@@ -104,8 +104,8 @@ module _ {K P : Type 0} (panel : P → PanelView) (stays : ToldStaysTold) (book 
   met_by : All (λ (report : ReportView). IsMetBy es report.pass) reports
   met_by = All-weaker (λ (report : ReportView). IsMetIn book report.pass) (λ (report : ReportView). IsMetBy es report.pass) (λ report is. record { seen = is.seen; own_is = is.own_met }) reports met_reports
 
-  fault : is_fault served.end ≡ (gathered_all nothing workers).has_failed
-  fault = ap is_fault reported.end ∙ fault_is (gathered_all nothing workers).has_failed
+  fault : is_fault served.end ≡ (gathered_all (nothing places spare) workers).has_failed
+  fault = ap is_fault reported.end ∙ fault_is (gathered_all (nothing places spare) workers).has_failed
 
   seen_all : (report : ReportView) → IsMetBy es report.pass × (report.pass.session ≡ report.session) → HasSeenAll es (met_report board es known report)
   seen_all report (is, same) = record {
@@ -216,27 +216,27 @@ module _ {K P : Type 0} (panel : P → PanelView) (stays : ToldStaysTold) (book 
   }
 
   ends : (served.end ≡ Done) ⊎ ((served.end ≡ DoorFault) × SomeFailed (doors_of hired) (doors_of workers))
-  ends = by_fault (gathered_all nothing workers).has_failed refl
+  ends = by_fault (gathered_all (nothing places spare) workers).has_failed refl
     where
-      by_fault : (b : Bool) → (gathered_all nothing workers).has_failed ≡ b → (served.end ≡ Done) ⊎ ((served.end ≡ DoorFault) × SomeFailed (doors_of hired) (doors_of workers))
+      by_fault : (b : Bool) → (gathered_all (nothing places spare) workers).has_failed ≡ b → (served.end ≡ Done) ⊎ ((served.end ≡ DoorFault) × SomeFailed (doors_of hired) (doors_of workers))
       by_fault false is = inl (reported.end ∙ ap end_of is)
-      by_fault true is = inr (reported.end ∙ ap end_of is, of_some (some_failed panel board board.origin.first most nothing hired workers are_done is))
+      by_fault true is = inr (reported.end ∙ ap end_of is, of_some (some_failed panel board board.origin.first most (nothing places spare) hired workers are_done is))
         where
           of_some : (false ≡ true) ⊎ SomeFailed (doors_of hired) (doors_of workers) → SomeFailed (doors_of hired) (doors_of workers)
           of_some (inl never) = absurd (cc never)
           of_some (inr some) = some
 
   doors : served.doors ≡ doors_of workers
-  doors = reported.doors ∙ doors_gathered nothing workers
+  doors = reported.doors ∙ doors_gathered (nothing places spare) workers
 
   panels : served.panels ≡ panels_of workers
-  panels = reported.panels ∙ panels_gathered nothing workers
+  panels = reported.panels ∙ panels_gathered (nothing places spare) workers
 
   worked : HaveWorked board.origin.setting (length board.origin.opening) 1 (is_fault served.end) (greatest_of (entry_trees board.origin.opening) + 1) most (doors_of hired) (doors_of workers) (map panel (panels_of hired)) (map panel (panels_of workers)) (map (met_report board es known) reports)
   worked =
       subst (λ n. HaveWorked board.origin.setting (length board.origin.opening) 1 (is_fault served.end) n most (doors_of hired) (doors_of workers) (map panel (panels_of hired)) (map panel (panels_of workers)) (map (met_report board es known) reports)) first_is
       (subst (λ b. HaveWorked board.origin.setting (length board.origin.opening) 1 b board.origin.first most (doors_of hired) (doors_of workers) (map panel (panels_of hired)) (map panel (panels_of workers)) (map (met_report board es known) reports)) (sym fault)
-      (have_worked panel stays board es known (gathered_all nothing workers).has_failed most board.origin.first hired workers are_done (tells_all nothing workers) met_by))
+      (have_worked panel stays board es known (gathered_all (nothing places spare) workers).has_failed most board.origin.first hired workers are_done (tells_all (nothing places spare) workers) met_by))
 
   is_served : IsServed board.origin.setting board.origin.opening es most (doors_of hired) (doors_of workers) (map panel (panels_of hired)) (map panel (panels_of workers)) (map (met_report board es known) reports) served.end
   is_served = record {
@@ -258,14 +258,3 @@ module _ {K P : Type 0} (panel : P → PanelView) (stays : ToldStaysTold) (book 
   -- what was reported is what a service hands back
   pub finished : Serves panel most board.origin.setting board.origin.opening start (doors_of hired) (panels_of hired) served
   finished = done es reported.sink_now reported.journal reported.sink all_served reported.text
-
--- nothing is handed back
-pub lost_all : {P : Type 0} (panel : P → PanelView) {served : ServedView P} (most : ℕ) (h : Head) (opening : List Entry) (start : SinkView) (ds : List DoorView) (ps : List P) → IsLost served → Serves panel most h opening start ds ps served
-lost_all panel most h opening start ds ps lost = no_memory lost.journal lost.written lost.end
-
-pub finished_or_lost : {K P : Type 0} (panel : P → PanelView) (stays : ToldStaysTold) (book : BookValue K) (start : SinkView) (served : ServedView P) (most : ℕ) (hired workers : List (WorkerValue P))
-    → AreDone panel book.board book.board.origin.first most hired workers → book.next ≡ book.board.origin.first + length workers * most
-    → book.board.origin.first ≡ greatest_of (entry_trees book.board.origin.opening) + 1 → IsLost served ⊎ IsReported book start (with_unused (gathered_all nothing workers)) served
-    → Serves panel most book.board.origin.setting book.board.origin.opening start (doors_of hired) (panels_of hired) served
-finished_or_lost panel stays book start served most hired workers stopped numbers first (inl lost) = lost_all panel most book.board.origin.setting book.board.origin.opening start (doors_of hired) (panels_of hired) lost
-finished_or_lost panel stays book start served most hired workers stopped numbers first (inr reported) = finished panel stays book start served most hired workers stopped numbers reported first

@@ -88,10 +88,10 @@ some_failed panel board first most g (j ∷ js) [] done is = absurd done
 
 -- what was gathered is told by its parts
 pub gathered_same : {P : Type 0} {doors doors_too : List DoorView} {panels panels_too : List P} {rests rests_too : List RestView} {passes passes_too unused unused_too : List (PassValue Entry Head)} {b b_too : Bool}
-    → doors ≡ doors_too → panels ≡ panels_too → rests ≡ rests_too → passes ≡ passes_too → unused ≡ unused_too → b ≡ b_too
-    → ◌≡◌ {A = GatheredValue P} (record { doors = doors; panels = panels; rests = rests; passes = passes; unused = unused; has_failed = b })
-    (record { doors = doors_too; panels = panels_too; rests = rests_too; passes = passes_too; unused = unused_too; has_failed = b_too })
-gathered_same d p r s u f = rw (d, p, r, s, u, f) refl
+    {places places_too spare spare_too : ℕ} → doors ≡ doors_too → panels ≡ panels_too → rests ≡ rests_too → passes ≡ passes_too → unused ≡ unused_too → b ≡ b_too → places ≡ places_too → spare ≡ spare_too
+    → ◌≡◌ {A = GatheredValue P} (record { doors = doors; panels = panels; rests = rests; passes = passes; unused = unused; has_failed = b; places = places; spare = spare })
+    (record { doors = doors_too; panels = panels_too; rests = rests_too; passes = passes_too; unused = unused_too; has_failed = b_too; places = places_too; spare = spare_too })
+gathered_same d p r s u f m n = rw (d, p, r, s, u, f, m, n) refl
 
 -- reports, each with its pass, by what they tell
 pub joined_views : {L : Type 0} (view : L → LinkView) (rests : List (Rest L)) (passes : List (PassValue Entry Head)) → map (report_view view) (raw_joined rests passes) ≡ joined (map (rest_view view) rests) passes

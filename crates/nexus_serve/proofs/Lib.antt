@@ -1,6 +1,7 @@
 mod Views
 mod Working
 mod Numbering
+mod Seating
 mod Readiness
 mod Lists
 mod Growing

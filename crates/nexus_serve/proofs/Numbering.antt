@@ -8,6 +8,7 @@ use Rattle.policy_history.specs.declared.heads.Head.{Head}
 use Rattle.verdict_words.specs.declared.views.AtomicStep.{AtomicStep}
 use Rattle.verdict_words.specs.Values.{Identity, PassValue}
 use Rattle.nexus_serve.specs.Views.{PanelView}
+use Rattle.nexus_serve.specs.Inner.Desks.{AreLaid, DeskValue, IsLaid}
 use Rattle.nexus_serve.specs.Inner.Serving.{AreDone, AreHired, AreOfBoard}
 use Rattle.policy_book.specs.Books.{BookValue}
 use Rattle.nexus_serve.specs.Inner.Working.{AreNumbered, IsDone, IsHired, IsUnused, WorkerValue}
@@ -54,10 +55,6 @@ room_for_one first k n most bound all fewer =
     let within : suc k * most ≤ n * most = mul-le-mul_right most (let more : suc k ≤ n = omega (arith, fewer) in more) in
     omega (arith, all, next, within)
 
--- the numbers behind the sessions of so many workers
-pub same_numbers : (next first k n most : ℕ) → next ≡ first → n ≡ k → next + k * most ≡ first + n * most
-same_numbers next first k n most is count = rw (is, count) refl
-
 -- each of the hired was hired from its own first session on
 pub each_hired : {P : Type 0} (board : Identity Entry Head) (first most : ℕ) (workers : List (WorkerValue P)) → AreHired board first most workers
     → All (λ (worker : WorkerValue P). IsHired board worker.first (length worker.passes) worker) workers
@@ -68,26 +65,26 @@ each_hired board first most (w ∷ ws) hired =
 
 -- the hired are done where each of them is
 pub all_done : {P : Type 0} (panel : P → PanelView) (board : Identity Entry Head) (first most : ℕ) (hired workers : List (WorkerValue P)) → AreHired board first most hired → length workers ≡ length hired
-    → ((i : ℕ) (d e : WorkerValue P) → i < length hired → IsDone panel board (slice_index_or hired i d) (slice_index_or workers i e)) → AreDone panel board first most hired workers
+    → ((i : ℕ) (d : WorkerValue P) → i < length hired → IsDone panel board (slice_index_or hired i d) (slice_index_or workers i d)) → AreDone panel board first most hired workers
 all_done panel board first most [] [] are long each = tt
 all_done panel board first most (j ∷ js) (w ∷ ws) are long each =
-    (are.0, each 0 j w (omega arith), all_done panel board (first + most) most js ws are.1 (cc long) (λ i d e below. each (suc i) d e (omega (arith, below))))
+    (are.0, each 0 j (omega arith), all_done panel board (first + most) most js ws are.1 (cc long) (λ i d below. each (suc i) d (omega (arith, below))))
 all_done panel board first most [] (w ∷ ws) are long each = absurd (cc long)
 all_done panel board first most (j ∷ js) [] are long each = absurd (cc long)
 
 -- all passes of the done are of the board
 pub done_of_board : {P : Type 0} (panel : P → PanelView) (board : Identity Entry Head) (hired workers : List (WorkerValue P)) → length workers ≡ length hired
-    → ((i : ℕ) (d e : WorkerValue P) → i < length hired → IsDone panel board (slice_index_or hired i d) (slice_index_or workers i e)) → All (AreOfBoard board) workers
+    → ((i : ℕ) (d : WorkerValue P) → i < length hired → IsDone panel board (slice_index_or hired i d) (slice_index_or workers i d)) → All (AreOfBoard board) workers
 done_of_board panel board [] [] long each = All-nil (AreOfBoard board)
 done_of_board panel board (j ∷ js) (w ∷ ws) long each =
-    let here = each 0 j w (omega arith) in
-    All-cons (AreOfBoard board) w ws (record { used = here.used; unused = here.unused }) (done_of_board panel board js ws (cc long) (λ i d e below. each (suc i) d e (omega (arith, below))))
+    let here = each 0 j (omega arith) in
+    All-cons (AreOfBoard board) w ws (record { used = here.used; unused = here.unused }) (done_of_board panel board js ws (cc long) (λ i d below. each (suc i) d (omega (arith, below))))
 done_of_board panel board [] (w ∷ ws) long each = absurd (cc long)
 done_of_board panel board (j ∷ js) [] long each = absurd (cc long)
 
--- one worker more
-pub hired_last : {P : Type 0} (board : Identity Entry Head) (first most : ℕ) (workers : List (WorkerValue P)) (worker : WorkerValue P) → AreHired board first most workers
-    → IsHired board (first + length workers * most) most worker → AreHired board first most (workers ++ worker ∷ [])
-hired_last board first most [] worker all one = (subst (λ n. IsHired board n most worker) (let none : first + 0 * most ≡ first = omega arith in none) one, tt)
-hired_last board first most (w ∷ ws) worker all one =
-    (all.0, hired_last board (first + most) most ws worker all.1 (subst (λ n. IsHired board n most worker) (one_more_worker first (length ws) most) one))
+-- one desk more
+pub laid_last : (board : Identity Entry Head) (first most : ℕ) (desks : List DeskValue) (desk : DeskValue) → AreLaid board first most desks
+    → IsLaid board (first + length desks * most) most desk → AreLaid board first most (desks ++ desk ∷ [])
+laid_last board first most [] desk all one = (subst (λ n. IsLaid board n most desk) (let none : first + 0 * most ≡ first = omega arith in none) one, tt)
+laid_last board first most (d ∷ ds) desk all one =
+    (all.0, laid_last board (first + most) most ds desk all.1 (subst (λ n. IsLaid board n most desk) (one_more_worker first (length ds) most) one))

@@ -1,45 +1,125 @@
 -- How a service is made ready, and how it ends where it is not.
-use Rattle.std.proofs.Common.{◌≡◌, ◌≢◌, List, Result, Ok, Err, length, inr, refl, ◌∙◌, arith}
-use Rattle.std.proofs.lemmas.List.{length-map}
+use Rattle.std.proofs.Common.{◌≡◌, ◌<◌, ◌+◌, ◌++◌, ◌∷◌, [], ℕ, zero, suc, List, Option, Result, Ok, Err, length, replicate, inl, inr, refl, sym, subst, ap, ◌∙◌, append_assoc}
+use Rattle.std.proofs.lemmas.Grind.{flat_map-append}
+use Rattle.std.proofs.lemmas.List.{append-nil, length-map, replicate-append-replicate}
 use Rattle.std.proofs.lemmas.List.Elements.{All-map, All-weaker}
-use Rattle.std.specs.Prelude.{All, IfErr, IfOk, map}
-use Rattle.nx_io.specs.Doors.{IsFreshDoor, KeepsLinks}
+use Rattle.std.specs.List.{flat_map}
+use Rattle.std.specs.Prelude.{All, map}
+use Rattle.nx_io.specs.DoorCalls.{DoorCall, DoorOrigin, address_in, listened, no_room_to_share, not_shared, share_of, shared}
 use Rattle.authority_ask.specs.Panels.{IsFresh}
 use Rattle.policy_history.specs.declared.events.Entry.{Entry}
 use Rattle.policy_history.specs.declared.heads.Head.{Head}
 use Rattle.nexus_serve.specs.declared.shares.Unready.{Unready}
 use Rattle.nexus_serve.specs.declared.shares.Unready.TheVariants.{Panel, Door, Memory}
-use Rattle.nexus_serve.specs.Views.{DoorView, PanelView}
+use Rattle.nexus_serve.specs.Views.{DoorView, LinkView, PanelView}
 use Rattle.nexus_serve.specs.Services.{SinkView}
-use Rattle.nexus_serve.specs.Hosting.{HasReached, HostedView, Hosts, IsDoorShare, IsIdle, IsPanelShare, Plan, unheard, unreached, unready}
-use Rattle.nexus_serve.specs.Inner.Sharing.{IsMade, door_faults_after, listens_after, unready_status}
+use Rattle.nexus_serve.specs.Hosting.{HasCalled, HasReached, HostedView, Hosts, IsDoorShare, IsIdle, IsPanelShare, Plan, no_room, not_heard, not_made, ready_calls, unheard, unreached, unready}
+use Rattle.nexus_serve.specs.Inner.Sharing.{IsMade, IsShareOf, ReadiesDoor, SharesDoor, unready_status}
 
-module _ {P X : Type 0} (panel : P → PanelView) (view : X → DoorView) (plan : Plan) (h : Head) (door door_now : DoorView) (asked asked_now : PanelView) (xs : List X) (ps : List P)
-    (reached : HasReached h asked asked_now) (panels : length ps ≡ plan.workers)
-    (panel_shares : All (λ (share : P). IsFresh (panel share).said (panel share).asks (panel share).faults × ((panel share).reached ≡ asked_now.reached)) ps)
-    (links : KeepsLinks door.links door_now.links door.over door_now.over door.gave door_now.gave) where
-  abbrev IsRawShare : X → Type 0
-  IsRawShare x = IsFreshDoor (view x).over (view x).gave (view x).faults × ((view x).listened ≡ door_now.listened)
+-- ---- Shares of a door
 
-  -- what was made once the door was to be shared
-  pub door_made : {A : Type 0} (r : Result A Unready) → IfErr r (λ e. e ≢ Panel) → IfOk r (λ _. length xs ≡ plan.workers)
-      → IfOk r (λ _. All (λ x. IsFreshDoor (view x).over (view x).gave (view x).faults × ((view x).listened ≡ door_now.listened)) xs)
-      → listens_after r plan.address door.listened door_now.listened → door_now.faults ≡ door_faults_after r door.faults → IsMade panel plan h door door_now asked asked_now (map view xs) ps r
-  door_made (Ok a) other count shares listened faults = record {
-    reached = reached;
-    listens = record { listened = listened; links = links; faults = faults };
-    door_count = length-map xs view ∙ count;
-    door_shares = All-map (IsDoorShare door_now) view xs (All-weaker IsRawShare (λ x. IsDoorShare door_now (view x)) (λ x is. record { fresh = is.0; listened = is.1 }) xs shares);
-    panel_count = panels;
-    panel_shares = All-weaker (λ (share : P). IsFresh (panel share).said (panel share).asks (panel share).faults × ((panel share).reached ≡ asked_now.reached)) (λ (share : P). IsPanelShare asked_now (panel share)) (λ share is. record { fresh = is.0; reached = is.1 }) ps panel_shares;
+-- one share more
+pub shared_more : (calls now : List DoorCall) (n : ℕ) → now ≡ calls ++ replicate n shared → now ++ shared ∷ [] ≡ calls ++ replicate (n + 1) shared
+shared_more calls now n e =
+    ap (λ cs. cs ++ shared ∷ []) e ∙ append_assoc calls (replicate n shared) (shared ∷ [])
+    ∙ ap (λ cs. calls ++ cs) (replicate-append-replicate n 1 shared)
+
+-- by shares a door listens at no other address
+nowhere_else : (n : ℕ) → flat_map address_in (replicate n shared) ≡ []
+nowhere_else zero = refl
+nowhere_else (suc n) = nowhere_else n
+
+still_nowhere : (n : ℕ) (last : DoorCall) → address_in last ≡ [] → flat_map address_in (replicate n shared ++ last ∷ []) ≡ []
+still_nowhere zero last none = ap (λ addresses. addresses ++ []) none
+still_nowhere (suc n) last none = still_nowhere n last none
+
+nowhere : {A : Type 0} (r : Result A Unready) (count made : ℕ) (more : List DoorCall) → SharesDoor r count made more → flat_map address_in more ≡ []
+nowhere (Ok a) count made more is = ap (flat_map address_in) is.1 ∙ nowhere_else made
+nowhere (Err Panel) count made more is = absurd is
+nowhere (Err Door) count made more is = ap (flat_map address_in) is.1 ∙ still_nowhere made not_shared refl
+nowhere (Err Memory) count made more is = ap (flat_map address_in) is.1 ∙ still_nowhere made no_room_to_share refl
+
+-- what is a share of a door is one of the door behind calls by which it listens at no other address
+same_share : (o : DoorOrigin) (calls more : List DoorCall) → flat_map address_in more ≡ [] → share_of o (calls ++ more) ≡ share_of o calls
+same_share o calls more none =
+    ap (λ addresses. record { depth = o.depth + 1; listened_at = o.listened_at ++ addresses })
+    (flat_map-append address_in calls more ∙ ap (λ addresses. flat_map address_in calls ++ addresses) none ∙ append-nil (flat_map address_in calls))
+
+module _ {X : Type 0} (origin : X → DoorOrigin) (calls : X → List DoorCall) where
+  -- what is made as a share of a door that has shares already is a share of it
+  pub is_share : (door now share : X) (n : ℕ) → origin now ≡ origin door → calls now ≡ calls door ++ replicate n shared
+      → origin share ≡ share_of (origin now) (calls now) → calls share ≡ [] → IsShareOf origin calls door share
+  is_share door now share n same called there unasked = record {
+    origin_is = there ∙ ap (λ o. share_of o (calls now)) same ∙ ap (share_of (origin door)) called ∙ same_share (origin door) (calls door) (replicate n shared) (nowhere_else n);
+    unasked = unasked;
   }
-  door_made (Err Panel) other count shares listened faults = absurd (other refl)
-  door_made (Err Door) other count shares listened faults = record { reached = reached; failed = record { links = links; faults = rw (faults) (omega arith) } }
-  door_made (Err Memory) other count shares listened faults = record { reached = reached; held = record { listened = inr listened; links = links; faults = faults } }
+
+  -- shares of a door are shares of it as it is once they are made
+  pub shares_of : {A : Type 0} (r : Result A Unready) (door now : X) (xs : List X) (count made : ℕ) (more : List DoorCall) → origin now ≡ origin door → calls now ≡ calls door ++ more
+      → SharesDoor r count made more → All (IsShareOf origin calls door) xs → All (IsShareOf origin calls now) xs
+  shares_of r door now xs count made more same called is shares =
+      All-weaker (IsShareOf origin calls door) (IsShareOf origin calls now)
+      (λ share one. record {
+        origin_is = one.origin_is ∙ sym (ap (λ o. share_of o (calls now)) same ∙ ap (share_of (origin door)) called ∙ same_share (origin door) (calls door) more (nowhere r count made more is));
+        unasked = one.unasked;
+      })
+      xs shares
+
+-- a door that listens, and was to be shared
+pub readies : {A : Type 0} (r : Result A Unready) (address : List ℕ) (count made : ℕ) (more : List DoorCall) → SharesDoor r count made more → ReadiesDoor r address count made (listened address ∷ more)
+readies (Ok a) address count made more is = (is.0, ap (λ cs. listened address ∷ cs) is.1)
+readies (Err Panel) address count made more is = is
+readies (Err Door) address count made more is = inr (is.0, ap (λ cs. listened address ∷ cs) is.1)
+readies (Err Memory) address count made more is = (is.0, ap (λ cs. listened address ∷ cs) is.1)
+
+-- ---- What is made ready
+
+module _ {P X : Type 0} (panel : P → PanelView) (links : X → Option (List LinkView)) (origin : X → DoorOrigin) (calls : X → List DoorCall) where
+  abbrev view : X → DoorView
+  view x = record { links = links x; origin = origin x; calls = calls x }
+
+  -- the shares as they are seen
+  pub doors_viewed : (door : X) (xs : List X) → All (IsShareOf origin calls door) xs → All (IsDoorShare (view door)) (map view xs)
+  doors_viewed door xs shares =
+      All-map (IsDoorShare (view door)) view xs (All-weaker (IsShareOf origin calls door) (λ x. IsDoorShare (view door) (view x)) (λ x is. record { origin = is.origin_is; unasked = is.unasked }) xs shares)
+
+  pub panels_viewed : (asked : PanelView) (ps : List P) → All (λ (share : P). IsFresh (panel share).said (panel share).asks (panel share).faults × ((panel share).reached ≡ asked.reached)) ps
+      → All (λ (share : P). IsPanelShare asked (panel share)) ps
+  panels_viewed asked ps shares =
+      All-weaker (λ (share : P). IsFresh (panel share).said (panel share).asks (panel share).faults × ((panel share).reached ≡ asked.reached)) (λ (share : P). IsPanelShare asked (panel share))
+      (λ share is. record { fresh = is.0; reached = is.1 }) ps shares
+
+  module _ (plan : Plan) (h : Head) (d d_now : X) (asked asked_now : PanelView) (xs : List X) (ps : List P) (reached : HasReached h asked asked_now) (panels : length ps ≡ plan.workers)
+      (panel_shares : All (λ (share : P). IsPanelShare asked_now (panel share)) ps) (more : List DoorCall) (called : HasCalled more (view d) (view d_now)) where
+    abbrev seen : List DoorCall → Type 0
+    seen cs = HasCalled cs (view d) (view d_now)
+
+    -- what was made once the door was to be shared
+    pub door_made : {A : Type 0} (r : Result A Unready) → ReadiesDoor r plan.address plan.workers (length xs) more → All (IsShareOf origin calls d_now) xs
+        → IsMade panel plan h (view d) (view d_now) asked asked_now (map view xs) ps r
+    door_made (Ok a) made shares = record {
+      reached = reached;
+      called = subst (λ n. seen (ready_calls plan.address n)) made.0 (subst seen made.1 called);
+      door_count = length-map xs view ∙ made.0;
+      door_shares = doors_viewed d_now xs shares;
+      panel_count = panels;
+      panel_shares = panel_shares;
+    }
+    door_made (Err Panel) made shares = absurd made
+    door_made (Err Door) (inl made) shares = record { reached = reached; failed = not_heard (length-map xs view ∙ made.0) (subst seen made.1 called) }
+    door_made (Err Door) (inr made) shares = record {
+      reached = reached;
+      failed = not_made (subst (λ n. n < plan.workers) (sym (length-map xs view)) made.0) (subst (λ n. seen (ready_calls plan.address n ++ not_shared ∷ [])) (sym (length-map xs view)) (subst seen made.1 called));
+    }
+    door_made (Err Memory) made shares = record {
+      reached = reached;
+      held = no_room (subst (λ n. n < plan.workers) (sym (length-map xs view)) made.0) (subst (λ n. seen (ready_calls plan.address n ++ no_room_to_share ∷ [])) (sym (length-map xs view)) (subst seen made.1 called));
+    }
 
 -- how a service ends that is not ready
-pub hosts_unready : {P : Type 0} (A : Type 0) (panel : P → PanelView) (plan : Plan) (h : Head) (opening : List Entry) (sink : SinkView) (door : DoorView) (asked : P) (hosted : HostedView P) (ds : List DoorView) (ps : List P) (e : Unready)
-    → IsMade {A = A} panel plan h door hosted.door (panel asked) (panel hosted.panel) ds ps (Err e) → hosted.status ≡ unready_status e → IsIdle sink hosted.served → Hosts panel plan h opening sink door asked hosted
-hosts_unready A panel plan h opening sink door asked hosted ds ps Panel made is idle = unreached is idle made.door_is made.said made.asks made.faults
-hosts_unready A panel plan h opening sink door asked hosted ds ps Door made is idle = unheard is idle made.reached made.failed
-hosts_unready A panel plan h opening sink door asked hosted ds ps Memory made is idle = unready is idle made.reached made.held
+pub hosts_unready : {P : Type 0} (A : Type 0) (panel : P → PanelView) (plan : Plan) (h : Head) (opening : List Entry) (sink : SinkView) (door : DoorView) (asked : P) (hosted : HostedView P) (ps : List P) (e : Unready)
+    → IsMade {A = A} panel plan h door hosted.door (panel asked) (panel hosted.panel) hosted.served.doors ps (Err e) → hosted.status ≡ unready_status e
+    → IsIdle panel sink hosted.door (panel hosted.panel) hosted.served → Hosts panel plan h opening sink door asked hosted
+hosts_unready A panel plan h opening sink door asked hosted ps Panel made is idle = unreached is idle made.door_is made.said made.asks made.faults
+hosts_unready A panel plan h opening sink door asked hosted ps Door made is idle = unheard is idle made.reached made.failed
+hosts_unready A panel plan h opening sink door asked hosted ps Memory made is idle = unready is idle made.reached made.held

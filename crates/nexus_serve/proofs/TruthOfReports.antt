@@ -1,5 +1,5 @@
 -- The reports of a service are true.
-use Rattle.std.proofs.Common.{◌≡◌, ◌+◌, ℕ, List, [], ◌∷◌, ◌++◌, length, Bool, Option, Some, None, refl, sym, ap, subst, ◌∙◌}
+use Rattle.std.proofs.Common.{◌≡◌, ◌+◌, ℕ, List, [], ◌∷◌, length, Bool, Option, Some, None, sym, ap, subst, ◌∙◌}
 use Rattle.std.proofs.lemmas.List.Elements.{All-append, All-cons, All-nil, All-tail, All-head}
 use Rattle.std.specs.Prelude.{All}
 use Rattle.policy_history.specs.declared.heads.Head.{Head}
@@ -69,8 +69,7 @@ serves_true {h = h} {opening = opening} {served = served} es (service.done es2 s
     let all = have_served h (length opening) 1 _ _ _ _ _ _ _ served.reports is_served.worked in
     subst (λ (xs : List Entry). AreTrue h (entry_trees xs) (length opening) served.reports) same (all_true h es2 (length opening) 1 served.reports all is_served.seen)
 serves_true {h = h} {opening = opening} es (service.unopened sink_now journal sink_is sends rose none doors_are panels_are written ends) is = none_true h (entry_trees es) (length opening) _ none
-serves_true {h = h} {opening = opening} es (service.no_memory_before journal sink_is none doors_are panels_are written ends) is = none_true h (entry_trees es) (length opening) _ none
-serves_true {h = h} es (service.no_memory journal written ends) is = absurd (subst (λ (j : Option History). IsJournal j h es) journal is)
+serves_true {h = h} {opening = opening} es (service.no_memory journal sink_is none doors_are panels_are written ends) is = none_true h (entry_trees es) (length opening) _ none
 
 -- a journal has one head
 same_head : (journal : Option History) (h h2 : Head) (es es2 : List Entry) → IsJournal journal h es → IsJournal journal h2 es2 → h2 ≡ h
@@ -85,8 +84,7 @@ handed_true {h = h} {opening = opening} {served = served} h2 es (service.done es
     subst (λ (x : Head). AreTrue x (entry_trees es) (length opening) served.reports) same
     (serves_true es (service.done es2 sink_now journal sink_is is_served text) (subst (λ (x : Head). IsJournal served.journal x es) (sym same) is))
 handed_true {opening = opening} h2 es (service.unopened sink_now journal sink_is sends rose none doors_are panels_are written ends) is = none_true h2 (entry_trees es) (length opening) _ none
-handed_true {opening = opening} h2 es (service.no_memory_before journal sink_is none doors_are panels_are written ends) is = none_true h2 (entry_trees es) (length opening) _ none
-handed_true h2 es (service.no_memory journal written ends) is = absurd (subst (λ (j : Option History). IsJournal j h2 es) journal is)
+handed_true {opening = opening} h2 es (service.no_memory journal sink_is none doors_are panels_are written ends) is = none_true h2 (entry_trees es) (length opening) _ none
 
 -- what a service at an address hands back
 pub hosts_true : {P : Type 0} {panel : P → PanelView} {plan : Plan} {h : Head} {opening : List Entry} {sink : SinkView} {door : DoorView} {asked : P} {hosted : HostedView P} (h2 : Head) (es : List Entry)

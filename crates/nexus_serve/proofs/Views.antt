@@ -1,9 +1,10 @@
 -- What a door tells, where its links are told by what they tell.
-use Rattle.std.proofs.Common.{◌≡◌, ℕ, Bool, List, Option, Some, None, refl, ap, ◌∙◌}
+use Rattle.std.proofs.Common.{◌≡◌, ◌∷◌, ◌++◌, [], ℕ, Bool, List, Option, Some, None, refl, ap, ◌∙◌}
 use Rattle.std.specs.Prelude.{map, option_map}
 use Rattle.nx_io.specs.declared.doors.Next.{Next}
 use Rattle.nx_io.specs.declared.doors.Next.TheVariants.{Link as NextLink, NoMore as NextNoMore, Failed as NextFailed}
-use Rattle.nx_io.specs.Doors.{Gives, HasNone, IfGiven, faults_after_next, first_of, gave_after, no_more_after}
+use Rattle.nx_io.specs.DoorCalls.{DoorCall, DoorOrigin, gave_in, next_call}
+use Rattle.nx_io.specs.Doors.{Gives, HasNone, IfGiven, first_of}
 use Rattle.nx_io.specs.Links.{IsFreshLink}
 use Rattle.nexus_serve.specs.Views.{DoorView, LinkView, door_view, link_view, next_view}
 use Rattle.nexus_serve.specs.Workers.{HasAnswered}
@@ -24,21 +25,20 @@ gives_viewed view NextNoMore old new gives = (ap (option_map (map view)) gives.0
 gives_viewed view NextFailed old new gives = ap (option_map (map view)) gives
 
 module _ {L D : Type 0} (left : L → Option (List ℕ)) (taken sent : L → List ℕ) (over closed : L → Bool) (place : L → ℕ) (toward : L → Option (List ℕ)) (faults : L → ℕ)
-    (links : D → Option (List L)) (is_over : D → Bool) (gave : D → ℕ) (listened : D → List (List ℕ)) (door_faults : D → ℕ) where
+    (links : D → Option (List L)) (origin : D → DoorOrigin) (calls : D → List DoorCall) where
   abbrev pub view : L → LinkView
   view = link_view left taken sent over closed place toward faults
 
   abbrev pub door : D → DoorView
-  door = door_view (link_view left taken sent over closed place toward faults) links is_over gave listened door_faults
+  door = door_view (link_view left taken sent over closed place toward faults) links origin calls
 
   -- what a door answered, by what it tells
   pub answered_viewed : (given : Next L) (d d_now : D) → IfGiven given (λ (link : L). IsFreshLink (taken link) (sent link) (over link) (closed link) (faults link))
-      → IfGiven given (λ (link : L). place link ≡ gave d_now) → IfGiven given (λ (link : L). toward link ≡ None) → Gives given (links d) (links d_now)
-      → is_over d_now ≡ no_more_after given (is_over d) → gave d_now ≡ gave_after given (gave d) → listened d_now ≡ listened d → door_faults d_now ≡ faults_after_next given (door_faults d)
-      → HasAnswered (next_view view given) (door d) (door d_now)
-  answered_viewed (NextLink link) d d_now fresh place toward gives over gave listened faults =
-      record { fresh = fresh; place = place; toward = toward; links = gives_viewed view (NextLink link) (links d) (links d_now) gives; over = over; gave = gave; listened = listened; faults = faults }
-  answered_viewed NextNoMore d d_now fresh place toward gives over gave listened faults =
-      record { fresh = fresh; place = place; toward = toward; links = gives_viewed view NextNoMore (links d) (links d_now) gives; over = over; gave = gave; listened = listened; faults = faults }
-  answered_viewed NextFailed d d_now fresh place toward gives over gave listened faults =
-      record { fresh = fresh; place = place; toward = toward; links = gives_viewed view NextFailed (links d) (links d_now) gives; over = over; gave = gave; listened = listened; faults = faults }
+      → IfGiven given (λ (link : L). place link ≡ gave_in (calls d_now)) → IfGiven given (λ (link : L). toward link ≡ None) → Gives given (links d) (links d_now)
+      → calls d_now ≡ calls d ++ next_call given ∷ [] → origin d_now ≡ origin d → HasAnswered (next_view view given) (door d) (door d_now)
+  answered_viewed (NextLink link) d d_now fresh place toward gives called same =
+      record { fresh = fresh; place = place; toward = toward; links = gives_viewed view (NextLink link) (links d) (links d_now) gives; calls = called; origin = same }
+  answered_viewed NextNoMore d d_now fresh place toward gives called same =
+      record { fresh = fresh; place = place; toward = toward; links = gives_viewed view NextNoMore (links d) (links d_now) gives; calls = called; origin = same }
+  answered_viewed NextFailed d d_now fresh place toward gives called same =
+      record { fresh = fresh; place = place; toward = toward; links = gives_viewed view NextFailed (links d) (links d_now) gives; calls = called; origin = same }

@@ -3,6 +3,8 @@ use Rattle.std.proofs.Common.{◌≡◌, ◌<◌, ◌≤◌, ◌+◌, ℕ, Bool,
 use Rattle.std.proofs.lemmas.List.Elements.{All-append, All-cons, All-tail, All-nil}
 use Rattle.std.specs.Prelude.{All}
 use Rattle.nx_io.specs.Streams.{Rose, one_more}
+use Rattle.nx_io.specs.DoorCalls.{faults_in, gave, not_given}
+use Rattle.nx_io.proofs.DoorCalls.{faults_more}
 use Rattle.nx_io.specs.declared.doors.Next.TheVariants.{Link as NextLink, NoMore as NextNoMore, Failed as NextFailed}
 use Rattle.policy_history.specs.declared.events.Entry.{Entry}
 use Rattle.policy_history.specs.declared.heads.Head.{Head}
@@ -13,9 +15,9 @@ use Rattle.nexus_serve.specs.Inner.Working.{AreNumbered, HasServedOne, IsDone, I
 
 -- a door that gives links does not fail
 works_faults : {h : Head} {low later first : ℕ} {door : DoorView} {panel : PanelView} {reports : List ReportView} {door_now : DoorView} {panel_now : PanelView}
-    → Works h low later first door panel reports door_now panel_now → door_now.faults ≡ door.faults
+    → Works h low later first door panel reports door_now panel_now → faults_in door_now.calls ≡ faults_in door.calls
 works_faults nobody = refl
-works_faults (next report link door_now panel_now works answered from numbered heard) = answered.faults ∙ works_faults works
+works_faults (next {door_then = door_then} report link door_now panel_now works answered from numbered heard) = ap faults_in answered.calls ∙ faults_more door_then.calls gave ∙ works_faults works
 
 module _ {P : Type 0} (panel : P → PanelView) (board : Identity Entry Head) (start : WorkerValue P) where
   -- a worker that has not begun
@@ -56,7 +58,7 @@ module _ {P : Type 0} (panel : P → PanelView) (board : Identity Entry Head) (s
           failed = one.failed ∙ w.failed;
         }
 
-    done_so : (door : DoorView) (is_told : Bool) → Stops is_told (length start.passes) (length before.reports) before.door door → (is_told ≡ true → Rose start.door.faults door.faults)
+    done_so : (door : DoorView) (is_told : Bool) → Stops is_told (length start.passes) (length before.reports) before.door door → (is_told ≡ true → Rose (faults_in start.door.calls) (faults_in door.calls))
         → IsDone panel board start (record before { door = door; has_failed = is_told })
     done_so door is_told stops fault = record {
       fault = fault;
@@ -80,7 +82,10 @@ module _ {P : Type 0} (panel : P → PanelView) (board : Identity Entry Head) (s
 
     -- the door has failed
     pub done_failed : (door : DoorView) → 0 < length before.passes → HasAnswered NextFailed before.door door → IsDone panel board start (record before { door = door; has_failed = true })
-    done_failed door some answered = done_so door true (failed (fewer some) answered refl) (λ _. subst (λ n. Rose n door.faults) (works_faults w.works) (subst (λ n. one_more before.door.faults ≤ n) (sym answered.faults) (omega arith)))
+    done_failed door some answered =
+        let risen = ap faults_in answered.calls ∙ faults_more before.door.calls not_given in
+        done_so door true (failed (fewer some) answered refl)
+        (λ _. subst (λ n. Rose n (faults_in door.calls)) (works_faults w.works) (subst (λ n. one_more (faults_in before.door.calls) ≤ n) (sym risen) (omega arith)))
 
     -- all passes are used
     pub done_all : before.passes ≡ [] → IsDone panel board start before

@@ -1,7 +1,7 @@
 -- A service at an address: what was made ready for it, and how it ended.
-use Rattle.std.specs.Prelude.{◌≡◌, ◌⊎◌, ℕ, List, [], ◌∷◌, ◌++◌, length, All, Bool, true, false, Some, None}
+use Rattle.std.specs.Prelude.{◌≡◌, ◌<◌, ℕ, List, [], ◌∷◌, ◌++◌, length, replicate, All, Bool, true, false, Some, None}
 use Rattle.nx_io.specs.Streams.{Rose}
-use Rattle.nx_io.specs.Doors.{IsFreshDoor, KeepsLinks}
+use Rattle.nx_io.specs.DoorCalls.{DoorCall, listened, no_room_to_share, not_listened, not_shared, share_of, shared}
 use Rattle.authority_ask.specs.Panels.{IsFresh}
 use Rattle.policy_history.specs.declared.events.Entry.{Entry}
 use Rattle.policy_history.specs.declared.heads.Head.{Head}
@@ -24,10 +24,10 @@ pub record Plan : Type 0 where
   pub workers : ℕ
   pub sessions : ℕ
 
--- a door that listens where this one does, and has given no link and not failed
+-- A share of a door, and no share of a share: it listens where the door does, and was asked nothing yet
 pub record IsDoorShare (door share : DoorView) : Type 0 where
-  pub fresh : IsFreshDoor share.over share.gave share.faults
-  pub listened : share.listened ≡ door.listened
+  pub origin : share.origin ≡ share_of door.origin door.calls
+  pub unasked : share.calls ≡ []
 
 -- a panel of the same addresses, which was asked nothing and has not failed
 pub record IsPanelShare (panel share : PanelView) : Type 0 where
@@ -41,22 +41,23 @@ pub record HasReached (h : Head) (panel panel_now : PanelView) : Type 0 where
   pub asks : panel_now.asks ≡ panel.asks
   pub faults : panel_now.faults ≡ panel.faults
 
--- the door listens at this address too, and has given no link by that
-pub record Listens (address : List ℕ) (door door_now : DoorView) : Type 0 where
-  pub listened : door_now.listened ≡ door.listened ++ address ∷ []
-  pub links : KeepsLinks door.links door_now.links door.over door_now.over door.gave door_now.gave
-  pub faults : door_now.faults ≡ door.faults
+-- these calls were made of the door, and nothing else
+abbrev pub HasCalled : List DoorCall → DoorView → DoorView → Type 0
+HasCalled calls door door_now = door_now ≡ record door { calls = door.calls ++ calls }
 
--- the door has given no link and not failed, and may listen at this address too
-pub record IsHeld (address : List ℕ) (door door_now : DoorView) : Type 0 where
-  pub listened : (door_now.listened ≡ door.listened) ⊎ (door_now.listened ≡ door.listened ++ address ∷ [])
-  pub links : KeepsLinks door.links door_now.links door.over door_now.over door.gave door_now.gave
-  pub faults : door_now.faults ≡ door.faults
+-- the calls by which a door listens at an address and so many shares of it are made
+abbrev pub ready_calls : List ℕ → ℕ → List DoorCall
+ready_calls address shares = listened address ∷ replicate shares shared
 
--- the door failed as it was to listen or to be shared, and has given no link
-pub record HasFailed (door door_now : DoorView) : Type 0 where
-  pub links : KeepsLinks door.links door_now.links door.over door_now.over door.gave door_now.gave
-  pub faults : Rose door.faults door_now.faults
+-- so many shares were made, and then the door failed: it could not listen at the address, or not be shared once more
+pub data HasFailed (address : List ℕ) (workers shares : ℕ) (door door_now : DoorView) : Type 0 where
+  not_heard : shares ≡ 0 → HasCalled (not_listened address ∷ []) door door_now → HasFailed address workers shares door door_now
+  not_made : shares < workers → HasCalled (ready_calls address shares ++ not_shared ∷ []) door door_now → HasFailed address workers shares door door_now
+
+-- so many shares were made, and then there was no memory: nothing was asked of the door, or one share more
+pub data IsHeld (address : List ℕ) (workers shares : ℕ) (door door_now : DoorView) : Type 0 where
+  not_asked : shares ≡ 0 → door_now ≡ door → IsHeld address workers shares door door_now
+  no_room : shares < workers → HasCalled (ready_calls address shares ++ no_room_to_share ∷ []) door door_now → IsHeld address workers shares door door_now
 
 -- the status with which a service ends: 5 where its text was not written whole, then 7 where a door has failed, and else 0; but 6 where there was no memory
 abbrev pub status_of : Bool → ServeEnd → ℕ
@@ -66,16 +67,18 @@ status_of false Done = 5
 status_of true DoorFault = 7
 status_of true Done = 0
 
--- nobody was served, and nothing was written
-pub record IsIdle {P : Type 0} (sink : SinkView) (served : ServedView P) : Type 0 where
+-- Nobody was served, and nothing was written: the shares that were made are handed back, and nothing was asked of them
+pub record IsIdle {P : Type 0} (panel : P → PanelView) (sink : SinkView) (door_now : DoorView) (asked_now : PanelView) (served : ServedView P) : Type 0 where
   pub journal : served.journal ≡ None
   pub sink_is : served.sink ≡ Some sink
   pub reports : served.reports ≡ []
+  pub door_shares : All (IsDoorShare door_now) served.doors
+  pub panel_shares : All (λ (share : P). IsPanelShare asked_now (panel share)) served.panels
 
 -- Everything is ready for a service: the authorities were reached, the door listens, and each worker has a share of both
 pub record AreReady {P : Type 0} (panel : P → PanelView) (plan : Plan) (h : Head) (door door_now : DoorView) (asked asked_now : PanelView) (doors : List DoorView) (panels : List P) : Type 0 where
   pub reached : HasReached h asked asked_now
-  pub listens : Listens plan.address door door_now
+  pub called : HasCalled (ready_calls plan.address plan.workers) door door_now
   pub door_count : length doors ≡ plan.workers
   pub door_shares : All (IsDoorShare door_now) doors
   pub panel_count : length panels ≡ plan.workers
@@ -88,9 +91,9 @@ pub data Hosts {P : Type 0} (panel : P → PanelView) (plan : Plan) (h : Head) (
   served : (doors : List DoorView) (panels : List P) → AreReady panel plan h door hosted.door (panel asked) (panel hosted.panel) doors panels
       → Serves panel plan.sessions h opening sink doors panels hosted.served → hosted.status ≡ status_of hosted.served.written hosted.served.end
       → Hosts panel plan h opening sink door asked hosted
-  unreached : hosted.status ≡ 8 → IsIdle sink hosted.served → hosted.door ≡ door → (panel hosted.panel).said ≡ (panel asked).said → (panel hosted.panel).asks ≡ (panel asked).asks
+  unreached : hosted.status ≡ 8 → IsIdle panel sink hosted.door (panel hosted.panel) hosted.served → hosted.door ≡ door → (panel hosted.panel).said ≡ (panel asked).said → (panel hosted.panel).asks ≡ (panel asked).asks
       → Rose (panel asked).faults (panel hosted.panel).faults → Hosts panel plan h opening sink door asked hosted
-  unheard : hosted.status ≡ 7 → IsIdle sink hosted.served → HasReached h (panel asked) (panel hosted.panel) → HasFailed door hosted.door
+  unheard : hosted.status ≡ 7 → IsIdle panel sink hosted.door (panel hosted.panel) hosted.served → HasReached h (panel asked) (panel hosted.panel) → HasFailed plan.address plan.workers (length hosted.served.doors) door hosted.door
       → Hosts panel plan h opening sink door asked hosted
-  unready : hosted.status ≡ 6 → IsIdle sink hosted.served → HasReached h (panel asked) (panel hosted.panel) → IsHeld plan.address door hosted.door
+  unready : hosted.status ≡ 6 → IsIdle panel sink hosted.door (panel hosted.panel) hosted.served → HasReached h (panel asked) (panel hosted.panel) → IsHeld plan.address plan.workers (length hosted.served.doors) door hosted.door
       → Hosts panel plan h opening sink door asked hosted

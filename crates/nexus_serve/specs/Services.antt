@@ -90,8 +90,8 @@ pub data IsTextSent (h : Head) (es : List EntryTree) (written : Bool) (sink sink
   end_cut : written ≡ false → SendsPart (sink.sent ++ front h es) sink_now.sent (ended (codes "end")) → Rose sink.faults sink_now.faults → IsTextSent h es written sink sink_now
 
 -- `Serves panel sessions h opening sink doors panels served`: a service of so many sessions for each worker, over the journal with this head and these
--- entries, this sink, and these doors and panels, hands this back. It was served; or the front of the text could not be sent, so nobody was served; or there was no memory, before anything was
--- done or behind it.
+-- entries, this sink, and these doors and panels, hands this back. It was served; or the front of the text could not be sent, so nobody was served; or there was no memory, and then nobody was
+-- served, nothing was written, and all is handed back as it was handed in.
 pub data Serves {P : Type 0} (panel : P → PanelView) (sessions : ℕ) (h : Head) (opening : List Entry) (sink : SinkView) (doors : List DoorView) (panels : List P) (served : ServedView P) : Type 0 where
   done : (es : List Entry) (sink_now : SinkView) → IsJournal served.journal h es → served.sink ≡ Some sink_now
       → IsServed h opening es sessions doors served.doors (map panel panels) (map panel served.panels) served.reports served.end
@@ -99,6 +99,5 @@ pub data Serves {P : Type 0} (panel : P → PanelView) (sessions : ℕ) (h : Hea
   unopened : (sink_now : SinkView) → IsJournal served.journal h opening → served.sink ≡ Some sink_now
       → SendsPart sink.sent sink_now.sent (front h (entry_trees opening)) → Rose sink.faults sink_now.faults
       → served.reports ≡ [] → served.doors ≡ doors → served.panels ≡ panels → served.written ≡ false → served.end ≡ Done → Serves panel sessions h opening sink doors panels served
-  no_memory_before : IsJournal served.journal h opening → served.sink ≡ Some sink → served.reports ≡ [] → served.doors ≡ doors → served.panels ≡ panels
+  no_memory : IsJournal served.journal h opening → served.sink ≡ Some sink → served.reports ≡ [] → served.doors ≡ doors → served.panels ≡ panels
       → served.written ≡ false → served.end ≡ Memory → Serves panel sessions h opening sink doors panels served
-  no_memory : served.journal ≡ None → served.written ≡ false → served.end ≡ Memory → Serves panel sessions h opening sink doors panels served

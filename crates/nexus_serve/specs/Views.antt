@@ -1,5 +1,6 @@
 -- What doors, panels, links and reports tell, as plain values.
 use Rattle.std.specs.Prelude.{ℕ, List, Bool, Option, map, option_map}
+use Rattle.nx_io.specs.DoorCalls.{DoorCall, DoorOrigin}
 use Rattle.nx_io.specs.declared.doors.Next.{Next}
 use Rattle.nx_io.specs.declared.doors.Next.TheVariants.{Link as NextLink, NoMore as NextNoMore, Failed as NextFailed}
 use Rattle.policy_history.specs.declared.events.Entry.{Entry}
@@ -25,10 +26,8 @@ pub record LinkView : Type 0 where
 -- what a door tells
 pub record DoorView : Type 0 where
   pub links : Option (List LinkView)
-  pub over : Bool
-  pub gave : ℕ
-  pub listened : List (List ℕ)
-  pub faults : ℕ
+  pub origin : DoorOrigin
+  pub calls : List DoorCall
 
 -- what a panel tells
 pub record PanelView : Type 0 where
@@ -80,14 +79,12 @@ report_view view report = record {
   pass = report.pass;
 }
 
-module _ {L D : Type 0} (view : L → LinkView) (links : D → Option (List L)) (over : D → Bool) (gave : D → ℕ) (listened : D → List (List ℕ)) (faults : D → ℕ) where
+module _ {L D : Type 0} (view : L → LinkView) (links : D → Option (List L)) (origin : D → DoorOrigin) (calls : D → List DoorCall) where
   abbrev pub door_view : D → DoorView
   door_view door = record {
     links = option_map (map view) (links door);
-    over = over door;
-    gave = gave door;
-    listened = listened door;
-    faults = faults door;
+    origin = origin door;
+    calls = calls door;
   }
 
 module _ {P : Type 0} (said : P → List Told) (asks : P → ℕ) (reached : P → Option Places) (faults : P → ℕ) where

@@ -2,7 +2,8 @@
 use Rattle.std.specs.Prelude.{◌≡◌, ◌<◌, ◌+◌, ◌⊎◌, ℕ, List, [], ◌∷◌, ◌++◌, length, Bool, true, None}
 use Rattle.nx_io.specs.Streams.{Gave, Grows, MayRise, Rose, gained}
 use Rattle.nx_io.specs.Links.{IsFreshLink}
-use Rattle.nx_io.specs.Doors.{Gives, IfGiven, faults_after_next, gave_after, no_more_after}
+use Rattle.nx_io.specs.DoorCalls.{faults_in, gave_in, next_call}
+use Rattle.nx_io.specs.Doors.{Gives, IfGiven}
 use Rattle.nx_io.specs.declared.doors.Next.{Next}
 use Rattle.nx_io.specs.declared.doors.Next.TheVariants.{Link as NextLink, NoMore as NextNoMore, Failed as NextFailed}
 use Rattle.policy_history.specs.declared.heads.Head.{Head}
@@ -12,17 +13,15 @@ use Rattle.session_core.specs.Sessions.{faults_after_replies}
 use Rattle.session_core.specs.Served.{IsServedSo}
 use Rattle.nexus_serve.specs.Views.{DoorView, LinkView, PanelView, ReportView, reported}
 
--- What a door answered to `next`: a link that it gives is the first to come, is fresh, and has as its place the number of
--- links that were given with it
+-- What a door answered to `next`, which was its one call: a link that it gives is the first to come, is fresh, and has as its place the
+-- number of links that were given with it
 pub record HasAnswered (given : Next LinkView) (door door_now : DoorView) : Type 0 where
   pub fresh : IfGiven given (λ (link : LinkView). IsFreshLink link.taken link.sent link.over link.closed link.faults)
-  pub place : IfGiven given (λ (link : LinkView). link.place ≡ door_now.gave)
+  pub place : IfGiven given (λ (link : LinkView). link.place ≡ gave_in door_now.calls)
   pub toward : IfGiven given (λ (link : LinkView). link.toward ≡ None)
   pub links : Gives given door.links door_now.links
-  pub over : door_now.over ≡ no_more_after given door.over
-  pub gave : door_now.gave ≡ gave_after given door.gave
-  pub listened : door_now.listened ≡ door.listened
-  pub faults : door_now.faults ≡ faults_after_next given door.faults
+  pub calls : door_now.calls ≡ door.calls ++ next_call given ∷ []
+  pub origin : door_now.origin ≡ door.origin
 
 -- A link behind its session: it is the one that was given; what was taken of it was to come; it is closed; whether it is over, and how
 -- often it has failed, is by the end of the session
@@ -74,7 +73,7 @@ HaveWorked h low later is_told first most (door ∷ doors) (door_now ∷ doors_n
     × HaveWorked h low later is_told (first + most) most doors doors_now panels panels_now others
 HaveWorked h low later is_told first most _ _ _ _ reports = ⊥
 
--- some door has failed, by its count
+-- some door has failed, by the count of its calls that did
 abbrev pub SomeFailed : List DoorView → List DoorView → Type 0
-SomeFailed (door ∷ doors) (door_now ∷ doors_now) = Rose door.faults door_now.faults ⊎ SomeFailed doors doors_now
+SomeFailed (door ∷ doors) (door_now ∷ doors_now) = Rose (faults_in door.calls) (faults_in door_now.calls) ⊎ SomeFailed doors doors_now
 SomeFailed _ _ = ⊥

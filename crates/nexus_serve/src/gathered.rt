@@ -1,6 +1,8 @@
 //! What the workers leave: their doors and panels, and the reports of their sessions.
-ghost use Rattle.std.specs.Prelude.{◌≡◌, ◌≤◌, [], ◌++◌, map, IfOk, OnOk};
-ghost use Rattle.nexus_serve.specs.Inner.Gathering.{gathered_all, gathered_from, raw_joined, nothing, with_unused};
+ghost use Rattle.std.specs.Prelude.{◌≡◌, ◌<◌, ◌≤◌, ◌+◌, [], ◌++◌, length, map, IfOk};
+ghost use Rattle.std.specs.Vec.{vec_capacity};
+ghost use Rattle.std.specs.VecDeque.{deque_capacity};
+ghost use Rattle.nexus_serve.specs.Inner.Gathering.{gathered_all, gathered_from, raw_joined, nothing, wanted};
 
 use crate::worker::Worker;
 use authority_ask::Panel;
@@ -21,7 +23,8 @@ pub struct Rest<L> {
     end: SessionEnd,
 }
 
-/// What the workers leave, the reports without their passes. The memory for it is taken before they begin.
+/// What the workers leave, the reports without their passes. The memory for all of it is taken before they begin, so no want of
+/// memory can lose it.
 #[derive(Drop)]
 pub struct Gathered<D: Door, P: Panel> {
     pub doors: Vec<D>,
@@ -34,7 +37,9 @@ pub struct Gathered<D: Door, P: Panel> {
 }
 
 impl<D: Door, P: Panel> Model for Gathered<D, P> {
-    ghost use Rattle.std.specs.Prelude.{◌≡◌, [], map};
+    ghost use Rattle.std.specs.Prelude.{◌≡◌, ◌≤◌, ◌+◌, ◌-◌, [], map};
+    ghost use Rattle.std.specs.Vec.{vec_capacity, vec_len};
+    ghost use Rattle.std.specs.VecDeque.{deque_capacity, deque_len};
     ghost use Rattle.std.specs.Coded.{codes};
     ghost use Rattle.nal_term.specs.contracts.terms.Term as t;
     ghost use Rattle.nal_term.specs.contracts.formulas.Formula as f;
@@ -46,15 +51,21 @@ impl<D: Door, P: Panel> Model for Gathered<D, P> {
     ghost coded = { Prim.hlevel (codes, t.the_row.coded, f.the_row.coded) };
 
     ghost view = { λ g. record {
-      doors = map (door_view (link_view D.Link.left D.Link.taken D.Link.sent D.Link.over D.Link.closed D.Link.place D.Link.toward D.Link.faults) D.links D.over D.gave D.listened D.faults) g.doors.items;
+      doors = map (door_view (link_view D.Link.left D.Link.taken D.Link.sent D.Link.over D.Link.closed D.Link.place D.Link.toward D.Link.faults) D.links D.origin D.calls) g.doors.items;
       panels = g.panels.items;
       rests = map (rest_view (link_view D.Link.left D.Link.taken D.Link.sent D.Link.over D.Link.closed D.Link.place D.Link.toward D.Link.faults)) g.rests.items;
       passes = g.passes.items;
       unused = g.unused.items;
       has_failed = g.has_failed;
+      places = vec_capacity g.doors - vec_len g.doors;
+      spare = vec_capacity g.passes - (vec_len g.passes + vec_len g.unused);
     } };
 
-    ghost invariant = { λ g. g.reports.items ≡ [] };
+    ghost invariant = { λ g. (g.reports.items ≡ [])
+        × (vec_len g.panels ≡ vec_len g.doors) × (vec_capacity g.doors ≤ vec_capacity g.panels)
+        × (vec_len g.passes + vec_len g.unused ≤ vec_capacity g.passes) × (vec_capacity g.passes ≤ vec_capacity g.unused)
+        × (deque_len g.rests ≡ vec_len g.passes) × (vec_capacity g.passes ≤ deque_capacity g.rests)
+        × (vec_capacity g.passes ≤ vec_capacity g.reports) };
 }
 
 impl<D: Door + Drop, P: Panel + Drop> Gathered<D, P>
@@ -67,7 +78,7 @@ where
         workers: usize,
         sessions: usize,
     ) -> Result<Gathered<D, P>, AllocError>
-        ensures { IfOk result (λ g. g ≡ nothing) }
+        ensures { IfOk result (λ g. g ≡ nothing workers sessions) }
     {
         Ok(Gathered {
             doors: Vec::with_capacity(alloc, workers)?,
@@ -80,22 +91,25 @@ where
         })
     }
 
-    /// What all these workers leave, in their order. The passes that were not used stand behind the others.
-    pub fn gather(self, workers: Vec<Worker<D, P>>) -> Result<Gathered<D, P>, AllocError>
-        ensures { IfOk result (λ g. g ≡ with_unused (gathered_all self workers.items)) }
+    /// What all these workers leave, in their order. It takes no memory.
+    pub fn gather(self, workers: Vec<Worker<D, P>>) -> Gathered<D, P>
+        requires places { length workers.items ≤ self.places }
+        requires room { wanted workers.items ≤ self.spare }
+        ensures { result ≡ gathered_all self workers.items }
     {
         let mut gathered = self;
         let mut left = VecDeque::from(workers);
         while let Some(worker) = left.pop_front() {
-            gathered.take_in(worker)?;
+            gathered.take_in(worker);
         }
-        gathered.passes.append(&mut gathered.unused)?;
-        Ok(gathered)
+        gathered
     }
 
     /// Takes in what a worker leaves.
-    fn take_in(&mut self, worker: Worker<D, P>) -> Result<(), AllocError>
-        ensures { OnOk result (self.new ≡ gathered_from self.old worker) }
+    fn take_in(&mut self, worker: Worker<D, P>)
+        requires place { 1 ≤ self.old.places }
+        requires room { length worker.reports + length worker.passes ≤ self.old.spare }
+        ensures { self.new ≡ gathered_from self.old worker }
     {
         let Worker {
             door,
@@ -105,24 +119,37 @@ where
             has_failed,
             ..
         } = worker;
-        self.doors.push(door)?;
-        self.panels.push(panel)?;
-        take_apart(reports, &mut self.rests, &mut self.passes)?;
-        let mut passes = Vec::from(passes);
-        self.unused.append(&mut passes)?;
+        self.doors.push_reserved(door);
+        self.panels.push_reserved(panel);
+        take_apart(reports, &mut self.rests, &mut self.passes);
+        add_all(&mut self.unused, Vec::from(passes));
         self.has_failed = self.has_failed || has_failed;
-        Ok(())
     }
 }
 
-/// Takes the reports apart: what they are without their passes, and their passes.
+/// Adds passes to a list that has room for them.
+pub fn add_all(passes: &mut Vec<Pass<NalMatter>>, more: Vec<Pass<NalMatter>>)
+    requires room { length passes.old.items + length more.items ≤ vec_capacity passes.old }
+    ensures items { passes.new.items ≡ passes.old.items ++ more.items }
+    ensures capacity { vec_capacity passes.old ≤ vec_capacity passes.new }
+{
+    let mut more = more;
+    let added = passes.append(&mut more);
+    prove!(added.is_ok());
+}
+
+/// Takes the reports apart: what they are without their passes, and their passes. There is room for both.
 fn take_apart<L: Link + Drop>(
     reports: Vec<Report<L>>,
     rests: &mut VecDeque<Rest<L>>,
     passes: &mut Vec<Pass<NalMatter>>,
-) -> Result<(), AllocError>
-    ensures rests { OnOk result (rests.new.items ≡ rests.old.items ++ map (λ r. record { session = r.session; principal = r.principal; link = r.link; end = r.end }) reports.items) }
-    ensures passes { OnOk result (passes.new.items ≡ passes.old.items ++ map (λ r. r.pass) reports.items) }
+)
+    requires rests { length rests.old.items + length reports.items ≤ deque_capacity rests.old }
+    requires passes { length passes.old.items + length reports.items ≤ vec_capacity passes.old }
+    ensures rests { rests.new.items ≡ rests.old.items ++ map (λ r. record { session = r.session; principal = r.principal; link = r.link; end = r.end }) reports.items }
+    ensures passes { passes.new.items ≡ passes.old.items ++ map (λ r. r.pass) reports.items }
+    ensures rest_room { deque_capacity rests.new ≡ deque_capacity rests.old }
+    ensures pass_room { vec_capacity passes.new ≡ vec_capacity passes.old }
 {
     let mut left = VecDeque::from(reports);
     while let Some(report) = left.pop_front() {
@@ -133,31 +160,31 @@ fn take_apart<L: Link + Drop>(
             pass,
             end,
         } = report;
-        rests.push_back(Rest {
+        rests.push_back_reserved(Rest {
             session,
             principal,
             link,
             end,
-        })?;
-        passes.push(pass)?;
+        });
+        passes.push_reserved(pass);
     }
-    Ok(())
 }
 
-/// The reports, each with its pass, behind those that are there.
+/// The reports, each with its pass, behind those that are there. There is room for them.
 pub fn with_passes<L: Link + Drop>(
     rests: VecDeque<Rest<L>>,
     passes: Vec<Pass<NalMatter>>,
     reports: Vec<Report<L>>,
-) -> Result<Vec<Report<L>>, AllocError>
-    ensures { IfOk result (λ v. v.items ≡ reports.items ++ raw_joined rests.items passes.items) }
+) -> Vec<Report<L>>
+    requires room { length reports.items + length rests.items ≤ vec_capacity reports }
+    ensures { result.items ≡ reports.items ++ raw_joined rests.items passes.items }
 {
     let mut reports = reports;
     let mut rests = rests;
     let mut passes = VecDeque::from(passes);
     while let Some(rest) = rests.pop_front() {
         let Some(pass) = passes.pop_front() else {
-            return Ok(reports);
+            return reports;
         };
         let Rest {
             session,
@@ -165,13 +192,13 @@ pub fn with_passes<L: Link + Drop>(
             link,
             end,
         } = rest;
-        reports.push(Report {
+        reports.push_reserved(Report {
             session,
             principal,
             link,
             pass,
             end,
-        })?;
+        });
     }
-    Ok(reports)
+    reports
 }

@@ -1,18 +1,48 @@
-//! Workers are hired: each gets a door, a panel, and the passes of its sessions.
-ghost use Rattle.std.specs.Prelude.{◌≡◌, ◌≢◌, ◌<◌, ◌≤◌, ◌+◌, ◌*◌, ◌-◌, ◌^◌, [], length, map, All, IfOk, OnOk, true};
+//! How workers are hired: desks with the passes of their sessions and the memory for their reports are laid, which may want memory,
+//! before doors and panels are put to them, which wants none.
+ghost use Rattle.std.specs.Prelude.{◌≡◌, ◌≢◌, ◌<◌, ◌≤◌, ◌+◌, ◌*◌, ◌-◌, ◌^◌, [], length, map, All, IfOk, OnOk};
+ghost use Rattle.std.specs.Vec.{vec_capacity};
 ghost use Rattle.verdict_words.specs.Values.{PassValue};
 ghost use Rattle.policy_book.specs.Books.{BookValue};
 ghost use Rattle.nexus_serve.specs.Views.{door_view, link_view};
-ghost use Rattle.nexus_serve.specs.Inner.Serving.{AreHired, doors_of, panels_of};
-ghost use Rattle.nexus_serve.specs.Inner.Working.{AreNumbered, IsHired, IsUnused};
+ghost use Rattle.nexus_serve.specs.Inner.Desks.{AreLaid, IsLaid, seated, seated_at};
+ghost use Rattle.nexus_serve.specs.Inner.Working.{AreNumbered, IsUnused};
 
 use crate::worker::Worker;
 use authority_ask::Panel;
 use nx_io::{Door, Sink};
 use policy_book::{Book, NalMatter};
+use session_core::Report;
 use std::alloc::{AllocError, Global};
 use std::collections::VecDeque;
+use std::marker::Model;
 use verdict_words::{Board, Pass};
+
+/// What a worker gets before it has a door: the number of its first session, the passes of its sessions, and memory for their
+/// reports.
+#[derive(Drop)]
+pub struct Desk<L> {
+    first: u64,
+    passes: VecDeque<Pass<NalMatter>>,
+    reports: Vec<Report<L>>,
+}
+
+impl<L> Model for Desk<L> {
+    ghost use Rattle.std.specs.Prelude.{◌≡◌, ◌-◌, []};
+    ghost use Rattle.std.specs.Vec.{vec_capacity, vec_len};
+    ghost use Rattle.std.specs.Coded.{codes};
+    ghost use Rattle.nal_term.specs.contracts.terms.Term as t;
+    ghost use Rattle.nal_term.specs.contracts.formulas.Formula as f;
+    ghost use Rattle.nexus_serve.specs.Inner.Desks.{DeskValue};
+
+    ghost Value = { DeskValue };
+
+    ghost coded = { Prim.hlevel (codes, t.the_row.coded, f.the_row.coded) };
+
+    ghost view = { λ d. record { first = d.first; passes = d.passes.items; spare = vec_capacity d.reports - vec_len d.reports } };
+
+    ghost invariant = { λ d. d.reports.items ≡ [] };
+}
 
 /// The next passes of a book.
 fn enter_all<K: Sink>(
@@ -21,7 +51,6 @@ fn enter_all<K: Sink>(
     book: &mut Book<K>,
     sessions: u64,
 ) -> Result<VecDeque<Pass<NalMatter>>, AllocError>
-    requires opened { book.old.is_open ≡ true }
     requires board { book.old.board ≡ board.now }
     requires room { book.old.next + sessions ≤ 2 ^ 64 - 1 }
     requires few { sessions ≤ 65536 }
@@ -36,74 +65,103 @@ fn enter_all<K: Sink>(
     Ok(passes)
 }
 
-/// Hires one worker.
-fn hire_one<D: Door + Drop, P: Panel + Drop, K: Sink>(
+/// Lays one desk.
+fn lay_desk<L: Drop, K: Sink>(
     alloc: Global,
     board: &Board<NalMatter>,
     book: &mut Book<K>,
-    door: D,
-    panel: P,
     first: u64,
     sessions: u64,
-) -> Result<Worker<D, P>, AllocError>
-where
-    D::Link: Drop,
+) -> Result<Desk<L>, AllocError>
     requires first { book.old.next ≡ first }
-    requires opened { book.old.is_open ≡ true }
     requires board { book.old.board ≡ board.now }
     requires room { book.old.next + sessions ≤ 2 ^ 64 - 1 }
     requires few { sessions ≤ 65536 }
-    ensures hired { IfOk result (λ worker. IsHired board.now first sessions worker) }
-    ensures door { IfOk result (λ worker. worker.door ≡ door_view (link_view D.Link.left D.Link.taken D.Link.sent D.Link.over D.Link.closed D.Link.place D.Link.toward D.Link.faults) D.links D.over D.gave D.listened D.faults door) }
-    ensures panel { IfOk result (λ worker. worker.panel ≡ panel) }
+    ensures laid { IfOk result (λ desk. IsLaid board.now first sessions desk) }
     ensures book { OnOk result (book.new ≡ record book.old { next = book.old.next + sessions }) }
     ensures kept { book.new ≡ record book.old { next = book.new.next } }
 {
     let passes = enter_all(alloc, board, book, sessions)?;
-    Ok(Worker {
+    Ok(Desk {
+        first,
+        passes,
+        reports: Vec::with_capacity(alloc, sessions as usize)?,
+    })
+}
+
+/// Lays so many desks. Their sessions are the next ones of the book, which need not be open.
+pub fn lay_desks<L: Drop, K: Sink>(
+    alloc: Global,
+    board: &Board<NalMatter>,
+    book: &mut Book<K>,
+    workers: usize,
+    first: u64,
+    sessions: u64,
+) -> Result<Vec<Desk<L>>, AllocError>
+    requires first { book.old.next ≡ first }
+    requires board { book.old.board ≡ board.now }
+    requires room { book.old.next + workers * sessions ≤ 2 ^ 64 - 1 }
+    requires few { sessions ≤ 65536 }
+    ensures laid { IfOk result (λ desks. AreLaid board.now first sessions desks.items) }
+    ensures count { IfOk result (λ desks. length desks.items ≡ workers) }
+    ensures book { OnOk result (book.new ≡ record book.old { next = book.old.next + workers * sessions }) }
+    ensures kept { book.new ≡ record book.old { next = book.new.next } }
+{
+    let mut desks = Vec::with_capacity(alloc, workers)?;
+    let mut first = first;
+    for _ in 0..workers {
+        desks.push(lay_desk(alloc, board, book, first, sessions)?)?;
+        first += sessions;
+    }
+    Ok(desks)
+}
+
+/// A worker at this desk. It takes no memory.
+fn seat_one<D: Door, P: Panel>(desk: Desk<D::Link>, door: D, panel: P) -> Worker<D, P>
+    ensures { result ≡ seated_at desk (door_view (link_view D.Link.left D.Link.taken D.Link.sent D.Link.over D.Link.closed D.Link.place D.Link.toward D.Link.faults) D.links D.origin D.calls door) panel }
+{
+    let Desk {
+        first,
+        passes,
+        reports,
+    } = desk;
+    Worker {
         first,
         door,
         panel,
         passes,
-        reports: Vec::with_capacity(alloc, sessions as usize)?,
+        reports,
         has_failed: false,
-    })
+    }
 }
 
-/// Hires a worker for each door and panel. Their sessions are the next ones of the book.
-pub fn hire<D: Door + Drop, P: Panel + Drop, K: Sink>(
-    alloc: Global,
-    board: &Board<NalMatter>,
-    book: &mut Book<K>,
+/// A worker for each desk, with the door and the panel of its place, in a list that has room for all. It takes no memory.
+pub fn seat<D: Door + Drop, P: Panel + Drop>(
+    desks: Vec<Desk<D::Link>>,
     doors: Vec<D>,
     panels: Vec<P>,
-    first: u64,
-    sessions: u64,
-) -> Result<Vec<Worker<D, P>>, AllocError>
+    workers: Vec<Worker<D, P>>,
+) -> Vec<Worker<D, P>>
 where
     D::Link: Drop,
-    requires first { book.old.next ≡ first }
-    requires opened { book.old.is_open ≡ true }
-    requires board { book.old.board ≡ board.now }
-    requires pairs { length panels.items ≡ length doors.items }
-    requires room { book.old.next + length doors.items * sessions ≤ 2 ^ 64 - 1 }
-    requires few { sessions ≤ 65536 }
-    ensures hired { IfOk result (λ workers. AreHired board.now first sessions workers.items) }
-    ensures doors { IfOk result (λ workers. doors_of workers.items ≡ map (door_view (link_view D.Link.left D.Link.taken D.Link.sent D.Link.over D.Link.closed D.Link.place D.Link.toward D.Link.faults) D.links D.over D.gave D.listened D.faults) doors.items) }
-    ensures panels { IfOk result (λ workers. panels_of workers.items ≡ panels.items) }
-    ensures book { OnOk result (book.new ≡ record book.old { next = book.old.next + length doors.items * sessions }) }
-    ensures kept { book.new ≡ record book.old { next = book.new.next } }
+    requires doors { length doors.items ≡ length desks.items }
+    requires panels { length panels.items ≡ length desks.items }
+    requires none { workers.items ≡ [] }
+    requires room { length desks.items ≤ vec_capacity workers }
+    ensures { result.items ≡ seated desks.items (map (door_view (link_view D.Link.left D.Link.taken D.Link.sent D.Link.over D.Link.closed D.Link.place D.Link.toward D.Link.faults) D.links D.origin D.calls) doors.items) panels.items }
 {
-    let mut workers = Vec::with_capacity(alloc, doors.len())?;
+    let mut workers = workers;
+    let mut desks = VecDeque::from(desks);
     let mut doors = VecDeque::from(doors);
     let mut panels = VecDeque::from(panels);
-    let mut first = first;
-    while let Some(door) = doors.pop_front() {
+    while let Some(desk) = desks.pop_front() {
+        let Some(door) = doors.pop_front() else {
+            unreachable!()
+        };
         let Some(panel) = panels.pop_front() else {
             unreachable!()
         };
-        workers.push(hire_one(alloc, board, book, door, panel, first, sessions)?)?;
-        first += sessions;
+        workers.push_reserved(seat_one(desk, door, panel));
     }
-    Ok(workers)
+    workers
 }

@@ -1,7 +1,8 @@
 //! A service at an address.
-ghost use Rattle.std.specs.Prelude.{◌≡◌, ◌≤◌, ◌+◌, ◌*◌, ◌-◌, ◌^◌, None, Some};
+ghost use Rattle.std.specs.Prelude.{◌≡◌, ◌≤◌, ◌+◌, ◌*◌, ◌-◌, ◌^◌, None, Some, map};
 ghost use Rattle.policy_history.specs.Values.{entry_trees, greatest_of};
-ghost use Rattle.nexus_serve.specs.Hosting.{Hosts, IsIdle, status_of};
+ghost use Rattle.nexus_serve.specs.Hosting.{Hosts, status_of};
+ghost use Rattle.nexus_serve.specs.Inner.Reporting.{IsHandedBack};
 ghost use Rattle.nexus_serve.specs.Inner.Sharing.{unready_status};
 ghost use Rattle.nexus_serve.specs.Views.{door_view, link_view, panel_view};
 
@@ -26,7 +27,8 @@ pub struct Hosted<D: Door, P: Panel, K: Sink> {
     pub door: D,
     /// The panel that was handed in, of which the workers had shares.
     pub panel: P,
-    /// What the service left. Where it was not begun: no journal, the sink, no reports, and the shares that were made.
+    /// What the service left. Where it was not begun: no journal, the sink, no reports, and the shares that were made, of which nothing
+    /// was asked.
     pub served: Served<D, P, K>,
 }
 
@@ -43,7 +45,7 @@ impl<D: Door, P: Panel, K: Sink> Model for Hosted<D, P, K> {
 
     ghost view = { λ h. record {
       status = h.status;
-      door = door_view (link_view D.Link.left D.Link.taken D.Link.sent D.Link.over D.Link.closed D.Link.place D.Link.toward D.Link.faults) D.links D.over D.gave D.listened D.faults h.door;
+      door = door_view (link_view D.Link.left D.Link.taken D.Link.sent D.Link.over D.Link.closed D.Link.place D.Link.toward D.Link.faults) D.links D.origin D.calls h.door;
       panel = h.panel;
       served = h.served;
     } };
@@ -77,7 +79,7 @@ where
     requires workers { (1 ≤ workers) × (workers ≤ 64) }
     requires sessions { (1 ≤ sessions) × (sessions ≤ 65536) }
     requires numbers { greatest_of (entry_trees journal.entries) + workers * sessions ≤ 2 ^ 64 - 2 }
-    ensures hosted { Hosts (panel_view P.said P.asks P.reached P.faults) (record { address = address.now; workers = workers; sessions = sessions }) journal.head journal.entries (record { sent = K.sent sink; faults = K.faults sink }) (door_view (link_view D.Link.left D.Link.taken D.Link.sent D.Link.over D.Link.closed D.Link.place D.Link.toward D.Link.faults) D.links D.over D.gave D.listened D.faults door) panel result }
+    ensures hosted { Hosts (panel_view P.said P.asks P.reached P.faults) (record { address = address.now; workers = workers; sessions = sessions }) journal.head journal.entries (record { sent = K.sent sink; faults = K.faults sink }) (door_view (link_view D.Link.left D.Link.taken D.Link.sent D.Link.over D.Link.closed D.Link.place D.Link.toward D.Link.faults) D.links D.origin D.calls door) panel result }
 {
     let mut door = door;
     let mut panel = panel;
@@ -139,7 +141,7 @@ fn unready_status(unready: Unready) -> u8
     }
 }
 
-/// What a service leaves that was not begun.
+/// What a service leaves that was not begun: the shares that were made.
 fn idle<D: Door + Drop, P: Panel + Drop, K: Sink + Drop>(
     alloc: Global,
     sink: K,
@@ -148,7 +150,12 @@ fn idle<D: Door + Drop, P: Panel + Drop, K: Sink + Drop>(
 ) -> Served<D, P, K>
 where
     D::Link: Drop,
-    ensures { IsIdle (record { sent = K.sent sink; faults = K.faults sink }) result }
+    ensures journal { result.journal ≡ None }
+    ensures sink { result.sink ≡ Some (record { sent = K.sent sink; faults = K.faults sink }) }
+    ensures back { IsHandedBack
+        (map (door_view (link_view D.Link.left D.Link.taken D.Link.sent D.Link.over
+        D.Link.closed D.Link.place D.Link.toward D.Link.faults) D.links D.origin D.calls) doors.items)
+        panels.items result }
 {
     Served {
         journal: None,

@@ -1,5 +1,6 @@
 //! The service as a whole.
-ghost use Rattle.std.specs.Prelude.{◌≡◌, ◌<◌, ◌≤◌, ◌+◌, ◌*◌, ◌-◌, ◌^◌, ◌⊎◌, ℕ, List, length, take, map, All, IfOk, Some, true, false, slice_index_or};
+ghost use Rattle.std.specs.Prelude.{◌≡◌, ◌<◌, ◌≤◌, ◌+◌, ◌*◌, ◌-◌, ◌^◌, ℕ, List, [], length, take, map, All, IfOk, OnOk, Some, true, false, slice_index_or};
+ghost use Rattle.std.specs.Vec.{vec_capacity};
 ghost use Rattle.policy_history.specs.PolicyTexts.{policy_text};
 ghost use Rattle.policy_history.specs.Values.{entry_trees, greatest_of};
 ghost use Rattle.policy_book.specs.Books.{IsLegalBook, IsNamed, IsNumbered, head_of, new_book, trees_of};
@@ -7,13 +8,14 @@ ghost use Rattle.nexus_serve.specs.Views.{door_view, link_view, panel_view, repo
 ghost use Rattle.nexus_serve.specs.Services.{IsJournal, IsTextSent, Serves};
 ghost use Rattle.nexus_serve.specs.TrueReports.{AreTrue};
 ghost use Rattle.policy_history.specs.declared.events.Entry.{Entry};
-ghost use Rattle.nexus_serve.specs.Inner.Gathering.{nothing};
-ghost use Rattle.nexus_serve.specs.Inner.Reporting.{IsClosed, IsEnded, IsHandedBack, IsLost, IsReported};
+ghost use Rattle.nexus_serve.specs.Inner.Desks.{AreLaid};
+ghost use Rattle.nexus_serve.specs.Inner.Gathering.{IsRoomFor, nothing, with_unused};
+ghost use Rattle.nexus_serve.specs.Inner.Reporting.{IsClosed, IsEnded, IsHandedBack, IsReported};
 ghost use Rattle.nexus_serve.specs.Inner.Serving.{AreDone, AreHired, AreOfBoard, doors_of, panels_of};
 ghost use Rattle.nexus_serve.specs.Inner.Working.{IsDone, IsHired, WorkerValue};
 
-use crate::gathered::{Gathered, with_passes};
-use crate::hiring::hire;
+use crate::gathered::{Gathered, add_all, with_passes};
+use crate::hiring::{Desk, lay_desks, seat};
 use crate::worker::Worker;
 use authority_ask::Panel;
 use journal_text::print_policy;
@@ -36,7 +38,7 @@ pub enum ServeEnd {
     Done,
     /// A door has failed, which ended its worker alone.
     DoorFault,
-    /// There was no memory.
+    /// There was no memory to begin with: nobody was served, nothing was written, and all is handed back as it was handed in.
     Memory,
 }
 
@@ -70,22 +72,33 @@ impl<D: Door, P: Panel, K: Sink> Model for Served<D, P, K> {
       journal = s.journal;
       sink = option_map (λ k. record { sent = K.sent k; faults = K.faults k }) s.sink;
       reports = map (report_view (link_view D.Link.left D.Link.taken D.Link.sent D.Link.over D.Link.closed D.Link.place D.Link.toward D.Link.faults)) s.reports.items;
-      doors = map (door_view (link_view D.Link.left D.Link.taken D.Link.sent D.Link.over D.Link.closed D.Link.place D.Link.toward D.Link.faults) D.links D.over D.gave D.listened D.faults) s.doors.items;
+      doors = map (door_view (link_view D.Link.left D.Link.taken D.Link.sent D.Link.over D.Link.closed D.Link.place D.Link.toward D.Link.faults) D.links D.origin D.calls) s.doors.items;
       panels = s.panels.items;
       written = s.written;
       end = s.end;
     } };
 }
 
-/// Lets the workers work, each in a thread, over a book that is lent to all of them. The book is handed back when all have stopped.
+/// What a service wants of memory, taken before it begins: the policy text, a desk for each worker, a list with room for all
+/// workers, and room for what they leave.
+#[derive(Drop)]
+struct Prepared<D: Door, P: Panel> {
+    text: Bytes,
+    desks: Vec<Desk<D::Link>>,
+    workers: Vec<Worker<D, P>>,
+    room: Gathered<D, P>,
+}
+
+/// Lets the workers work, each in a thread, over a book that is lent to all of them. The book is handed back when all have
+/// stopped. It takes no memory.
 fn let_work<D, P, K, G, N, R>(
     rt: &R,
     alloc: Global,
     board: &Board<NalMatter>,
     book: Book<K>,
-    workers: Vec<Worker<D, P>>,
+    workers: &mut [Worker<D, P>],
     gate: &G,
-) -> Result<(Book<K>, Vec<Worker<D, P>>), AllocError>
+) -> Book<K>
 where
     D: Door + Send + Drop,
     D::Link: Link + Send + Drop,
@@ -96,38 +109,23 @@ where
     R: Net<Listener = TcpListener, Stream = TcpStream> + Clock + Wait + Threads + Sync,
     requires named { N.board ≡ Some board.now }
     requires book { (book.is_open ≡ true) × IsNamed N.board N.next N.start N.start_faults book }
-    requires hired { All (λ worker. IsHired board.now worker.first (length worker.passes) worker) workers.items }
-    ensures book { IfOk result (λ r. (r.0.is_open ≡ true) × IsNamed N.board N.next N.start N.start_faults r.0) }
-    ensures count { IfOk result (λ r. length r.1.items ≡ length workers.items) }
-    ensures done { IfOk result (λ r. (i : ℕ) (d e : WorkerValue P) → i < length workers.items → IsDone (panel_view P.said P.asks P.reached P.faults) board.now (slice_index_or workers.items i d) (slice_index_or r.1.items i e)) }
+    requires hired { All (λ worker. IsHired board.now worker.first (length worker.passes) worker) workers.old }
+    ensures book { (result.is_open ≡ true) × IsNamed N.board N.next N.start N.start_faults result }
+    ensures count { length workers.new ≡ length workers.old }
+    ensures done { (i : ℕ) (d : WorkerValue P) → i < length workers.old
+        → IsDone (panel_view P.said P.asks P.reached P.faults) board.now (slice_index_or workers.old i d) (slice_index_or workers.new i d) }
 {
     let shelf: Mutex<Shelf<K, N>> = Mutex::new(Shelf::new(book));
-    let done = thread::map_vec(
+    thread::for_each_mut(
         rt,
         workers,
-        &|worker: Worker<D, P>| -> Worker<D, P>
-            requires { (N.board ≡ Some board.now) × IsHired board.now worker.first (length worker.passes) worker }
-            ensures { IsDone (panel_view P.said P.asks P.reached P.faults) board.entry.now worker result }
+        64,
+        &|_: usize, worker: &mut Worker<D, P>|
+            requires { (N.board ≡ Some board.now) × IsHired board.now worker.old.first (length worker.old.passes) worker.old }
+            ensures { IsDone (panel_view P.said P.asks P.reached P.faults) board.entry.now worker.old worker.new }
         { worker.work(rt, alloc, board, &shelf, gate) },
-    )?;
-    Ok((shelf.into_inner().into_book(), done))
-}
-
-/// Nothing: there was no memory for what the workers had left.
-fn lost<D: Door + Drop, P: Panel + Drop, K: Sink + Drop>(alloc: Global) -> Served<D, P, K>
-where
-    D::Link: Drop,
-    ensures { IsLost result }
-{
-    Served {
-        journal: None,
-        sink: None,
-        reports: Vec::new(alloc),
-        doors: Vec::new(alloc),
-        panels: Vec::new(alloc),
-        written: false,
-        end: ServeEnd::Memory,
-    }
+    );
+    shelf.into_inner().into_book()
 }
 
 /// Writes the last line of the policy text, unless a write of it has failed. Whether the whole text was written.
@@ -168,7 +166,7 @@ fn close<D: Door + Drop, P: Panel + Drop, K: Sink + Drop>(
 where
     D::Link: Drop,
     requires opened { book.is_open ≡ true }
-    ensures closed { IsClosed book (record { sent = book.start; faults = book.start_faults }) (map (door_view (link_view D.Link.left D.Link.taken D.Link.sent D.Link.over D.Link.closed D.Link.place D.Link.toward D.Link.faults) D.links D.over D.gave D.listened D.faults) doors.items) panels.items (map (report_view (link_view D.Link.left D.Link.taken D.Link.sent D.Link.over D.Link.closed D.Link.place D.Link.toward D.Link.faults)) reports.items) has_failed result }
+    ensures closed { IsClosed book (record { sent = book.start; faults = book.start_faults }) (map (door_view (link_view D.Link.left D.Link.taken D.Link.sent D.Link.over D.Link.closed D.Link.place D.Link.toward D.Link.faults) D.links D.origin D.calls) doors.items) panels.items (map (report_view (link_view D.Link.left D.Link.taken D.Link.sent D.Link.over D.Link.closed D.Link.place D.Link.toward D.Link.faults)) reports.items) has_failed result }
 {
     let (journal, sink, written) = write_end(book);
     Served {
@@ -188,7 +186,6 @@ where
 
 /// Lets all passes be met once more, and hands back what was gathered.
 fn report<D: Door + Drop, P: Panel + Drop, K: Sink + Drop>(
-    alloc: Global,
     board: &Board<NalMatter>,
     book: Book<K>,
     gathered: Gathered<D, P>,
@@ -197,8 +194,8 @@ where
     D::Link: Drop,
     requires opened { book.is_open ≡ true }
     requires board { book.board ≡ board.now }
-    requires passes { All (λ pass. pass.board ≡ board.now) gathered.passes }
-    ensures reported { IsLost result ⊎ IsReported book (record { sent = book.start; faults = book.start_faults }) gathered result }
+    requires passes { All (λ pass. pass.board ≡ board.now) (with_unused gathered).passes }
+    ensures reported { IsReported book (record { sent = book.start; faults = book.start_faults }) (with_unused gathered) result }
 {
     let Gathered {
         doors,
@@ -209,23 +206,16 @@ where
         reports,
         has_failed,
     } = gathered;
-    drop(unused);
     let mut book = book;
+    let mut passes = passes;
+    add_all(&mut passes, unused);
     let passes = book.settle(board, passes);
-    match with_passes(rests, passes, reports) {
-        Ok(reports) => close(book, doors, panels, reports, has_failed),
-        Err(AllocError) => {
-            drop(book);
-            drop(doors);
-            drop(panels);
-            lost(alloc)
-        }
-    }
+    let reports = with_passes(rests, passes, reports);
+    close(book, doors, panels, reports, has_failed)
 }
 
 /// Gathers what the workers left, and hands it back.
 fn finish<D: Door + Drop, P: Panel + Drop, K: Sink + Drop>(
-    alloc: Global,
     board: &Board<NalMatter>,
     book: Book<K>,
     workers: Vec<Worker<D, P>>,
@@ -236,19 +226,13 @@ where
     requires opened { book.is_open ≡ true }
     requires board { book.board ≡ board.now }
     requires first { board.now.origin.first ≡ greatest_of (entry_trees board.now.origin.opening) + 1 }
-    requires room { room ≡ nothing }
+    requires room { IsRoomFor workers.items room }
     requires used { All (λ worker. AreOfBoard board.now worker) workers.items }
     ensures served { (most : ℕ) (hired : List (WorkerValue P)) → AreDone (panel_view P.said P.asks P.reached P.faults) board.now board.now.origin.first most hired workers.items → book.next ≡ board.now.origin.first + length workers.items * most
         → Serves (panel_view P.said P.asks P.reached P.faults) most board.now.origin.setting board.now.origin.opening (record { sent = book.start; faults = book.start_faults }) (doors_of hired) (panels_of hired) result }
 {
     what_was_told_stays_told();
-    match room.gather(workers) {
-        Ok(gathered) => report(alloc, board, book, gathered),
-        Err(AllocError) => {
-            drop(book);
-            lost(alloc)
-        }
-    }
+    report(board, book, room.gather(workers))
 }
 
 /// Lets hired workers work, and hands back what they leave.
@@ -272,59 +256,20 @@ where
     requires board { book.board ≡ board.now }
     requires first { board.now.origin.first ≡ greatest_of (entry_trees board.now.origin.opening) + 1 }
     requires hired { All (λ worker. IsHired board.now worker.first (length worker.passes) worker) workers.items }
-    requires room { room ≡ nothing }
+    requires room { IsRoomFor workers.items room }
     ensures served { (most : ℕ) → AreHired board.now board.now.origin.first most workers.items → book.next ≡ board.now.origin.first + length workers.items * most
         → Serves (panel_view P.said P.asks P.reached P.faults) most board.now.origin.setting board.now.origin.opening (record { sent = book.start; faults = book.start_faults }) (doors_of workers.items) (panels_of workers.items) result }
 {
-    match let_work::<D, P, K, G, Brand, R>(rt, alloc, board, book, workers, gate) {
-        Ok((book, workers)) => finish(alloc, board, book, workers, room),
-        Err(AllocError) => {
-            drop(room);
-            lost(alloc)
-        }
-    }
-}
-
-/// Hires the workers of an open book, and lets them work.
-fn serve_open<D, P, K, G, R>(
-    rt: &R,
-    alloc: Global,
-    board: &Board<NalMatter>,
-    book: Book<K>,
-    doors: Vec<D>,
-    panels: Vec<P>,
-    gate: &G,
-    first: u64,
-    sessions: u64,
-    room: Gathered<D, P>,
-) -> Served<D, P, K>
-where
-    D: Door + Send + Drop,
-    D::Link: Link + Send + Drop,
-    P: Panel + Send + Drop,
-    K: Sink + Send + Drop,
-    G: Gate + Sync,
-    R: Net<Listener = TcpListener, Stream = TcpStream> + Clock + Wait + Threads + Sync,
-    requires opened { book.is_open ≡ true }
-    requires board { book.board ≡ board.now }
-    requires first { (board.now.origin.first ≡ greatest_of (entry_trees board.now.origin.opening) + 1) × (first ≡ board.now.origin.first) × (book.next ≡ first) }
-    requires pairs { length panels.items ≡ length doors.items }
-    requires numbers { first + length doors.items * sessions ≤ 2 ^ 64 - 1 }
-    requires few { sessions ≤ 65536 }
-    requires room { room ≡ nothing }
-    ensures served { Serves (panel_view P.said P.asks P.reached P.faults) sessions board.now.origin.setting board.now.origin.opening (record { sent = book.start; faults = book.start_faults })
-        (map (door_view (link_view D.Link.left D.Link.taken D.Link.sent D.Link.over D.Link.closed D.Link.place D.Link.toward D.Link.faults) D.links D.over D.gave D.listened D.faults) doors.items)
-        panels.items result }
-{
-    let mut book = book;
-    match hire(alloc, board, &mut book, doors, panels, first, sessions) {
-        Ok(workers) => serve_hired(rt, alloc, board, book, workers, gate, room),
-        Err(AllocError) => {
-            drop(book);
-            drop(room);
-            lost(alloc)
-        }
-    }
+    let mut workers = workers;
+    let book = let_work::<D, P, K, G, Brand, R>(
+        rt,
+        alloc,
+        board,
+        book,
+        workers.as_mut_slice(),
+        gate,
+    );
+    finish(board, book, workers, room)
 }
 
 /// Hands everything back where the front of the policy text could not be sent.
@@ -338,7 +283,7 @@ where
     D::Link: Drop,
     ensures journal { IsJournal result.journal (head_of book) book.entries }
     ensures sink { result.sink ≡ Some (record { sent = K.sent book.sink; faults = K.faults book.sink }) }
-    ensures back { IsHandedBack (map (door_view (link_view D.Link.left D.Link.taken D.Link.sent D.Link.over D.Link.closed D.Link.place D.Link.toward D.Link.faults) D.links D.over D.gave D.listened D.faults) doors.items) panels.items result }
+    ensures back { IsHandedBack (map (door_view (link_view D.Link.left D.Link.taken D.Link.sent D.Link.over D.Link.closed D.Link.place D.Link.toward D.Link.faults) D.links D.origin D.calls) doors.items) panels.items result }
     ensures end { result.end ≡ ServeEnd.Done }
 {
     let (journal, sink) = book.into_parts();
@@ -365,7 +310,7 @@ where
     D::Link: Drop,
     ensures journal { IsJournal result.journal journal.head journal.entries }
     ensures sink { result.sink ≡ Some (record { sent = K.sent sink; faults = K.faults sink }) }
-    ensures back { IsHandedBack (map (door_view (link_view D.Link.left D.Link.taken D.Link.sent D.Link.over D.Link.closed D.Link.place D.Link.toward D.Link.faults) D.links D.over D.gave D.listened D.faults) doors.items) panels.items result }
+    ensures back { IsHandedBack (map (door_view (link_view D.Link.left D.Link.taken D.Link.sent D.Link.over D.Link.closed D.Link.place D.Link.toward D.Link.faults) D.links D.origin D.calls) doors.items) panels.items result }
     ensures end { result.end ≡ ServeEnd.Memory }
 {
     Served {
@@ -386,19 +331,17 @@ fn front_of(text: &[u8]) -> &[u8]
     &text[..text.len().saturating_sub(4)]
 }
 
-/// Opens the book and serves.
+/// Opens the book and serves. It takes no memory but what sessions want.
 fn serve_book<D, P, K, G, R>(
     rt: &R,
     alloc: Global,
     board: &Board<NalMatter>,
     book: Book<K>,
-    text: &[u8],
     doors: Vec<D>,
     panels: Vec<P>,
     gate: &G,
-    first: u64,
     sessions: u64,
-    room: Gathered<D, P>,
+    prepared: Prepared<D, P>,
 ) -> Served<D, P, K>
 where
     D: Door + Send + Drop,
@@ -407,22 +350,33 @@ where
     K: Sink + Send + Drop,
     G: Gate + Sync,
     R: Net<Listener = TcpListener, Stream = TcpStream> + Clock + Wait + Threads + Sync,
-    requires made { book ≡ new_book K.sent K.faults board.now book.sink }
-    requires first { (board.now.origin.first ≡ greatest_of (entry_trees board.now.origin.opening) + 1) × (first ≡ board.now.origin.first) }
-    requires text { text.now ≡ policy_text board.now.origin.setting (entry_trees board.now.origin.opening) }
+    requires made { book ≡ record (new_book K.sent K.faults board.now book.sink)
+        { next = board.now.origin.first + length doors.items * sessions } }
+    requires first { board.now.origin.first ≡ greatest_of (entry_trees board.now.origin.opening) + 1 }
     requires pairs { length panels.items ≡ length doors.items }
-    requires numbers { first + length doors.items * sessions ≤ 2 ^ 64 - 1 }
-    requires few { sessions ≤ 65536 }
-    requires room { room ≡ nothing }
+    requires text { prepared.text ≡ policy_text board.now.origin.setting (entry_trees board.now.origin.opening) }
+    requires desks { AreLaid board.now board.now.origin.first sessions prepared.desks.items
+        × (length prepared.desks.items ≡ length doors.items) }
+    requires workers { (prepared.workers.items ≡ []) × (length doors.items ≤ vec_capacity prepared.workers) }
+    requires room { prepared.room ≡ nothing (length doors.items) (length doors.items * sessions) }
     ensures served { Serves (panel_view P.said P.asks P.reached P.faults) sessions board.now.origin.setting board.now.origin.opening (record { sent = K.sent book.sink; faults = K.faults book.sink })
-        (map (door_view (link_view D.Link.left D.Link.taken D.Link.sent D.Link.over D.Link.closed D.Link.place D.Link.toward D.Link.faults) D.links D.over D.gave D.listened D.faults) doors.items) panels.items result }
+        (map (door_view (link_view D.Link.left D.Link.taken D.Link.sent D.Link.over D.Link.closed D.Link.place D.Link.toward D.Link.faults) D.links D.origin D.calls) doors.items) panels.items result }
 {
+    let Prepared {
+        text,
+        desks,
+        workers,
+        room,
+    } = prepared;
     let mut book = book;
-    match book.open(front_of(text)) {
-        Reach::Ready => serve_open(
-            rt, alloc, board, book, doors, panels, gate, first, sessions, room,
-        ),
+    match book.open(front_of(text.as_slice())) {
+        Reach::Ready => {
+            let workers = seat(desks, doors, panels, workers);
+            serve_hired(rt, alloc, board, book, workers, gate, room)
+        }
         Reach::Failed => {
+            drop(desks);
+            drop(workers);
             drop(room);
             unopened(alloc, book, doors, panels)
         }
@@ -436,6 +390,9 @@ where
 /// on. A worker stops early where its door has no more links or fails, which ends no other worker. When all have stopped, the
 /// journal, the sink, the doors, the panels, and the reports of all sessions are handed back. `docs/LOGIC.md`, "The service",
 /// says what was then promised to each session; `docs/ARCHITECTURE.md`, "Workers", how it is done.
+///
+/// All memory but what sessions want is taken before the first byte is sent. At want of it the end is `Memory`: nobody was served,
+/// nothing was written, and the journal, the sink, the doors and the panels are handed back as they were handed in.
 pub fn serve<D, P, K, G, R>(
     rt: &R,
     alloc: Global,
@@ -458,41 +415,61 @@ where
     requires sessions { (1 ≤ sessions) × (sessions ≤ 65536) }
     requires numbers { greatest_of (entry_trees journal.entries) + length doors.items * sessions ≤ 2 ^ 64 - 2 }
     ensures served { Serves (panel_view P.said P.asks P.reached P.faults) sessions journal.head journal.entries (record { sent = K.sent sink; faults = K.faults sink })
-        (map (door_view (link_view D.Link.left D.Link.taken D.Link.sent D.Link.over D.Link.closed D.Link.place D.Link.toward D.Link.faults) D.links D.over D.gave D.listened D.faults) doors.items) panels.items result }
+        (map (door_view (link_view D.Link.left D.Link.taken D.Link.sent D.Link.over D.Link.closed D.Link.place D.Link.toward D.Link.faults) D.links D.origin D.calls) doors.items) panels.items result }
     ensures earned { (es : List Entry) → IsJournal result.journal journal.head es → AreTrue journal.head (entry_trees es) (length journal.entries) result.reports }
 {
     let first = journal.greatest_session() + 1;
-    let Ok((text, room)) = prepare(alloc, &journal, doors.len(), sessions) else {
+    let Ok(text) = print_policy(alloc, &journal) else {
         return unserved(alloc, journal, sink, doors, panels);
     };
     match Book::make(alloc, journal, sink) {
         Ok((board, book)) => {
-            let text = text.as_slice();
-            serve_book(
-                rt, alloc, &board, book, text, doors, panels, gate, first, sessions, room,
-            )
+            let mut book = book;
+            match prepare(alloc, &board, &mut book, text, doors.len(), first, sessions) {
+                Ok(prepared) => serve_book(
+                    rt, alloc, &board, book, doors, panels, gate, sessions, prepared,
+                ),
+                Err(AllocError) => {
+                    let (journal, sink) = book.into_parts();
+                    unserved(alloc, journal, sink, doors, panels)
+                }
+            }
         }
         Err((journal, sink, AllocError)) => {
-            drop(room);
+            drop(text);
             unserved(alloc, journal, sink, doors, panels)
         }
     }
 }
 
-/// Takes the memory that a service wants before it begins: the policy text, and room for what its workers leave.
-fn prepare<D: Door + Drop, P: Panel + Drop>(
+/// Takes the memory that a service wants, beside that for the policy text, before the book is open: desks for so many workers,
+/// which have the next passes of the book, a list for the workers, and room for what they leave.
+fn prepare<D: Door + Drop, P: Panel + Drop, K: Sink>(
     alloc: Global,
-    journal: &Journal,
+    board: &Board<NalMatter>,
+    book: &mut Book<K>,
+    text: Bytes,
     workers: usize,
+    first: u64,
     sessions: u64,
-) -> Result<(Bytes, Gathered<D, P>), AllocError>
+) -> Result<Prepared<D, P>, AllocError>
 where
     D::Link: Drop,
+    requires first { book.old.next ≡ first }
+    requires board { book.old.board ≡ board.now }
+    requires numbers { first + workers * sessions ≤ 2 ^ 64 - 1 }
     requires few { (workers ≤ 64) × (sessions ≤ 65536) }
-    ensures text { IfOk result (λ r. r.0 ≡ policy_text journal.now.head (entry_trees journal.now.entries)) }
-    ensures room { IfOk result (λ r. r.1 ≡ nothing) }
+    ensures text { IfOk result (λ r. r.text ≡ text) }
+    ensures desks { IfOk result (λ r. AreLaid board.now first sessions r.desks.items × (length r.desks.items ≡ workers)) }
+    ensures workers { IfOk result (λ r. (r.workers.items ≡ []) × (workers ≤ vec_capacity r.workers)) }
+    ensures room { IfOk result (λ r. r.room ≡ nothing workers (workers * sessions)) }
+    ensures book { OnOk result (book.new ≡ record book.old { next = book.old.next + workers * sessions }) }
+    ensures kept { book.new ≡ record book.old { next = book.new.next } }
 {
-    let text = print_policy(alloc, journal)?;
-    let room = Gathered::with_room(alloc, workers, workers * sessions as usize)?;
-    Ok((text, room))
+    Ok(Prepared {
+        text,
+        desks: lay_desks(alloc, board, book, workers, first, sessions)?,
+        workers: Vec::with_capacity(alloc, workers)?,
+        room: Gathered::with_room(alloc, workers, workers * sessions as usize)?,
+    })
 }

@@ -1,8 +1,9 @@
 //! What is made ready for workers: the authorities are reached, an address is listened at, and doors and panels are shared.
-ghost use Rattle.std.specs.Prelude.{◌≡◌, ◌≢◌, ◌∷◌, ◌++◌, ℕ, [], length, map, All, IfErr, IfOk};
-ghost use Rattle.nx_io.specs.Doors.{IsFreshDoor, KeepsLinks};
+ghost use Rattle.std.specs.Prelude.{◌≡◌, ◌≢◌, ◌≤◌, ◌+◌, ◌++◌, List, ℕ, [], length, map, All, IfErr, IfOk};
+ghost use Rattle.std.specs.Vec.{vec_capacity, vec_len};
+ghost use Rattle.nx_io.specs.DoorCalls.{DoorCall};
 ghost use Rattle.authority_ask.specs.Panels.{IsFresh};
-ghost use Rattle.nexus_serve.specs.Inner.Sharing.{IsMade, door_faults_after, listens_after, panel_faults_after};
+ghost use Rattle.nexus_serve.specs.Inner.Sharing.{IsMade, IsShareOf, ReadiesDoor, SharesDoor, panel_faults_after};
 ghost use Rattle.nexus_serve.specs.Views.{door_view, link_view, panel_view};
 
 use authority_ask::Panel;
@@ -23,21 +24,42 @@ pub enum Unready {
     Memory,
 }
 
-/// Makes so many shares of a door.
+/// Makes room for the shares of a door and of a panel.
+fn make_room<D: Drop, P: Drop>(
+    doors: &mut Vec<D>,
+    panels: &mut Vec<P>,
+    count: u64,
+) -> Result<(), Unready>
+    requires few { count ≤ 64 }
+    ensures items { (doors.new.items ≡ doors.old.items) × (panels.new.items ≡ panels.old.items) }
+    ensures room { IfOk result (λ _. (vec_len doors.new + count ≤ vec_capacity doors.new)
+        × (vec_len panels.new + count ≤ vec_capacity panels.new)) }
+    ensures memory { IfErr result (λ e. e ≡ Unready.Memory) }
+{
+    match doors.try_reserve(count as usize) {
+        Ok(()) => match panels.try_reserve(count as usize) {
+            Ok(()) => Ok(()),
+            Err(_) => Err(Unready::Memory),
+        },
+        Err(_) => Err(Unready::Memory),
+    }
+}
+
+/// Makes so many shares of a door, for which the list has room.
 fn share_door<D: Door + Drop>(door: &mut D, count: u64, shares: &mut Vec<D>) -> Result<(), Unready>
 where
     D::Link: Drop,
     requires none { shares.old.items ≡ [] }
-    ensures count { IfOk result (λ _. length shares.new.items ≡ count) }
-    ensures shared { IfOk result (λ _. All (λ share. IsFreshDoor (D.over share) (D.gave share) (D.faults share) × (D.listened share ≡ D.listened door.new)) shares.new.items) }
-    ensures listened { D.listened door.new ≡ D.listened door.old }
-    ensures links { KeepsLinks (D.links door.old) (D.links door.new) (D.over door.old) (D.over door.new) (D.gave door.old) (D.gave door.new) }
-    ensures faults { D.faults door.new ≡ door_faults_after result (D.faults door.old) }
-    ensures other { IfErr result (λ e. e ≢ Unready.Panel) }
+    requires room { count ≤ vec_capacity shares.old }
+    ensures shared { All (IsShareOf D.origin D.calls door.old) shares.new.items }
+    ensures calls { (more : List DoorCall) × (D.calls door.new ≡ D.calls door.old ++ more)
+        × SharesDoor result count (length shares.new.items) more }
+    ensures links { D.links door.new ≡ D.links door.old }
+    ensures origin { D.origin door.new ≡ D.origin door.old }
 {
     for _ in 0..count {
         match door.share() {
-            Shared::Made(share) => push(shares, share)?,
+            Shared::Made(share) => shares.push_reserved(share),
             Shared::Failed => return Err(Unready::Door),
             Shared::NoMemory => return Err(Unready::Memory),
         }
@@ -45,15 +67,17 @@ where
     Ok(())
 }
 
-/// Makes so many shares of a panel.
+/// Makes so many shares of a panel, for which the list has room.
 fn share_panel<P: Panel + Drop>(
     panel: &mut P,
     count: u64,
     shares: &mut Vec<P>,
 ) -> Result<(), Unready>
     requires none { shares.old.items ≡ [] }
+    requires room { count ≤ vec_capacity shares.old }
     ensures count { IfOk result (λ _. length shares.new.items ≡ count) }
-    ensures shared { IfOk result (λ _. All (λ share. IsFresh (P.said share) (P.asks share) (P.faults share) × (P.reached share ≡ P.reached panel.new)) shares.new.items) }
+    ensures shared { All (λ share. IsFresh (P.said share) (P.asks share) (P.faults share)
+        × (P.reached share ≡ P.reached panel.new)) shares.new.items }
     ensures said { P.said panel.new ≡ P.said panel.old }
     ensures asks { P.asks panel.new ≡ P.asks panel.old }
     ensures reached { P.reached panel.new ≡ P.reached panel.old }
@@ -62,7 +86,7 @@ fn share_panel<P: Panel + Drop>(
 {
     for _ in 0..count {
         match panel.share() {
-            Shared::Made(share) => push(shares, share)?,
+            Shared::Made(share) => shares.push_reserved(share),
             Shared::Failed => return Err(Unready::Panel),
             Shared::NoMemory => return Err(Unready::Memory),
         }
@@ -70,18 +94,7 @@ fn share_panel<P: Panel + Drop>(
     Ok(())
 }
 
-/// One more in a list.
-fn push<T: Drop>(list: &mut Vec<T>, item: T) -> Result<(), Unready>
-    ensures pushed { IfOk result (λ _. list.new.items ≡ list.old.items ++ item ∷ []) }
-    ensures memory { IfErr result (λ e. e ≡ Unready.Memory) }
-{
-    match list.push(item) {
-        Ok(()) => Ok(()),
-        Err(_) => Err(Unready::Memory),
-    }
-}
-
-/// Listens at an address, and shares the door.
+/// Listens at an address, and shares the door. The list has room for the shares.
 fn listen_and_share<D: Door + Drop, R: Net<Listener = TcpListener, Stream = TcpStream> + Clock>(
     rt: &R,
     address: &[u8],
@@ -92,12 +105,12 @@ fn listen_and_share<D: Door + Drop, R: Net<Listener = TcpListener, Stream = TcpS
 where
     D::Link: Drop,
     requires none { shares.old.items ≡ [] }
-    ensures count { IfOk result (λ _. length shares.new.items ≡ count) }
-    ensures shared { IfOk result (λ _. All (λ share. IsFreshDoor (D.over share) (D.gave share) (D.faults share) × (D.listened share ≡ D.listened door.new)) shares.new.items) }
-    ensures listened { listens_after result address.now (D.listened door.old) (D.listened door.new) }
-    ensures links { KeepsLinks (D.links door.old) (D.links door.new) (D.over door.old) (D.over door.new) (D.gave door.old) (D.gave door.new) }
-    ensures faults { D.faults door.new ≡ door_faults_after result (D.faults door.old) }
-    ensures other { IfErr result (λ e. e ≢ Unready.Panel) }
+    requires room { count ≤ vec_capacity shares.old }
+    ensures shared { All (IsShareOf D.origin D.calls door.new) shares.new.items }
+    ensures calls { (more : List DoorCall) × (D.calls door.new ≡ D.calls door.old ++ more)
+        × ReadiesDoor result address.now count (length shares.new.items) more }
+    ensures links { D.links door.new ≡ D.links door.old }
+    ensures origin { D.origin door.new ≡ D.origin door.old }
 {
     match door.listen(rt, address) {
         Reach::Ready => share_door(door, count, shares),
@@ -105,7 +118,8 @@ where
     }
 }
 
-/// Reaches the authorities of a head, shares the panel, listens at an address, and shares the door, in this order.
+/// Reaches the authorities of a head, shares the panel, listens at an address, and shares the door, in this order. The shares that were
+/// made are in the lists, whatever comes.
 pub fn make_ready<
     D: Door + Drop,
     P: Panel + Drop,
@@ -123,10 +137,15 @@ pub fn make_ready<
 where
     D::Link: Drop,
     requires none { (doors.old.items ≡ []) × (panels.old.items ≡ []) }
-    ensures made { (sessions : ℕ) → IsMade (panel_view P.said P.asks P.reached P.faults) (record { address = address.now; workers = workers; sessions = sessions }) head.now (door_view (link_view D.Link.left D.Link.taken D.Link.sent D.Link.over D.Link.closed D.Link.place D.Link.toward D.Link.faults) D.links D.over D.gave D.listened D.faults door.old) (door_view (link_view D.Link.left D.Link.taken D.Link.sent D.Link.over D.Link.closed D.Link.place D.Link.toward D.Link.faults) D.links D.over D.gave D.listened D.faults door.new) (panel_view P.said P.asks P.reached P.faults panel.old) (panel_view P.said P.asks P.reached P.faults panel.new) (map (door_view (link_view D.Link.left D.Link.taken D.Link.sent D.Link.over D.Link.closed D.Link.place D.Link.toward D.Link.faults) D.links D.over D.gave D.listened D.faults) doors.new.items) panels.new.items result }
+    requires few { workers ≤ 64 }
+    ensures made { (sessions : ℕ) → IsMade (panel_view P.said P.asks P.reached P.faults) (record { address = address.now; workers = workers; sessions = sessions }) head.now (door_view (link_view D.Link.left D.Link.taken D.Link.sent D.Link.over D.Link.closed D.Link.place D.Link.toward D.Link.faults) D.links D.origin D.calls door.old) (door_view (link_view D.Link.left D.Link.taken D.Link.sent D.Link.over D.Link.closed D.Link.place D.Link.toward D.Link.faults) D.links D.origin D.calls door.new) (panel_view P.said P.asks P.reached P.faults panel.old) (panel_view P.said P.asks P.reached P.faults panel.new) (map (door_view (link_view D.Link.left D.Link.taken D.Link.sent D.Link.over D.Link.closed D.Link.place D.Link.toward D.Link.faults) D.links D.origin D.calls) doors.new.items) panels.new.items result }
+    ensures doors_shared { All (IsShareOf D.origin D.calls door.new) doors.new.items }
+    ensures panels_shared { All (λ share. IsFresh (P.said share) (P.asks share) (P.faults share)
+        × (P.reached share ≡ P.reached panel.new)) panels.new.items }
 {
     match reach_all(rt, head, panel) {
         Reach::Ready => {
+            make_room(doors, panels, workers)?;
             share_panel(panel, workers, panels)?;
             listen_and_share(rt, address, workers, door, doors)
         }

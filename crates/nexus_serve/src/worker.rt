@@ -1,5 +1,5 @@
 //! A worker: it serves the links of its door, one after another.
-ghost use Rattle.std.specs.Prelude.{◌≡◌, ◌<◌, ◌≤◌, ◌+◌, length, All, Some, true};
+ghost use Rattle.std.specs.Prelude.{◌≡◌, ◌<◌, ◌≤◌, ◌+◌, [], length, All, Some, true, false};
 ghost use Rattle.nx_io.specs.Links.{IsFreshLink};
 ghost use Rattle.nexus_serve.specs.Views.{link_view, panel_view};
 ghost use Rattle.nexus_serve.specs.Inner.Working.{HasServedOne, IsDone, IsHired, IsUnused, IsWorking, WorkerValue, WorksOn};
@@ -43,7 +43,7 @@ impl<D: Door, P: Panel> Model for Worker<D, P> {
 
     ghost view = { λ w. record {
       first = w.first;
-      door = door_view (link_view D.Link.left D.Link.taken D.Link.sent D.Link.over D.Link.closed D.Link.place D.Link.toward D.Link.faults) D.links D.over D.gave D.listened D.faults w.door;
+      door = door_view (link_view D.Link.left D.Link.taken D.Link.sent D.Link.over D.Link.closed D.Link.place D.Link.toward D.Link.faults) D.links D.origin D.calls w.door;
       panel = w.panel;
       passes = w.passes.items;
       reports = map (report_view (link_view D.Link.left D.Link.taken D.Link.sent D.Link.over D.Link.closed D.Link.place D.Link.toward D.Link.faults)) w.reports.items;
@@ -63,24 +63,30 @@ where
         G: Gate,
         R: Net<Listener = TcpListener, Stream = TcpStream> + Clock + Wait,
     >(
-        self,
+        &mut self,
         rt: &R,
         alloc: Global,
         board: &Board<NalMatter>,
         book: &Mutex<Shelf<K, N>>,
         gate: &G,
-    ) -> Worker<D, P>
+    )
         requires named { N.board ≡ Some board.now }
-        requires hired { IsHired board.now self.first (length self.passes) self }
-        ensures done { IsDone (panel_view P.said P.asks P.reached P.faults) board.now self result }
+        requires hired { IsHired board.now self.old.first (length self.old.passes) self.old }
+        ensures done { IsDone (panel_view P.said P.asks P.reached P.faults) board.now self.old self.new }
     {
-        let mut worker = self;
-        while !worker.passes.is_empty() {
-            if !worker.serve_next(rt, alloc, board, book, gate) {
-                return worker;
+        while !self.is_spent() {
+            if !self.serve_next(rt, alloc, board, book, gate) {
+                return;
             }
         }
-        worker
+    }
+
+    /// Whether all passes are used.
+    fn is_spent(&self) -> bool
+        ensures spent { result ≡ true → self.now.passes ≡ [] }
+        ensures left { result ≡ false → 0 < length self.now.passes }
+    {
+        self.passes.is_empty()
     }
 
     /// Serves the next link that the door gives. Whether it gave one.

@@ -114,7 +114,6 @@ impl<K: Sink> Book<K> {
 
     /// A pass for a new session, which has seen the whole journal. It takes no memory.
     pub fn enter(&mut self, board: &Board<NalMatter>) -> Pass<NalMatter>
-        requires opened { self.old.is_open ≡ true }
         requires board { self.old.board ≡ board.now }
         requires room { self.old.next < 2 ^ 64 - 1 }
         ensures pass { result ≡ record { board = board.now; session = self.old.next; seen = self.old.entries; trail = []; known = self.old.known } }

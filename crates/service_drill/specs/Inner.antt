@@ -14,7 +14,7 @@ abbrev pub wire_view : Wire → LinkView
 wire_view = link_view (λ (l : Wire). Some l.supply.left) (λ l. l.supply.given) (λ l. l.store.sent) (λ l. l.supply.over) (λ l. l.closed) (λ l. l.place) (λ l. l.toward) (λ l. l.faults)
 
 abbrev pub view_of : Doorway → DoorView
-view_of = door_view wire_view (λ (d : Doorway). Some d.links) (λ d. d.over) (λ d. d.gave) (λ d. d.listened) (λ d. d.faults)
+view_of = door_view wire_view (λ (d : Doorway). Some d.links) (λ d. d.origin) (λ d. d.calls)
 
 -- the bytes are the frames of replies, of which so many allow a call and so many deny one
 pub record CountsReplies (sent : List ℕ) (counts : ℕ × ℕ) : Type 0 where

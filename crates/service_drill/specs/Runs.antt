@@ -9,6 +9,7 @@ use Rattle.session_wire.specs.declared.replies.Reply.{Reply}
 use Rattle.session_wire.specs.declared.replies.Reply.TheVariants.{Allowed, Denied}
 use Rattle.session_wire.specs.Frames.{reply_frames}
 use Rattle.nexus_serve.specs.Services.{ServedView, Serves}
+use Rattle.nx_io.specs.DoorCalls.{new_origin, share_of}
 use Rattle.nexus_serve.specs.Views.{DoorView, LinkView, PanelView, ReportView, panel_view}
 use Rattle.nexus_drill.specs.declared.outcomes.DrillTotals.{DrillTotals}
 use Rattle.nexus_drill.specs.Drills.{drill_principal, frames_of}
@@ -37,9 +38,9 @@ link_of frames = record {
   faults = 0;
 }
 
--- the door of a worker: it has one link, which gives the frames of the worker's requests
+-- the door of a worker: a share of a door that listens nowhere, with one link, which gives the frames of the worker's requests
 abbrev pub door_of : ℕ → ℕ → ℕ → DoorView
-door_of number calls worker = record { links = Some (link_of (frames_of number worker calls) ∷ []); over = false; gave = 0; listened = []; faults = 0 }
+door_of number calls worker = record { links = Some (link_of (frames_of number worker calls) ∷ []); origin = share_of new_origin []; calls = [] }
 
 -- the panel of a worker, of which nothing was asked
 abbrev pub silent : ℕ → Rehearsed

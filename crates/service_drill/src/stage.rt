@@ -1,5 +1,6 @@
 // What a run of the load begins with: the journal without entries, and a door and a panel for each worker.
 ghost use Rattle.std.specs.Prelude.{◌≡◌, ◌<◌, ◌≤◌, ◌∷◌, [], IfOk, length, map};
+ghost use Rattle.nx_io.specs.DoorCalls.{new_origin, share_of};
 ghost use Rattle.nx_io.specs.MemoryDoors.{IsFreshPlan, plan_of, share_by};
 ghost use Rattle.nexus_drill.specs.Drills.{drill_principal};
 ghost use Rattle.service_drill.specs.Runs.{door_of, each, head_of, silent};
@@ -75,7 +76,7 @@ fn door_of(alloc: Global, number: u64, worker: u64, calls: u64) -> Result<MemDoo
 // A door of this plan.
 fn door_by(alloc: Global, plan: DoorPlan) -> Result<MemDoor, AllocError>
     requires { IsFreshPlan plan }
-    ensures { IfOk result (λ door. door ≡ share_by (plan_of plan) []) }
+    ensures { IfOk result (λ door. door ≡ share_by (plan_of plan) (share_of new_origin [])) }
 {
     let mut plans = Vec::new(alloc);
     plans.push(plan)?;

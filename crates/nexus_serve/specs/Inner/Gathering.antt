@@ -1,5 +1,5 @@
 -- What the workers leave, taken apart and put together again.
-use Rattle.std.specs.Prelude.{ℕ, List, [], ◌∷◌, ◌++◌, map, Option, Bool, false, ◌||◌}
+use Rattle.std.specs.Prelude.{◌≡◌, ◌≤◌, ◌+◌, ◌-◌, ℕ, List, [], ◌∷◌, ◌++◌, length, map, Option, Bool, false, ◌||◌}
 use Rattle.policy_history.specs.declared.events.Entry.{Entry}
 use Rattle.policy_history.specs.declared.heads.Head.{Head}
 use Rattle.verdict_words.specs.Values.{PassValue}
@@ -41,8 +41,8 @@ raw_joined [] passes = []
 raw_joined (rest ∷ rests) [] = []
 raw_joined (rest ∷ rests) (pass ∷ passes) = record { session = rest.session; principal = rest.principal; link = rest.link; pass = pass; end = rest.end } ∷ raw_joined rests passes
 
--- What contracts see of what workers left: their doors and panels, the reports without their passes, these passes, the unused ones, and
--- whether a door has failed
+-- What contracts see of what workers left: their doors and panels, the reports without their passes, these passes, the unused ones, whether
+-- a door has failed, and how many more workers, and sessions of them, there is memory for
 pub record GatheredValue (P : Type 0) : Type 0 where
   pub doors : List DoorView
   pub panels : List P
@@ -50,6 +50,8 @@ pub record GatheredValue (P : Type 0) : Type 0 where
   pub passes : List (PassValue Entry Head)
   pub unused : List (PassValue Entry Head)
   pub has_failed : Bool
+  pub places : ℕ
+  pub spare : ℕ
 
 -- what one worker leaves, behind what others have left
 abbrev pub gathered_from : {P : Type 0} → GatheredValue P → WorkerValue P → GatheredValue P
@@ -60,6 +62,8 @@ gathered_from g worker = record {
   passes = g.passes ++ map pass_of worker.reports;
   unused = g.unused ++ worker.passes;
   has_failed = g.has_failed || worker.has_failed;
+  places = g.places - 1;
+  spare = g.spare - (length worker.reports + length worker.passes);
 }
 
 -- what all workers leave, in order
@@ -71,5 +75,17 @@ gathered_all g (worker ∷ workers) = gathered_all (gathered_from g worker) work
 abbrev pub with_unused : {P : Type 0} → GatheredValue P → GatheredValue P
 with_unused g = record g { passes = g.passes ++ g.unused; unused = [] }
 
-abbrev pub nothing : {P : Type 0} → GatheredValue P
-nothing = record { doors = []; panels = []; rests = []; passes = []; unused = []; has_failed = false }
+-- nothing yet, with memory for so many workers and so many sessions
+abbrev pub nothing : {P : Type 0} → ℕ → ℕ → GatheredValue P
+nothing workers sessions = record { doors = []; panels = []; rests = []; passes = []; unused = []; has_failed = false; places = workers; spare = sessions }
+
+-- how many sessions memory is wanted for by what the workers leave: those that have a report, and those whose pass is unused
+abbrev pub wanted : {P : Type 0} → List (WorkerValue P) → ℕ
+wanted [] = 0
+wanted (worker ∷ workers) = length worker.reports + length worker.passes + wanted workers
+
+-- nothing is there yet, and there is memory for all that these workers leave
+pub record IsRoomFor {P : Type 0} (workers : List (WorkerValue P)) (room : GatheredValue P) : Type 0 where
+  pub empty : room ≡ nothing room.places room.spare
+  pub places : length workers ≤ room.places
+  pub spare : wanted workers ≤ room.spare

@@ -1,21 +1,15 @@
 -- What is handed back behind the workers.
-use Rattle.std.specs.Prelude.{◌≡◌, List, [], All, Some, None, Bool, true, false, codes, if◌then◌else◌}
+use Rattle.std.specs.Prelude.{◌≡◌, List, [], All, Some, Bool, true, false, codes, if◌then◌else◌}
 use Rattle.nx_io.specs.Streams.{Rose, Sends, SendsPart}
 use Rattle.policy_history.specs.PolicyTexts.{ended}
 use Rattle.verdict_words.specs.Settling.{all_met}
 use Rattle.verdict_words.specs.declared.views.AtomicStep.{AtomicStep}
 use Rattle.policy_book.specs.Books.{AreGatheredIn, BookValue, IsLegalBook, IsMetIn, IsNumbered, head_of, trees_of}
 use Rattle.nexus_serve.specs.declared.service.ServeEnd.{ServeEnd}
-use Rattle.nexus_serve.specs.declared.service.ServeEnd.TheVariants.{Done, DoorFault, Memory}
+use Rattle.nexus_serve.specs.declared.service.ServeEnd.TheVariants.{Done, DoorFault}
 use Rattle.nexus_serve.specs.Views.{DoorView, ReportView}
 use Rattle.nexus_serve.specs.Services.{IsJournal, IsTextSent, ServedView, SinkView}
 use Rattle.nexus_serve.specs.Inner.Gathering.{GatheredValue, joined}
-
--- nothing is left, since there was no memory
-pub record IsLost {P : Type 0} (served : ServedView P) : Type 0 where
-  pub journal : served.journal ≡ None
-  pub written : served.written ≡ false
-  pub end : served.end ≡ Memory
 
 -- how a service ends whose doors have failed or not
 abbrev pub end_of : Bool → ServeEnd

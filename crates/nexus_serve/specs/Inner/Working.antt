@@ -1,6 +1,7 @@
 -- How far a worker is.
 use Rattle.std.specs.Prelude.{◌≡◌, ◌≢◌, ◌≤◌, ◌+◌, ℕ, List, [], ◌∷◌, ◌++◌, length, All, Bool, true, false}
 use Rattle.nx_io.specs.Streams.{Rose}
+use Rattle.nx_io.specs.DoorCalls.{faults_in}
 use Rattle.policy_history.specs.declared.events.Entry.{Entry}
 use Rattle.policy_history.specs.declared.heads.Head.{Head}
 use Rattle.verdict_words.specs.Values.{Identity, PassValue}
@@ -52,7 +53,7 @@ pub record IsWorking {P : Type 0} (panel : P → PanelView) (board : Identity En
 
 -- a worker that has stopped, from where it began
 pub record IsDone {P : Type 0} (panel : P → PanelView) (board : Identity Entry Head) (start now : WorkerValue P) : Type 0 where
-  pub fault : now.has_failed ≡ true → Rose start.door.faults now.door.faults
+  pub fault : now.has_failed ≡ true → Rose (faults_in start.door.calls) (faults_in now.door.calls)
   pub worked : HasWorked board.origin.setting (length board.origin.opening) 0 now.has_failed start.first (length start.passes) start.door now.door (panel start.panel) (panel now.panel) now.reports
   pub numbered : AreNumbered (start.first + length now.reports) now.passes
   pub count : length now.reports + length now.passes ≡ length start.passes

@@ -1,12 +1,15 @@
-use Rattle.std.proofs.Common.{◌≡◌, length, All}
-use Rattle.nx_io.specs.Doors.{IsFreshDoor, KeepsLinks}
+use Rattle.std.proofs.Common.{◌≡◌, ◌++◌, length, replicate, All}
+use Rattle.std.specs.Vec.{vec_capacity}
+use Rattle.nx_io.specs.DoorCalls.{shared}
+use Rattle.nexus_serve.specs.Inner.Sharing.{IsShareOf}
 use Rattle.nexus_serve.proofs.shares.share_door.Given as goal
 
 abbrev pub invariant-loop : goal.invariant-loop
 invariant-loop g l = record {
   count : length l.shares.items ≡ l.counter;
-  shared : All (λ share. IsFreshDoor (g.D.Door.over share) (g.D.Door.gave share) (g.D.Door.faults share) × (g.D.Door.listened share ≡ g.D.Door.listened l.door)) l.shares.items;
-  listened : g.D.Door.listened l.door ≡ g.D.Door.listened l.fn.door;
-  links : KeepsLinks (g.D.Door.links l.fn.door) (g.D.Door.links l.door) (g.D.Door.over l.fn.door) (g.D.Door.over l.door) (g.D.Door.gave l.fn.door) (g.D.Door.gave l.door);
-  faults : g.D.Door.faults l.door ≡ g.D.Door.faults l.fn.door;
+  capacity : vec_capacity l.shares ≡ vec_capacity l.fn.shares;
+  are_shares : All (IsShareOf g.D.Door.origin g.D.Door.calls l.fn.door) l.shares.items;
+  calls : g.D.Door.calls l.door ≡ g.D.Door.calls l.fn.door ++ replicate l.counter shared;
+  links : g.D.Door.links l.door ≡ g.D.Door.links l.fn.door;
+  origin : g.D.Door.origin l.door ≡ g.D.Door.origin l.fn.door;
 }
