@@ -1,5 +1,6 @@
 -- A talk over a link: requests are sent, and the reply to each is taken and its line written before the next is sent.
-use Rattle.std.specs.Prelude.{◌<◌, ℕ, List, [], ◌∷◌, ◌++◌, length, take, Bool, true, false}
+use Rattle.std.specs.Prelude.{◌<◌, ℕ, List, [], ◌∷◌, ◌++◌, length, take, Bool, true, false, Option, Some, None}
+use Rattle.nx_io.specs.DoorCalls.{DoorCall, dialed, not_dialed}
 use Rattle.nx_io.specs.Streams.{one_more}
 use Rattle.policy_history.specs.PolicyTexts.{ended}
 use Rattle.session_wire.specs.declared.replies.Reply.{Reply}
@@ -32,10 +33,10 @@ pub data Talks : List (List ℕ) → List ℕ → List ℕ → List ℕ → Bool
   no_memory : {requests : List (List ℕ)} (request : List ℕ) (reply : Reply) → HasFittingNumbers reply
       → Talks (request ∷ requests) request (reply_frame reply) [] false end.Memory
 
--- how often a door has failed, after a talk that ended so
-abbrev pub door_faults_after : TalkEnd → ℕ → ℕ
-door_faults_after end.Unreached faults = one_more faults
-door_faults_after _ faults = faults
+-- the one call of the door, by the link that it gave
+abbrev pub talk_call : {L : Type 0} → List ℕ → Option L → DoorCall
+talk_call address (Some link) = dialed address
+talk_call address None = not_dialed address
 
 -- how often a link has failed, after a talk that ended so and before it is closed
 abbrev pub link_faults_after : TalkEnd → ℕ → ℕ

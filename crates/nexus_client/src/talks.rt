@@ -1,11 +1,11 @@
 //! One talk with a service: requests are sent one by one, each after the reply to the one before was written.
-ghost use Rattle.std.specs.Prelude.{◌≡◌, ◌≢◌, ◌↔◌, ◌≤◌, IfOk, IfSome, None, Some, false, true};
+ghost use Rattle.std.specs.Prelude.{◌≡◌, ◌≢◌, ◌↔◌, ◌≤◌, ◌∷◌, ◌++◌, [], IfOk, IfSome, None, Some, false, true};
 ghost use Rattle.std.specs.Io.KnownBytes.{IsAtEnd};
-ghost use Rattle.nx_io.specs.Doors.{KeepsLinks};
+ghost use Rattle.nx_io.specs.DoorCalls.{faults_in};
 ghost use Rattle.nx_io.specs.Links.{KeepsOrigin};
 ghost use Rattle.nx_io.specs.Streams.{Grows, MayRise, Rose, gained};
 ghost use Rattle.nexus_client.specs.TalkLaws.{IsInOrder};
-ghost use Rattle.nexus_client.specs.Talks.{IsUnbroken, Talks, door_faults_after, link_faults_after, sink_faults_after, written_line};
+ghost use Rattle.nexus_client.specs.Talks.{IsUnbroken, Talks, link_faults_after, sink_faults_after, talk_call, written_line};
 ghost use Rattle.nexus_client.specs.Inner.Talking.{Exchanges, IsWritten, TalksMore, link_faults_so_far, sink_faults_so_far};
 
 use crate::ends::{Talk, TalkEnd};
@@ -18,13 +18,15 @@ use std::alloc::{AllocError, Global};
 use std::net::{Net, TcpListener, TcpStream};
 use std::rt::Clock;
 
-/// Dials the address, and sends the requests over the link one by one: each is sent whole, the bytes of one reply are taken, and
-/// the reply's line is written, before a byte of the next is sent. At every end a link that was dialed is closed and handed back.
+/// Dials the address, and sends the requests over the link one by one: each is sent whole, the bytes of one reply are taken,
+/// and the reply's line is written, before a byte of the next is sent. At every end a link that was dialed is closed and
+/// handed back.
 ///
-/// `Unreached` comes exactly where the door failed, and then nothing is written. `Broken` comes only where the link failed, and
-/// `Unwritten` only where the sink did: each count rises by one, and otherwise stands still, but for that of a link which can't
-/// put out what is left when it is closed. `Ended` comes exactly where the link ended before a whole reply, or where what came
-/// is no reply; of such bytes no more are taken than show that. `Memory` says that there was none for the line of the last reply.
+/// `Unreached` comes exactly where the door failed, and then nothing is written. The door is asked for the link and for
+/// nothing else. `Broken` comes only where the link failed, and `Unwritten` only where the sink did: each count rises by
+/// one, and otherwise stands still, but for that of a link which can't put out what is left when it is closed. `Ended` comes
+/// exactly where the link ended before a whole reply, or where what came is no reply; of such bytes no more are taken than
+/// show that. `Memory` says that there was none for the line of the last reply.
 /// `docs/FORMATS.md`, "Frames" and "Reply lines", states both.
 #[inline(never)]
 pub fn talk<R, D: Door, K: Sink>(
@@ -46,15 +48,14 @@ where
     ensures toward { IfSome result.dialed (λ link. D.Link.toward link ≡ Some address.now) }
     ensures place { IfSome result.dialed (λ link. D.Link.place link ≡ 0) }
     ensures link_count { IfSome result.dialed (λ link. MayRise (link_faults_after result.end 0) (D.Link.faults link)) }
-    ensures complete { ¬ Rose (D.faults door.old) (D.faults door.new) → ¬ Rose (K.faults output.old) (K.faults output.new)
+    ensures complete { ¬ Rose (faults_in (D.calls door.old)) (faults_in (D.calls door.new)) → ¬ Rose (K.faults output.old) (K.faults output.new)
         → IfSome result.dialed (λ link. ¬ Rose 0 (D.Link.faults link)) → IsUnbroken result.end }
     ensures grows { Grows (K.sent output.old) (K.sent output.new) }
     ensures output_later { K.faults output.old ≤ K.faults output.new }
     ensures output_count { K.faults output.new ≡ sink_faults_after result.end (K.faults output.old) }
-    ensures links { KeepsLinks (D.links door.old) (D.links door.new) (D.over door.old) (D.over door.new) (D.gave door.old) (D.gave door.new) }
-    ensures listened { D.listened door.new ≡ D.listened door.old }
-    ensures door_later { D.faults door.old ≤ D.faults door.new }
-    ensures door_count { D.faults door.new ≡ door_faults_after result.end (D.faults door.old) }
+    ensures links { D.links door.new ≡ D.links door.old }
+    ensures origin { D.origin door.new ≡ D.origin door.old }
+    ensures calls { D.calls door.new ≡ D.calls door.old ++ talk_call address.now result.dialed ∷ [] }
 {
     match door.dial(rt, address) {
         Dial::Link(link) => {
@@ -82,7 +83,8 @@ fn exchange_all<L: Link, K: Sink>(
     link: &mut L,
     output: &mut K,
 ) -> TalkEnd
-    requires { L.over link.old ≡ false }
+    requires over { L.over link.old ≡ false }
+    requires is_open { L.closed link.old ≡ false }
     ensures reached { result ≢ TalkEnd.Unreached }
     ensures talks { TalksMore result requests.now (L.sent link.old) (L.sent link.new) (L.taken link.old) (L.taken link.new) (K.sent output.old) (K.sent output.new) (L.over link.new) }
     ensures ended { L.over link.new ≡ true → IsAtEnd (L.left link.new) }
@@ -108,7 +110,9 @@ fn exchange<L: Link, K: Sink>(
     link: &mut L,
     output: &mut K,
 ) -> Option<TalkEnd>
-    requires { L.over link.old ≡ false }
+    requires over { L.over link.old ≡ false }
+    requires is_open { L.closed link.old ≡ false }
+    ensures is_open { L.closed link.new ≡ false }
     ensures reached { result ≢ Some TalkEnd.Unreached }
     ensures passes { Exchanges result request.now (L.sent link.old) (L.sent link.new) (L.taken link.old) (L.taken link.new) (K.sent output.old) (K.sent output.new) (L.over link.new) }
     ensures ended { L.over link.new ≡ true → IsAtEnd (L.left link.new) }

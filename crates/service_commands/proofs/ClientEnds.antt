@@ -1,6 +1,6 @@
 -- How the ends of a run of `client` come from those of its parts.
 use Rattle.std.specs.Prelude.{IfSome, option_map}
-use Rattle.std.proofs.Common.{◌≡◌, ◌≢◌, ◌≤◌, ◌↔◌, ◌⊎◌, inl, inr, Bool, true, ℕ, List, [], length, IsTrue, Option, Some, None, refl, sym, subst, ap, ◌∙◌, arith}
+use Rattle.std.proofs.Common.{◌≡◌, ◌≢◌, ◌≤◌, ◌↔◌, ◌⊎◌, ◌∷◌, inl, inr, Bool, true, ℕ, List, [], length, IsTrue, Option, Some, None, refl, sym, subst, ap, ◌∙◌, arith}
 use Rattle.std.specs.Io.KnownBytes.{IsAtEnd}
 use Rattle.nx_io.specs.Streams.{MayRise, gained, one_more, prepended}
 use Rattle.nx_io.proofs.ForCallers.{gained-by, gained-nothing}
@@ -13,9 +13,11 @@ use Rattle.nexus_client.specs.declared.requests.RequestsError.TheVariants.{Wrong
 use Rattle.nexus_client.specs.declared.inputs.TalkInput.{TalkInput}
 use Rattle.nexus_client.specs.Inner.Reading.{IsWrongInputOf}
 use Rattle.nexus_client.specs.TalkInputs.{AreFramesOf}
-use Rattle.nx_io.specs.Doors.{KeepsLinks}
+use Rattle.nx_io.specs.DoorCalls.{faults_in, not_dialed}
+use Rattle.nx_io.proofs.DoorCalls.{faults_more}
 use Rattle.nexus_client.specs.TalkLaws.{IsInOrder}
-use Rattle.nexus_client.specs.Talks.{door_faults_after, link_faults_after, sink_faults_after, Talks, done, answered, unsent, untaken, cut_off, no_reply, unwritten, no_memory as no_room}
+use Rattle.nexus_client.specs.Talks.{link_faults_after, sink_faults_after, talk_call, Talks, done, answered, unsent, untaken, cut_off, no_reply, unwritten, no_memory as no_room}
+use Rattle.nexus_serve.specs.Hosting.{HasCalled}
 use Rattle.nexus_serve.specs.Views.{DoorView, LinkView}
 use Rattle.run_streams.specs.declared.outcomes.Outcome.{Outcome}
 use Rattle.run_streams.specs.declared.outcomes.Outcome.TheVariants.{Refused}
@@ -49,15 +51,6 @@ module _ {input : TalkInput} {address : List ℕ} {source : SourceRun} {door : D
 
 -- ---- The talk
 
--- a talk that was had did not end unreached
-door_kept : (end : TalkEnd) (faults : ℕ) → (end ≡ Unreached → ⊥) → door_faults_after end faults ≡ faults
-door_kept Done faults n = refl
-door_kept Unreached faults n = absurd (n refl)
-door_kept Broken faults n = refl
-door_kept Ended faults n = refl
-door_kept Unwritten faults n = refl
-door_kept Memory faults n = refl
-
 -- where nobody was reached the status is 7, and none else
 pub unreached_status : {end : TalkEnd} {status : ℕ} → status ≡ client_status end → end ≡ Unreached → status ≡ 7
 unreached_status s is = s ∙ ap client_status is
@@ -72,16 +65,14 @@ pub talk_ends : {L : Type 0} (view : L → LinkView) {input : TalkInput} {addres
     → IfSome dialed (λ link. Talks frames (view link).sent (view link).taken sink.sent (view link).over end)
     → IfSome dialed (λ link. IsInOrder frames (view link).sent (view link).taken sink.sent (view link).over end) → IfSome dialed (λ link. (view link).closed ≡ true)
     → IfSome dialed (λ link. (view link).toward ≡ Some address) → IfSome dialed (λ link. (view link).place ≡ 0) → IfSome dialed (λ link. MayRise (link_faults_after end 0) (view link).faults)
-    → sink.faults_now ≡ sink_faults_after end sink.faults → KeepsLinks door.links door_now.links door.over door_now.over door.gave door_now.gave → door_now.listened ≡ door.listened
-    → door_now.faults ≡ door_faults_after end door.faults → EndsClient input address source sink door door_now (option_map view dialed) status
-talk_ends view {sink = sink} {door = door} {door_now = door_now} frames None end status are still s u silent talks ordered closed toward place count sank links listened failed =
+    → sink.faults_now ≡ sink_faults_after end sink.faults → HasCalled (talk_call address dialed ∷ []) door door_now → EndsClient input address source sink door door_now (option_map view dialed) status
+talk_ends view {sink = sink} {door = door} {door_now = door_now} frames None end status are still s u silent talks ordered closed toward place count sank called =
     let is = u.0 refl in
     unreached frames refl (s ∙ ap client_status is) are
-    (record { links = links; listened = listened; faults = failed ∙ ap (λ e. door_faults_after e door.faults) is }) (silent refl) still (sank ∙ ap (λ e. sink_faults_after e sink.faults) is)
-talk_ends view {door = door} frames (Some link) end status are still s u silent talks ordered closed toward place count sank links listened failed =
-    let other : end ≡ Unreached → ⊥ = λ e. cc (u.1 e) in
+    called (silent refl) still (sank ∙ ap (λ e. sink_faults_after e sink.faults) is)
+talk_ends view {door = door} frames (Some link) end status are still s u silent talks ordered closed toward place count sank called =
     talked frames (view link) end refl s are (record { talks = talks; in_order = ordered; toward = toward; closed = closed; place = place; link_count = count; sink_count = sank })
-    (record { links = links; listened = listened; faults = failed ∙ door_kept end door.faults other }) still
+    called still
 
 -- ---- The run
 
@@ -117,7 +108,7 @@ module _ {input : TalkInput} {address : List ℕ} {source : SourceRun} {sink : S
   complete_client (talked frames link Unwritten d s are talk kept still) = λ p q r t form. absurd (q (rw talk.sink_count (omega arith)))
   complete_client (talked frames link Broken d s are talk kept still) = λ p q r t form. absurd (has_failed link.faults talk.link_count (t link d))
   complete_client (talked frames link Unreached d s are talk kept still) = λ p q r t form. absurd (never_unreached talk.talks refl)
-  complete_client (unreached frames d s are refused_it sent f g) = λ p q r t form. absurd (r (rw refused_it.faults (omega arith)))
+  complete_client (unreached frames d s are refused_it sent f g) = λ p q r t form. absurd (r (let risen = ap (λ (d : DoorView). faults_in d.calls) refused_it ∙ faults_more door.calls (not_dialed address) in omega (arith, risen)))
   complete_client (refused outcome d s is kept sent f g) = λ p q r t form. absurd (form (refused_by (requests_form input) source.given outcome is.refusal))
   complete_client (refusal_cut_off outcome d s is kept cut f g) = λ p q r t form. absurd (q (rw g (omega arith)))
   complete_client (source_failed d s kept sent f g) = λ p q r t form. absurd (p (rw f (omega arith)))

@@ -1,7 +1,10 @@
 -- How the ends of a run of `serve` come from those of its parts.
-use Rattle.std.proofs.Common.{◌≡◌, ◌≢◌, ◌≤◌, ◌==◌, ◌⊎◌, inl, inr, ℕ, Bool, true, false, List, [], ◌∷◌, length, Option, Some, IsTrue, refl, sym, ap, subst, ◌∙◌, arith}
+use Rattle.std.proofs.Common.{◌≡◌, ◌≢◌, ◌≤◌, ◌==◌, ◌⊎◌, ◌+◌, ◌++◌, cond, inl, inr, ℕ, Bool, true, false, List, [], ◌∷◌, length, Option, Some, IsTrue, refl, sym, ap, subst, ◌∙◌, arith}
 use Rattle.std.proofs.lemmas.Bool.Decides.{Decides-eqb}
+use Rattle.std.proofs.lemmas.List.Sums.{sum_by-append, sum_by-cons}
 use Rattle.std.specs.Io.KnownBytes.{IsAtEnd}
+use Rattle.std.specs.List.{count_by}
+use Rattle.nx_io.specs.DoorCalls.{DoorCall, faults_in, is_fault, not_listened, not_shared}
 use Rattle.nx_io.specs.Streams.{Rose, prepended}
 use Rattle.policy_history.specs.declared.events.Entry.{Entry}
 use Rattle.policy_history.specs.declared.heads.Head.{Head}
@@ -13,8 +16,8 @@ use Rattle.journal_text.specs.declared.policy_reader.PolicyError.TheVariants.{Ba
 use Rattle.nexus_serve.specs.declared.service.ServeEnd.{ServeEnd}
 use Rattle.nexus_serve.specs.declared.service.ServeEnd.TheVariants.{Done, DoorFault, Memory}
 use Rattle.nexus_serve.specs.Views.{DoorView, PanelView}
-use Rattle.nexus_serve.specs.Services.{IsTextSent, Serves, SinkView, whole as text_whole, line_cut, end_cut, done, unopened, no_memory_before, no_memory as lost_memory}
-use Rattle.nexus_serve.specs.Hosting.{AreReady, Hosts, Plan, served, status_of, unheard, unreached, unready}
+use Rattle.nexus_serve.specs.Services.{IsTextSent, Serves, SinkView, whole as text_whole, line_cut, end_cut, done, unopened, no_memory as nothing_served}
+use Rattle.nexus_serve.specs.Hosting.{AreReady, HasFailed, Hosts, Plan, not_heard, not_made, ready_calls, served, status_of, unheard, unreached, unready}
 use Rattle.run_streams.specs.Runs.{SourceRun, most_bytes}
 use Rattle.run_streams.proofs.ForCallers.{read_whole, not_refused, refusal_status, refused_by, apart}
 use Rattle.run_streams.specs.declared.outcomes.Outcome.{Outcome}
@@ -25,6 +28,20 @@ use Rattle.run_streams.specs.Refusals.{IsRefusal, IsRefusalOf, RefusesExactly}
 use Rattle.run_streams.specs.Telling.{Tells, whole, part, nothing}
 use Rattle.service_commands.specs.Inner.ServiceEnds.{IsWrongText}
 use Rattle.service_commands.specs.Services.{EndedView, EndsService, IsCompleteService, IsPolicy, IsPolicyOf, IsServedWhole, IsUnbegun, IsWrongPolicy, RunsService, hosted, hosted_of, in_policy, most_session, no_memory, policy_form, refusal_cut_off, refused, source_failed}
+
+-- a count over more calls rose where one of these failed
+more_faults : (calls more : List DoorCall) (last : DoorCall) → is_fault last ≡ true → Rose (faults_in calls) (faults_in (calls ++ (more ++ last ∷ [])))
+more_faults calls more last is =
+    let one : count_by is_fault (last ∷ []) ≡ 1 = sum_by-cons (λ c. cond (is_fault c) 1 0) last [] ∙ ap (λ b. cond b 1 0 + 0) is in
+    let rest : count_by is_fault (more ++ last ∷ []) ≡ count_by is_fault more + count_by is_fault (last ∷ []) = sum_by-append (λ c. cond (is_fault c) 1 0) more (last ∷ []) in
+    let all : count_by is_fault (calls ++ (more ++ last ∷ [])) ≡ count_by is_fault calls + count_by is_fault (more ++ last ∷ []) = sum_by-append (λ c. cond (is_fault c) 1 0) calls (more ++ last ∷ []) in
+    omega (arith, all, rest, one)
+
+-- a door that could not be made ready has failed
+failed_rose : {address : List ℕ} {workers shares : ℕ} {door door_now : DoorView} → HasFailed address workers shares door door_now → Rose (faults_in door.calls) (faults_in door_now.calls)
+failed_rose {address = address} {door = door} (not_heard none called) = subst (λ (d : DoorView). Rose (faults_in door.calls) (faults_in d.calls)) (sym called) (more_faults door.calls [] (not_listened address) refl)
+failed_rose {address = address} {shares = shares} {door = door} (not_made few called) =
+    subst (λ (d : DoorView). Rose (faults_in door.calls) (faults_in d.calls)) (sym called) (more_faults door.calls (ready_calls address shares) not_shared refl)
 
 -- ---- The input
 
@@ -111,15 +128,14 @@ module _ {P : Type 0} (panel : P → PanelView) (plan : Plan) (source : SourceRu
     complete_serves : Serves panel plan.sessions head opening sink doors panels (hosted_of ended written end).served → (ended.status ≡ 6) ⊎ IsServedWhole panel plan source sink door asked ended
     complete_serves (done es sink_now journal output serves text) = inr (served_whole (is_written head (entry_trees es) sink_now output text) (done es sink_now journal output serves text))
     complete_serves (unopened sink_now journal output cut rose reports ds ps un e) = absurd (unfailed sink_now output rose)
-    complete_serves (no_memory_before journal output reports ds ps un e) = inl (had_no_memory e)
-    complete_serves (lost_memory journal un e) = inl (had_no_memory e)
+    complete_serves (nothing_served journal output reports ds ps un e) = inl (had_no_memory e)
 
-  complete_hosts : ((sink_now : SinkView) → ended.output ≡ Some sink_now → Rose sink.faults sink_now.faults → ⊥) → (Rose door.faults ended.door.faults → ⊥) → (Rose (panel asked).faults (panel ended.panel).faults → ⊥)
+  complete_hosts : ((sink_now : SinkView) → ended.output ≡ Some sink_now → Rose sink.faults sink_now.faults → ⊥) → (Rose (faults_in door.calls) (faults_in ended.door.calls) → ⊥) → (Rose (panel asked).faults (panel ended.panel).faults → ⊥)
       → (head : Head) (opening : List Entry) (written : Bool) (end : ServeEnd) → IsPolicyOf source (most_session plan) head (entry_trees opening)
       → Hosts panel plan head opening sink door asked (hosted_of ended written end) → (ended.status ≡ 6) ⊎ IsServedWhole panel plan source sink door asked ended
   complete_hosts sunk shut down head opening written end policy (served ds ps ready serves status) = complete_serves sunk head opening written end policy ds ps ready status serves
   complete_hosts sunk shut down head opening written end policy (unreached status idle d s a rose) = absurd (down rose)
-  complete_hosts sunk shut down head opening written end policy (unheard status idle reached failed) = absurd (shut failed.faults)
+  complete_hosts sunk shut down head opening written end policy (unheard status idle reached failed) = absurd (shut (failed_rose failed))
   complete_hosts sunk shut down head opening written end policy (unready status idle reached held) = inl status
 
   complete : EndsService panel plan source sink door asked ended → IsCompleteService panel plan source sink door asked ended

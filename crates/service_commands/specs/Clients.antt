@@ -1,6 +1,6 @@
 -- How a run of `client` or `import` ends: the status, what the source gave, the link that was dialed, and what was written.
-use Rattle.std.specs.Prelude.{◌≡◌, ◌⊎◌, ◌≤◌, ℕ, List, [], length, true, Option, Some, None}
-use Rattle.nx_io.specs.Doors.{KeepsLinks}
+use Rattle.std.specs.Prelude.{◌≡◌, ◌⊎◌, ◌≤◌, ◌∷◌, ℕ, List, [], length, true, Option, Some, None}
+use Rattle.nx_io.specs.DoorCalls.{dialed as dialed_to, faults_in, not_dialed}
 use Rattle.nx_io.specs.Streams.{MayRise, Rose, one_more}
 use Rattle.nexus_client.specs.declared.ends.TalkEnd.{TalkEnd}
 use Rattle.nexus_client.specs.declared.ends.TalkEnd.TheVariants.{Done, Unreached, Broken, Ended, Unwritten, Memory}
@@ -8,6 +8,7 @@ use Rattle.nexus_client.specs.declared.inputs.TalkInput.{TalkInput}
 use Rattle.nexus_client.specs.TalkInputs.{AreFramesOf, IsWrongLineOf}
 use Rattle.nexus_client.specs.TalkLaws.{IsInOrder}
 use Rattle.nexus_client.specs.Talks.{Talks, link_faults_after, sink_faults_after}
+use Rattle.nexus_serve.specs.Hosting.{HasCalled}
 use Rattle.nexus_serve.specs.Views.{DoorView, LinkView}
 use Rattle.run_streams.specs.Runs.{IsProperPart, IsReadWhole, SinkRun, SourceRun, most_bytes}
 use Rattle.run_streams.specs.declared.outcomes.Outcome.{Outcome}
@@ -44,24 +45,12 @@ pub record HasTalked (address : List ℕ) (frames : List (List ℕ)) (sink : Sin
   pub link_count : MayRise (link_faults_after end 0) link.faults
   pub sink_count : sink.faults_now ≡ sink_faults_after end sink.faults
 
--- the door gave no link by `next`, listens where it listened, and its count stands still
-pub record IsKept (door door_now : DoorView) : Type 0 where
-  pub links : KeepsLinks door.links door_now.links door.over door_now.over door.gave door_now.gave
-  pub listened : door_now.listened ≡ door.listened
-  pub faults : door_now.faults ≡ door.faults
-
--- the same, but that it failed once
-pub record HasRefused (door door_now : DoorView) : Type 0 where
-  pub links : KeepsLinks door.links door_now.links door.over door_now.over door.gave door_now.gave
-  pub listened : door_now.listened ≡ door.listened
-  pub faults : door_now.faults ≡ one_more door.faults
-
 -- A talk that is asked for by such an input ends with this status: the requests were read, and a talk over a link to the address ended; or no link could be dialed; or a refusal is written, or a
 -- proper part of it; or the source failed; or there was no memory for the input. Where no link was dialed nothing else is written.
 pub data EndsClient (input : TalkInput) (address : List ℕ) (source : SourceRun) (sink : SinkRun) (door door_now : DoorView) (dialed : Option LinkView) (status : ℕ) : Type 0 where
   talked : (frames : List (List ℕ)) (link : LinkView) (end : TalkEnd) → dialed ≡ Some link → status ≡ client_status end → AreRequestsOf input source frames
-      → HasTalked address frames sink link end → IsKept door door_now → source.faults_now ≡ source.faults → EndsClient input address source sink door door_now dialed status
-  unreached : (frames : List (List ℕ)) → dialed ≡ None → status ≡ 7 → AreRequestsOf input source frames → HasRefused door door_now → sink.sent ≡ []
+      → HasTalked address frames sink link end → HasCalled (dialed_to address ∷ []) door door_now → source.faults_now ≡ source.faults → EndsClient input address source sink door door_now dialed status
+  unreached : (frames : List (List ℕ)) → dialed ≡ None → status ≡ 7 → AreRequestsOf input source frames → HasCalled (not_dialed address ∷ []) door door_now → sink.sent ≡ []
       → source.faults_now ≡ source.faults → sink.faults_now ≡ sink.faults → EndsClient input address source sink door door_now dialed status
   refused : (outcome : Outcome) → dialed ≡ None → status ≡ 3 → IsRefusalOf (requests_form input) source outcome → door_now ≡ door → sink.sent ≡ output_of outcome
       → source.faults_now ≡ source.faults → sink.faults_now ≡ sink.faults → EndsClient input address source sink door door_now dialed status
@@ -81,7 +70,7 @@ HasEnded input address source sink dialed status end =
 -- reply; or there was no memory.
 abbrev pub IsCompleteClient : TalkInput → List ℕ → SourceRun → SinkRun → DoorView → DoorView → Option LinkView → ℕ → Type 0
 IsCompleteClient input address source sink door door_now dialed status =
-    ¬ Rose source.faults source.faults_now → ¬ Rose sink.faults sink.faults_now → ¬ Rose door.faults door_now.faults
+    ¬ Rose source.faults source.faults_now → ¬ Rose sink.faults sink.faults_now → ¬ Rose (faults_in door.calls) (faults_in door_now.calls)
     → ((link : LinkView) → dialed ≡ Some link → link.faults ≡ 0) → ¬ IsRefusedInput (requests_form input) source.given
     → (status ≡ 6) ⊎ HasEnded input address source sink dialed status Done ⊎ HasEnded input address source sink dialed status Ended
 

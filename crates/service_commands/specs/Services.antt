@@ -1,6 +1,7 @@
 -- How a run of `serve` ends: the status, what the source gave, what is handed back, and what was written.
 use Rattle.std.specs.Prelude.{◌≡◌, ◌≢◌, ◌*◌, ◌+◌, ◌-◌, ◌^◌, ◌⊎◌, ◌≤◌, ◌∷◌, ℕ, List, [], length, codes, Bool, true, Option, Some, None}
 use Rattle.nal_term.specs.Secrets.{IsSecret}
+use Rattle.nx_io.specs.DoorCalls.{faults_in}
 use Rattle.nx_io.specs.Streams.{Rose, Sends, SendsPart, one_more}
 use Rattle.policy_history.specs.declared.events.Entry.{Entry}
 use Rattle.policy_history.specs.declared.heads.Head.{Head}
@@ -122,7 +123,7 @@ pub record IsServedWhole {P : Type 0} (panel : P → PanelView) (plan : Plan) (s
 -- text is written whole; or there was no memory.
 abbrev pub IsCompleteService : {P : Type 0} → (P → PanelView) → Plan → SourceRun → SinkView → DoorView → P → EndedView P → Type 0
 IsCompleteService panel plan source sink door asked ended =
-    ¬ Rose source.faults source.faults_now → ((sink_now : SinkView) → ended.output ≡ Some sink_now → ¬ Rose sink.faults sink_now.faults) → ¬ Rose door.faults ended.door.faults
+    ¬ Rose source.faults source.faults_now → ((sink_now : SinkView) → ended.output ≡ Some sink_now → ¬ Rose sink.faults sink_now.faults) → ¬ Rose (faults_in door.calls) (faults_in ended.door.calls)
     → ¬ Rose (panel asked).faults (panel ended.panel).faults → ¬ IsRefusedInput (policy_form (most_session plan)) source.given
     → (ended.status ≡ 6) ⊎ IsServedWhole panel plan source sink door asked ended
 

@@ -9,7 +9,7 @@ use session_core::Report;
 pub struct Ended<D: Door, P: Panel, K: Sink> {
     /// The status that the operating system is given. `docs/FORMATS.md`, "Statuses", says what each means.
     pub status: u8,
-    /// The sink that was handed in. None only where a service found no memory.
+    /// The sink that was handed in.
     pub output: Option<K>,
     /// The journal at the end, where a policy was read and its text was to be written.
     pub journal: Option<Journal>,

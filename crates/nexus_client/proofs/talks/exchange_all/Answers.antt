@@ -6,7 +6,8 @@ use Rattle.nexus_client.proofs.talks.exchange_all.Goals as goal
 pub loop-request-init : goal.loop-request-init
 loop-request-init g c = record {
   talking = talking_first c.args.requests.now _ _ _;
-  over = c.requires;
+  over = c.requires.over;
+  is_open = c.requires.is_open;
   origin = record { place_is = refl; toward_is = refl };
   link_count = refl;
   output_count = refl;
@@ -22,6 +23,7 @@ loop-request-preserved g c =
     record {
       talking = talking_more requests (drop (i + 1) requests) c.request-item.result _ _ _ _ _ _ _ _ _ _ (rw next at was.talking) (rw c.as_slice.ensures at e.passes);
       over = e.passes.passes.over_is;
+      is_open = e.is_open;
       origin = record { place_is = e.origin.place_is ∙ was.origin.place_is; toward_is = e.origin.toward_is ∙ was.origin.toward_is };
       link_count = e.link_count ∙ was.link_count;
       output_count = e.output_count ∙ was.output_count;

@@ -1,4 +1,4 @@
-use Rattle.std.proofs.Common.{ap, map}
+use Rattle.std.proofs.Common.{refl}
 use Rattle.std.specs.Prelude.{option_map}
 use Rattle.nx_io.proofs.ForCallers.{gained-nothing}
 use Rattle.nexus_serve.specs.Views.{link_view}
@@ -10,7 +10,7 @@ returns-in-Ok-clause-ends g c =
     let e = c.talk-dialed.ensures in
     talk_ends (link_view g.D.Link.Link.left g.D.Link.Link.taken g.D.Link.Link.sent g.D.Link.Link.over g.D.Link.Link.closed g.D.Link.Link.place g.D.Link.Link.toward g.D.Link.Link.faults) c.in-Ok.requests c.talk-dialed.result.dialed c.talk-dialed.result.end _ c.in-Ok.ensures.ok c.in-Ok.ensures.count c.status_of.ensures e.unreached
     (λ none. rw (e.unheard none) (gained-nothing (g.K.Sink.sent c.args.output.now))) e.talks e.in_order e.closed e.toward e.place e.link_count e.output_count
-    (record { links_are = ap (option_map (map (link_view g.D.Link.Link.left g.D.Link.Link.taken g.D.Link.Link.sent g.D.Link.Link.over g.D.Link.Link.closed g.D.Link.Link.place g.D.Link.Link.toward g.D.Link.Link.faults))) e.links.links_are; over_is = e.links.over_is; gave_is = e.links.gave_is }) e.listened e.door_count
+    (rw (e.links, e.origin, e.calls) refl)
 
 pub returns-in-Err-Refused-clause-ends : goal.returns-in-Err-Refused-clause-ends
 returns-in-Err-Refused-clause-ends g c =
