@@ -1,5 +1,4 @@
 use Rattle.std.proofs.Common.{refl}
-use Rattle.std.specs.Prelude.{option_map}
 use Rattle.nx_io.proofs.ForCallers.{gained-nothing}
 use Rattle.nexus_serve.specs.Views.{link_view}
 use Rattle.service_commands.proofs.ClientEnds.{refusal_ends, talk_ends, unreached_failed, unreached_status}
