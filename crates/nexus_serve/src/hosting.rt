@@ -54,9 +54,9 @@ impl<D: Door, P: Panel, K: Sink> Model for Hosted<D, P, K> {
 /// Hosts a service over a journal: it reaches the authorities of its head, listens at the address, and lets so many workers
 /// serve so many sessions each, with shares of the door and of the panel. The policy text goes to the sink as the journal grows.
 ///
-/// The status is 0 where all was done, 5 where the text was not written whole, which comes only where the sink failed, 6 where
-/// memory ran out, 7 where the door, or else a share of it, has failed, and 8 where an authority could not be reached, or the
-/// panel not be shared. `docs/FORMATS.md`, "Statuses", states this.
+/// The status is 0 where all was done, 5 where the text was not written whole, which comes only where the sink failed, 6
+/// where there was no memory, so that nobody was served, 7 where the door, or else a share of it, has failed, and 8 where an
+/// authority could not be reached, or the panel not be shared. `docs/FORMATS.md`, "Statuses", states this.
 pub fn host<D, P, K, G, R>(
     rt: &R,
     alloc: Global,

@@ -23,7 +23,8 @@ pub data DoorCall : Type 0 where
   dialed : List ℕ → DoorCall
   not_dialed : List ℕ → DoorCall
 
--- Where a door came from: how many shares lie between it and a door that is none, and the addresses at which it listened as it was made
+-- Where a door came from: its depth, which is 0 where it is no share, and else one more than that of the door that it is a share of; and the
+-- addresses at which it listened as it was made
 pub record DoorOrigin : Type 0 where
   pub depth : ℕ
   pub listened_at : List (List ℕ)

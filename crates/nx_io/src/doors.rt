@@ -38,8 +38,8 @@ pub trait Door {
     /// The links still to come, as `next` will give them, where the door knows them: one in memory does. No other call changes them.
     ghost links: { Self → Option (List Self.Link) };
 
-    /// Where it came from: how many shares lie between it and a door that is none, and where it listened as it was made, which is where its
-    /// maker listened then. No call changes it.
+    /// Where it came from: its depth, 0 where it is no share and else one more than its maker's, and where it listened as it was made,
+    /// which is where its maker listened then. No call changes it.
     ghost origin: { Self → DoorOrigin };
 
     /// Its calls, with how each went, in order. A share begins with none. Every door tells them.
