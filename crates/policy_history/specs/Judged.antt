@@ -103,12 +103,6 @@ abbrev pub IsUntouched : Head → List EntryTree → ℕ → ℕ → Type 0
 IsUntouched h es from region =
     (before : List EntryTree) (e : EntryTree) (later : List EntryTree) → es ≡ before ++ e ∷ later → from ≤ length before → ¬ Touches h before e region
 
--- the place, from 1, of the last entry that touches the region, or 0
-abbrev pub IsLastTouch : Head → List EntryTree → ℕ → ℕ → Type 0
-IsLastTouch h es region at =
-    IsUntouched h es at region × (at ≤ length es)
-    × ((before : List EntryTree) (e : EntryTree) (later : List EntryTree) → es ≡ before ++ e ∷ later → at ≡ length before + 1 → Touches h before e region)
-
 -- the case with this number is of this object and this subject
 pub record IsHome (h : Head) (es : List EntryTree) (case object subject : ℕ) : Type 0 where
   pub row : CaseRow
