@@ -1,2 +1,5 @@
 mod Asked
+pub mod ForCallers
+mod Kept
+pub mod PanelCalls
 mod Reading

@@ -1,37 +1,32 @@
 -- The authorities of a host, as contracts see them.
-use Rattle.std.specs.Prelude.{◌≡◌, ◌≢◌, ◌⊎◌, ℕ, List, Option, Some, None, slice_get, codes}
-use Rattle.std.specs.Option.{option_and_then, option_map}
-use Rattle.arrayvec.specs.ArrayVec.{ArrayVec}
+use Rattle.std.specs.Prelude.{◌≡◌, ◌≢◌, ◌<◌, ◌≤◌, ◌⊎◌, ℕ, List, [], ◌∷◌, ◌++◌, length, Some, None, codes}
 use Rattle.nal_term.specs.Trees.{FormulaTree}
-use Rattle.authority_ask.specs.AskLogs.{Made}
-use Rattle.authority_ask.specs.Exchanges.{Exchange, IsAskedOver}
-use Rattle.authority_ask.specs.Panels.{Places}
+use Rattle.nx_io.specs.declared.streams.Reach.{Reach}
+use Rattle.authority_ask.specs.Exchanges.{IsAskedOver}
+use Rattle.authority_ask.specs.PanelCalls.{PanelHistory, Placed, address_at}
 use Rattle.authority_ask.specs.TimeTests.{time_test}
+use Rattle.authority_ask.specs.WireCalls.{WireCall, connect_call, disconnected}
 use Rattle.authority_ask.specs.declared.panels.Ask.{Ask}
 
--- a panel: what was asked, how often, the address that was reached at each port, the faults, the clock, and the wires
+-- a panel: its history, the clock, and the wires
 pub record Hosting (C W : Type 0) : Type 0 where
-  pub said : List Made
-  pub asks : ℕ
-  pub reached : Places
-  pub faults : ℕ
+  pub history : PanelHistory
   pub clock : C
   pub wires : W
 
--- the address that was reached at a port, where one was
-abbrev pub address_at : Places → ℕ → Option (List ℕ)
-address_at places port = option_and_then (λ (a : Option (List ℕ)). a) (slice_get places port)
-
 -- an ask for which the clock is looked at: the port has the address `clock`, and the statement one of the six forms
-abbrev pub NeedsClock : Places → ℕ → FormulaTree → Type 0
+abbrev pub NeedsClock : List Placed → ℕ → FormulaTree → Type 0
 NeedsClock places port f = (address_at places port ≡ Some (codes "clock")) × (time_test f ≢ None)
 
--- the bytes of an address, where there is one
-abbrev pub address_bytes : Option (ArrayVec ℕ) → Option (List ℕ)
-address_bytes address = option_map (λ (a : ArrayVec ℕ). a.items) address
-
--- What an ask at a port exchanges, by the address that was reached there: over the wires at an address that is not `clock`, and else nothing
-abbrev pub IsAskedAt : Places → ℕ → FormulaTree → List Exchange → List Exchange → Ask → Type 0
+-- Which calls of the wires an ask at a port makes, by the address that was reached there: one exchange at an address that is not `clock`, and else none
+abbrev pub IsAskedAt : List Placed → ℕ → FormulaTree → List WireCall → List WireCall → Ask → Type 0
 IsAskedAt places port f before now answer =
     ((address : List ℕ) → address_at places port ≡ Some address → address ≢ codes "clock" → IsAskedOver port address f before now answer)
     × ((address_at places port ≡ None) ⊎ (address_at places port ≡ Some (codes "clock")) → now ≡ before)
+
+-- Which calls of the wires a reach makes: elsewhere than at `clock` the one that connects the port to this very address, which has answered the same; at `clock` the one that lets the connection of the port go; and none at a port over 15 or an address over 64 bytes
+abbrev pub IsReachedOver : ℕ → List ℕ → List WireCall → List WireCall → Reach → Type 0
+IsReachedOver port address before now reach =
+    (port < 16 → length address ≤ 64 → address ≢ codes "clock" → now ≡ before ++ connect_call port address reach ∷ [])
+    × (port < 16 → address ≡ codes "clock" → now ≡ before ++ disconnected port ∷ [])
+    × ((16 ≤ port) ⊎ (64 < length address) → now ≡ before)

@@ -1,8 +1,11 @@
-pub mod AskLogs
 pub mod Clocks
 pub mod Exchanges
 pub mod Hosts
 pub mod Inner
 pub mod Memory
+pub mod PanelCalls
+pub mod PanelLogs
 pub mod Panels
 pub mod TimeTests
+pub mod WireCalls
+pub mod WireLogs

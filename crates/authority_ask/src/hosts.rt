@@ -1,15 +1,17 @@
 // Authorities that are asked over wires, and a clock that answers by itself.
-ghost use Rattle.std.specs.Prelude.{◌≡◌, ◌≢◌, ◌<◌, ◌≤◌, ◌++◌, ◌∷◌, [], length, map, replicate, slice_get, slice_set, IfNone, IfOk, IfSome, IsSome, Option, Some, None, ℕ, List, codes};
+ghost use Rattle.std.specs.Prelude.{◌≡◌, ◌≢◌, ◌<◌, ◌≤◌, [], length, map, replicate, IfNone, IfOk, IfSome, IsSome, None, Some, codes};
 ghost use Rattle.std.specs.Option.{option_copied};
 ghost use Rattle.nal_term.specs.Trees.{formula_tree};
-ghost use Rattle.authority_ask.specs.AskLogs.{all_told};
-ghost use Rattle.nx_io.specs.Streams.{Rose, faults_after_reach, one_more};
+ghost use Rattle.nx_io.specs.Streams.{Rose, one_more};
 ghost use Rattle.authority_ask.specs.Exchanges.{IsAnswerTo, IsAskedOver};
-ghost use Rattle.authority_ask.specs.Hosts.{IsAskedAt, NeedsClock, address_at, address_bytes};
-ghost use Rattle.authority_ask.specs.Panels.{IfMade, IsFresh, faults_after_ask, faults_after_share, reached_after};
+ghost use Rattle.authority_ask.specs.Hosts.{IsAskedAt, IsReachedOver, NeedsClock};
+ghost use Rattle.authority_ask.specs.Inner.Addresses.{address_bytes, kept_after, kept_at};
+ghost use Rattle.authority_ask.specs.PanelCalls.{address_at, asked, new_history, reach_call, reached_in, share_call, share_of, with_call};
+ghost use Rattle.authority_ask.specs.PanelLogs.{call_of};
+ghost use Rattle.authority_ask.specs.Panels.{IfMade};
 ghost use Rattle.authority_ask.specs.TimeTests.{clock_answer, time_test};
 
-use crate::ask_log::AskLog;
+use crate::call_history::{CallHistory, LoggedCall};
 use crate::clocks::Clock;
 use crate::conversations::{ROOM, Reply, question_line, reply_in};
 use crate::panels::{Ask, Panel};
@@ -18,11 +20,12 @@ use crate::time_tests::TimeTest;
 use crate::wires::Wires;
 use arrayvec::ArrayVec;
 use nal_term::Formula;
-use nx_io::{Reach, Shared};
+use nx_io::{History, Reach, Shared};
 use std::alloc::{AllocError, Global};
 use std::marker::Model;
 use std::net::{Net, TcpListener, TcpStream};
 use std::rt::Clock as SystemClock;
+use std::snapshot::Snapshot;
 
 /// How many ports a panel has.
 const PORTS: u64 = 16;
@@ -34,34 +37,30 @@ const CLOCK: &[u8] = b"clock";
 type Address = ArrayVec<u8, 64>;
 
 /// Authorities over wires. At the address `clock` the panel's own clock answers; any other authority is asked over the wires.
-/// Contracts see what was asked, the addresses, the faults, the clock and the wires. `docs/FORMATS.md`, "Authorities", states
-/// the lines that go over them.
+/// Contracts see the history, the clock and the wires. `docs/FORMATS.md`, "Authorities", states the lines that go over them.
 #[derive(Drop)]
 pub struct AuthorityPanel<C: Clock + Drop, W: Wires + Drop> {
     alloc: Global,
     clock: C,
     wires: W,
     addresses: Vec<Option<Address>>,
-    said: AskLog,
-    asks: u64,
-    faults: u64,
+    history: CallHistory,
 }
 
 impl<C: Clock + Drop, W: Wires + Drop> Model for AuthorityPanel<C, W> {
     ghost use Rattle.std.specs.Prelude.{◌≡◌, length, map};
     ghost use Rattle.std.specs.Coded.{codes};
-    ghost use Rattle.nal_term.specs.contracts.terms.Term as t;
-    ghost use Rattle.nal_term.specs.contracts.formulas.Formula as f;
-    ghost use Rattle.authority_ask.specs.AskLogs.{made_in};
-    ghost use Rattle.authority_ask.specs.Hosts.{Hosting, address_bytes};
+    ghost use Rattle.authority_ask.specs.Inner.TreeCodes.{coded_tree};
+    ghost use Rattle.authority_ask.specs.Hosts.{Hosting};
+    ghost use Rattle.authority_ask.specs.Inner.Addresses.{IsKept, address_bytes};
 
     ghost Value = { Hosting C W };
 
-    ghost coded = { Prim.hlevel (codes, t.the_row.coded, f.the_row.coded) };
+    ghost coded = { Prim.hlevel (codes, coded_tree (Prim.hlevel codes)) };
 
-    ghost view = { λ p. record { said = made_in p.said; asks = p.asks; reached = map address_bytes p.addresses.items; faults = p.faults; clock = p.clock; wires = p.wires } };
+    ghost view = { λ p. record { history = p.history; clock = p.clock; wires = p.wires } };
 
-    ghost invariant = { λ p. length p.addresses.items ≡ 16 };
+    ghost invariant = { λ p. (length p.addresses.items ≡ 16) × IsKept p.history (map address_bytes p.addresses.items) };
 }
 
 /// The panel of a host: its authorities are asked over TCP.
@@ -71,7 +70,7 @@ impl<C: Clock + Drop> AuthorityPanel<C, TcpWires> {
     /// A panel with this clock, whose authorities are asked over TCP, and which has reached nobody. All that it will need to know
     /// addresses is taken here. An `Err` is want of memory.
     pub fn new(alloc: Global, clock: C) -> Result<HostPanel<C>, AllocError>
-        ensures { IfOk result (λ panel. panel ≡ record { said = []; asks = 0; reached = replicate 16 None; faults = 0; clock = clock; wires = [] }) }
+        ensures { IfOk result (λ panel. panel ≡ record { history = new_history; clock = clock; wires = [] }) }
     {
         AuthorityPanel::over(alloc, clock, TcpWires::new(alloc)?)
     }
@@ -80,59 +79,33 @@ impl<C: Clock + Drop> AuthorityPanel<C, TcpWires> {
 impl<C: Clock + Drop, W: Wires + Drop> AuthorityPanel<C, W> {
     /// A panel with this clock over these wires, which has reached nobody. An `Err` is want of memory.
     pub fn over(alloc: Global, clock: C, wires: W) -> Result<AuthorityPanel<C, W>, AllocError>
-        ensures { IfOk result (λ panel. panel ≡ record { said = []; asks = 0; reached = replicate 16 None; faults = 0; clock = clock; wires = wires }) }
+        ensures { IfOk result (λ panel. panel ≡ record { history = new_history; clock = clock; wires = wires }) }
     {
         let addresses = no_addresses(alloc)?;
-        Ok(AuthorityPanel::at(alloc, clock, wires, addresses))
-    }
-
-    // A panel of these addresses, which was asked nothing.
-    fn at(
-        alloc: Global,
-        clock: C,
-        wires: W,
-        addresses: Vec<Option<Address>>,
-    ) -> AuthorityPanel<C, W>
-        requires { length addresses.items ≡ 16 }
-        ensures { result ≡ record { said = []; asks = 0; reached = map address_bytes addresses.items; faults = 0; clock = clock; wires = wires } }
-    {
-        AuthorityPanel {
+        Ok(AuthorityPanel {
             alloc,
             clock,
             wires,
             addresses,
-            said: AskLog::Start,
-            asks: 0,
-            faults: 0,
-        }
+            history: CallHistory::new(),
+        })
     }
 
-    // Connects to an address and sets it. A failure leaves all as it was.
-    fn connect<R: Net<Listener = TcpListener, Stream = TcpStream> + SystemClock>(
-        &mut self,
-        rt: &R,
-        port: u64,
-        address: &[u8],
-    ) -> Reach
-        ensures reached { Some self.new.reached ≡ reached_after result port address.now (Some self.old.reached) }
-        ensures others { self.new ≡ record self.old { reached = self.new.reached; wires = self.new.wires } }
-        ensures nothing_asked { W.exchanged self.new.wires ≡ W.exchanged self.old.wires }
-        ensures outside { 16 ≤ port → result ≡ Reach.Failed }
-        ensures long { 64 < length address.now → result ≡ Reach.Failed }
-        ensures clock { port < 16 → address.now ≡ codes "clock" → result ≡ Reach.Ready }
+    // A panel with a share of the clock and of the wires, and with these addresses.
+    fn shared(&self) -> Result<AuthorityPanel<C, W>, AllocError>
+        ensures history { IfOk result (λ share. share.history ≡ share_of self.now.history) }
+        ensures clock { IfOk result (λ share. (C.given share.clock ≡ None) × (C.calls share.clock ≡ 0) × (C.faults share.clock ≡ 0)) }
+        ensures wires { IfOk result (λ share. W.calls share.wires ≡ []) }
     {
-        let Some(place) = copied(address) else {
-            return Reach::Failed;
-        };
-        if port >= PORTS {
-            return Reach::Failed;
-        }
-        match wired(rt, &mut self.wires, port, address) {
-            Reach::Ready => {}
-            Reach::Failed => return Reach::Failed,
-        }
-        self.addresses[port as usize] = Some(place);
-        Reach::Ready
+        let addresses = copies(self.alloc, self.addresses.as_slice())?;
+        let wires = self.wires.share(self.alloc)?;
+        Ok(AuthorityPanel {
+            alloc: self.alloc,
+            clock: self.clock.share(),
+            wires,
+            addresses,
+            history: self.history.of_share(),
+        })
     }
 
     // What the authority at a port answers.
@@ -143,12 +116,12 @@ impl<C: Clock + Drop, W: Wires + Drop> AuthorityPanel<C, W> {
         statement: &Formula,
     ) -> Ask
         ensures others { self.new ≡ record self.old { clock = self.new.clock; wires = self.new.wires } }
-        ensures over_wires { IsAskedAt self.old.reached port (formula_tree statement.now) (W.exchanged self.old.wires) (W.exchanged self.new.wires) result }
-        ensures unreached { address_at self.old.reached port ≡ None → result ≡ Ask.Down }
-        ensures by_clock { address_at self.old.reached port ≡ Some (codes "clock") → result ≡ clock_answer (C.given self.new.clock) (formula_tree statement.now) }
-        ensures clock_down { address_at self.old.reached port ≡ Some (codes "clock") → result ≡ Ask.Down → Rose (C.faults self.old.clock) (C.faults self.new.clock) }
-        ensures clock_called { NeedsClock self.old.reached port (formula_tree statement.now) → C.calls self.new.clock ≡ one_more (C.calls self.old.clock) }
-        ensures clock_rests { ¬ NeedsClock self.old.reached port (formula_tree statement.now) → self.new.clock ≡ self.old.clock }
+        ensures over_wires { IsAskedAt (reached_in self.old.history) port (formula_tree statement.now) (W.calls self.old.wires) (W.calls self.new.wires) result }
+        ensures unreached { address_at (reached_in self.old.history) port ≡ None → result ≡ Ask.Down }
+        ensures by_clock { address_at (reached_in self.old.history) port ≡ Some (codes "clock") → result ≡ clock_answer (C.given self.new.clock) (formula_tree statement.now) }
+        ensures clock_down { address_at (reached_in self.old.history) port ≡ Some (codes "clock") → result ≡ Ask.Down → Rose (C.faults self.old.clock) (C.faults self.new.clock) }
+        ensures clock_called { NeedsClock (reached_in self.old.history) port (formula_tree statement.now) → C.calls self.new.clock ≡ one_more (C.calls self.old.clock) }
+        ensures clock_rests { ¬ NeedsClock (reached_in self.old.history) port (formula_tree statement.now) → self.new.clock ≡ self.old.clock }
     {
         let Some(address) = address_in(self.addresses.as_slice(), port) else {
             return Ask::Down;
@@ -161,97 +134,119 @@ impl<C: Clock + Drop, W: Wires + Drop> AuthorityPanel<C, W> {
 }
 
 impl<C: Clock + Drop, W: Wires + Drop> Panel for AuthorityPanel<C, W> {
-    ghost said = { λ p. all_told p.said };
+    ghost history = { λ p. p.history };
 
-    ghost asks = { λ p. p.asks };
-
-    ghost reached = { λ p. Some p.reached };
-
-    ghost faults = { λ p. p.faults };
-
-    /// As of any panel. It fails at a port over 15, at an address over 64 bytes, and where it can't connect; at the address
-    /// `clock` there is nothing to connect to.
+    /// As of any panel. The wires connect to this address, in one call; they let the connection of the port go at the address
+    /// `clock`, where there is nothing to connect to. It fails where they could not connect in this call; and at a port over 15
+    /// and at an address over 64 bytes, without a call of them.
     fn reach<R: Net<Listener = TcpListener, Stream = TcpStream> + SystemClock>(
         &mut self,
         rt: &R,
         port: u64,
         address: &[u8],
     ) -> Reach
-        ensures said { all_told self.new.said ≡ all_told self.old.said }
-        ensures asks { self.new.asks ≡ self.old.asks }
-        ensures reached { Some self.new.reached ≡ reached_after result port address.now (Some self.old.reached) }
-        ensures later { self.old.faults ≤ self.new.faults }
-        ensures count { self.new.faults ≡ faults_after_reach result self.old.faults }
+        ensures history { self.new.history ≡ with_call self.old.history (reach_call port address.now result) }
         ensures clock_rests { self.new.clock ≡ self.old.clock }
-        ensures nothing_asked { W.exchanged self.new.wires ≡ W.exchanged self.old.wires }
+        ensures wires_called { IsReachedOver port address.now (W.calls self.old.wires) (W.calls self.new.wires) result }
         ensures outside { 16 ≤ port → result ≡ Reach.Failed }
         ensures long { 64 < length address.now → result ≡ Reach.Failed }
         ensures by_clock { port < 16 → address.now ≡ codes "clock" → result ≡ Reach.Ready }
     {
-        let reach = self.connect(rt, port, address);
-        match reach {
-            Reach::Ready => {}
-            Reach::Failed => self.faults = self.faults.saturating_add(1),
-        }
+        let reach = connect(rt, &mut self.wires, &mut self.addresses, port, address);
+        self.history.add(reached(reach, port, address));
         reach
     }
 
     /// As of any panel. At a port of the address `clock` the clock answers, and is called where the statement has one of
-    /// the six forms alone; it is Down there only where the clock failed in this call. At any other address exactly one line is
-    /// exchanged, which asks this statement there, and the answer is that of the bytes that came back for it. At a port that was
-    /// not reached it is Down, and nothing is exchanged.
+    /// the six forms alone; it is Down there only where the clock failed in this call. At any other address the one call of the wires is
+    /// an exchange of the line that asks this statement there, and the answer is that of the bytes that came back for it. At a port
+    /// that was not reached it is Down, and the wires are not called.
     fn ask<R: Net<Listener = TcpListener, Stream = TcpStream> + SystemClock>(
         &mut self,
         rt: &R,
         port: u64,
         statement: &Formula,
     ) -> Ask
-        ensures said { all_told self.new.said ≡ all_told self.old.said ++ record { port = port; statement = formula_tree statement.now; answer = result } ∷ [] }
-        ensures asks { self.new.asks ≡ one_more self.old.asks }
-        ensures reached { Some self.new.reached ≡ Some self.old.reached }
-        ensures later { self.old.faults ≤ self.new.faults }
-        ensures count { self.new.faults ≡ faults_after_ask result self.old.faults }
-        ensures over_wires { IsAskedAt self.old.reached port (formula_tree statement.now) (W.exchanged self.old.wires) (W.exchanged self.new.wires) result }
-        ensures unreached { address_at self.old.reached port ≡ None → result ≡ Ask.Down }
-        ensures by_clock { address_at self.old.reached port ≡ Some (codes "clock") → result ≡ clock_answer (C.given self.new.clock) (formula_tree statement.now) }
-        ensures clock_down { address_at self.old.reached port ≡ Some (codes "clock") → result ≡ Ask.Down → Rose (C.faults self.old.clock) (C.faults self.new.clock) }
-        ensures clock_called { NeedsClock self.old.reached port (formula_tree statement.now) → C.calls self.new.clock ≡ one_more (C.calls self.old.clock) }
-        ensures clock_rests { ¬ NeedsClock self.old.reached port (formula_tree statement.now) → self.new.clock ≡ self.old.clock }
+        ensures history { self.new.history ≡ with_call self.old.history (asked (record { port = port; statement = formula_tree statement.now; answer = result })) }
+        ensures over_wires { IsAskedAt (reached_in self.old.history) port (formula_tree statement.now) (W.calls self.old.wires) (W.calls self.new.wires) result }
+        ensures unreached { address_at (reached_in self.old.history) port ≡ None → result ≡ Ask.Down }
+        ensures by_clock { address_at (reached_in self.old.history) port ≡ Some (codes "clock") → result ≡ clock_answer (C.given self.new.clock) (formula_tree statement.now) }
+        ensures clock_down { address_at (reached_in self.old.history) port ≡ Some (codes "clock") → result ≡ Ask.Down → Rose (C.faults self.old.clock) (C.faults self.new.clock) }
+        ensures clock_called { NeedsClock (reached_in self.old.history) port (formula_tree statement.now) → C.calls self.new.clock ≡ one_more (C.calls self.old.clock) }
+        ensures clock_rests { ¬ NeedsClock (reached_in self.old.history) port (formula_tree statement.now) → self.new.clock ≡ self.old.clock }
     {
         let answer = self.answer(rt, port, statement);
-        match answer {
-            Ask::Down => self.faults = self.faults.saturating_add(1),
-            Ask::Yes | Ask::No | Ask::NoMemory => {}
-        }
-        self.asks = self.asks.saturating_add(1);
-        self.said.tell(port, statement, answer);
+        let statement = Snapshot::of(statement);
+        self.history.add(LoggedCall::Asked {
+            port,
+            statement,
+            answer,
+        });
         answer
     }
 
     /// As of any panel, with a share of the clock. It connects for itself at its first ask at each port. It never fails.
     fn share(&mut self) -> Shared<AuthorityPanel<C, W>>
-        ensures fresh { IfMade result (λ share. IsFresh (all_told share.said) share.asks share.faults) }
-        ensures shared { IfMade result (λ share. Some share.reached ≡ Some self.old.reached) }
-        ensures said { all_told self.new.said ≡ all_told self.old.said }
-        ensures asks { self.new.asks ≡ self.old.asks }
-        ensures reached { Some self.new.reached ≡ Some self.old.reached }
-        ensures later { self.old.faults ≤ self.new.faults }
-        ensures count { self.new.faults ≡ faults_after_share result self.old.faults }
+        ensures fresh { IfMade result (λ share. share.history ≡ share_of self.old.history) }
+        ensures history { self.new.history ≡ with_call self.old.history (share_call result) }
         ensures clock { IfMade result (λ share. (C.given share.clock ≡ None) × (C.calls share.clock ≡ 0) × (C.faults share.clock ≡ 0)) }
         ensures clock_rests { self.new.clock ≡ self.old.clock }
-        ensures wires { IfMade result (λ share. W.exchanged share.wires ≡ []) }
+        ensures wires { IfMade result (λ share. W.calls share.wires ≡ []) }
         ensures wires_rest { self.new.wires ≡ self.old.wires }
         ensures sound { result ≢ Shared.Failed }
     {
-        let Ok(addresses) = copies(self.alloc, self.addresses.as_slice()) else {
-            return Shared::NoMemory;
-        };
-        let Ok(wires) = self.wires.share(self.alloc) else {
-            return Shared::NoMemory;
-        };
-        let clock = self.clock.share();
-        Shared::Made(AuthorityPanel::at(self.alloc, clock, wires, addresses))
+        match self.shared() {
+            Ok(share) => {
+                self.history.add(LoggedCall::Shared);
+                Shared::Made(share)
+            }
+            Err(AllocError) => {
+                self.history.add(LoggedCall::NoRoomToShare);
+                Shared::NoMemory
+            }
+        }
     }
+}
+
+/// The call by which an address was to be reached.
+fn reached(reach: Reach, port: u64, address: &[u8]) -> LoggedCall
+    ensures { call_of result ≡ reach_call port address.now reach }
+{
+    let address = History::of(address);
+    match reach {
+        Reach::Ready => LoggedCall::Reached { port, address },
+        Reach::Failed => LoggedCall::NotReached { port, address },
+    }
+}
+
+/// Connects to an address and keeps it for the port. A failure leaves all as it was.
+fn connect<W: Wires, R: Net<Listener = TcpListener, Stream = TcpStream> + SystemClock>(
+    rt: &R,
+    wires: &mut W,
+    addresses: &mut Vec<Option<Address>>,
+    port: u64,
+    address: &[u8],
+) -> Reach
+    requires { length addresses.old.items ≡ 16 }
+    ensures kept { map address_bytes addresses.new.items ≡ kept_after result port address.now (map address_bytes addresses.old.items) }
+    ensures count { length addresses.new.items ≡ 16 }
+    ensures wires_called { IsReachedOver port address.now (W.calls wires.old) (W.calls wires.new) result }
+    ensures outside { 16 ≤ port → result ≡ Reach.Failed }
+    ensures long { 64 < length address.now → result ≡ Reach.Failed }
+    ensures clock { port < 16 → address.now ≡ codes "clock" → result ≡ Reach.Ready }
+{
+    let Some(place) = copied(address) else {
+        return Reach::Failed;
+    };
+    if port >= PORTS {
+        return Reach::Failed;
+    }
+    match wired(rt, wires, port, address) {
+        Reach::Ready => {}
+        Reach::Failed => return Reach::Failed,
+    }
+    addresses[port as usize] = Some(place);
+    Reach::Ready
 }
 
 /// Has wires reach an address: at `clock` there is nothing to connect to.
@@ -261,8 +256,9 @@ fn wired<W: Wires, R: Net<Listener = TcpListener, Stream = TcpStream> + SystemCl
     port: u64,
     address: &[u8],
 ) -> Reach
-    requires { port < 16 }
-    ensures nothing_asked { W.exchanged wires.new ≡ W.exchanged wires.old }
+    requires port { port < 16 }
+    requires fits { length address.now ≤ 64 }
+    ensures wires_called { IsReachedOver port address.now (W.calls wires.old) (W.calls wires.new) result }
     ensures clock { address.now ≡ codes "clock" → result ≡ Reach.Ready }
 {
     if address == CLOCK {
@@ -283,7 +279,7 @@ fn ask_over<W: Wires, R: Net<Listener = TcpListener, Stream = TcpStream> + Syste
     statement: &Formula,
 ) -> Ask
     requires { port < 16 }
-    ensures { IsAskedOver port address.now (formula_tree statement.now) (W.exchanged wires.old) (W.exchanged wires.new) result }
+    ensures { IsAskedOver port address.now (formula_tree statement.now) (W.calls wires.old) (W.calls wires.new) result }
 {
     let Ok(question) = question_line(alloc, statement) else {
         return Ask::NoMemory;
@@ -345,7 +341,7 @@ fn copied(bytes: &[u8]) -> Option<Address>
 
 /// The address of a port. None exactly where there is none.
 fn address_in(addresses: &[Option<Address>], port: u64) -> Option<&[u8]>
-    ensures address { option_copied result ≡ address_at (map address_bytes addresses.now) port }
+    ensures address { option_copied result ≡ kept_at (map address_bytes addresses.now) port }
     ensures within { IsSome result → port < length addresses.now }
 {
     match addresses.get(port as usize) {

@@ -1,20 +1,21 @@
 // Authorities in memory, whose answers are given beforehand.
-ghost use Rattle.std.specs.Prelude.{◌≡◌, ◌↔◌, ◌≤◌, ◌++◌, ◌∷◌, [], Option, None, IfOk, IsTrue};
+ghost use Rattle.std.specs.Prelude.{◌≡◌, ◌↔◌, IfOk, IsTrue};
 ghost use Rattle.std.specs.List.{Contains};
 ghost use Rattle.nal_term.specs.Trees.{formula_tree};
-ghost use Rattle.authority_ask.specs.AskLogs.{all_told};
-ghost use Rattle.nx_io.specs.Streams.{faults_after_reach, one_more};
-ghost use Rattle.authority_ask.specs.Memory.{Rehearsed, answer_at, rehearsal};
-ghost use Rattle.authority_ask.specs.Panels.{IfMade, IsFresh, Places, faults_after_ask, faults_after_share, reached_after};
+ghost use Rattle.nx_io.specs.Streams.{one_more};
+ghost use Rattle.authority_ask.specs.Memory.{answer_at, rehearsal, rehearsed};
+ghost use Rattle.authority_ask.specs.PanelCalls.{asked, asks_in, faults_in, reach_call, share_call, share_of, with_call};
+ghost use Rattle.authority_ask.specs.Panels.{IfMade};
 
-use crate::ask_log::AskLog;
+use crate::call_history::{CallHistory, LoggedCall};
 use crate::panels::{Ask, Panel};
 use nal_term::Formula;
-use nx_io::{Reach, Shared};
+use nx_io::{History, Reach, Shared};
 use std::alloc::{AllocError, Global};
 use std::marker::Model;
 use std::net::{Net, TcpListener, TcpStream};
 use std::rt::Clock as SystemClock;
+use std::snapshot::Snapshot;
 
 /// Calls that are counted, and the numbers of those that fail.
 #[derive(Drop)]
@@ -52,21 +53,17 @@ pub struct MemPanel {
     answers: Vec<Ask>,
     reaches: Calls,
     shares: Calls,
-    said: AskLog,
-    asks: u64,
-    faults: u64,
+    history: CallHistory,
 }
 
 impl Model for MemPanel {
     ghost use Rattle.std.specs.Coded.{codes};
-    ghost use Rattle.nal_term.specs.contracts.terms.Term as t;
-    ghost use Rattle.nal_term.specs.contracts.formulas.Formula as f;
-    ghost use Rattle.authority_ask.specs.AskLogs.{made_in};
+    ghost use Rattle.authority_ask.specs.Inner.TreeCodes.{coded_tree};
     ghost use Rattle.authority_ask.specs.Memory.{Rehearsed};
 
     ghost Value = { Rehearsed };
 
-    ghost coded = { Prim.hlevel (codes, t.the_row.coded, f.the_row.coded) };
+    ghost coded = { Prim.hlevel (codes, coded_tree (Prim.hlevel codes)) };
 
     ghost view = { λ p. record {
       answers = p.answers.items;
@@ -74,9 +71,7 @@ impl Model for MemPanel {
       share_fails = p.shares.fails.items;
       reaches = p.reaches.count;
       shares = p.shares.count;
-      said = made_in p.said;
-      asks = p.asks;
-      faults = p.faults;
+      history = p.history;
     } };
 }
 
@@ -91,37 +86,49 @@ impl MemPanel {
     ) -> Result<MemPanel, AllocError>
         ensures { IfOk result (λ panel. panel ≡ rehearsal answers.now reach_fails.now share_fails.now) }
     {
+        MemPanel::with_history(alloc, answers, reach_fails, share_fails, CallHistory::new())
+    }
+
+    // The same with this history.
+    fn with_history(
+        alloc: Global,
+        answers: &[Ask],
+        reach_fails: &[u64],
+        share_fails: &[u64],
+        history: CallHistory,
+    ) -> Result<MemPanel, AllocError>
+        ensures { IfOk result (λ panel. panel ≡ rehearsed answers.now reach_fails.now share_fails.now history) }
+    {
         Ok(MemPanel {
             alloc,
             answers: Vec::from_slice(alloc, answers)?,
             reaches: Calls::new(alloc, reach_fails)?,
             shares: Calls::new(alloc, share_fails)?,
-            said: AskLog::Start,
-            asks: 0,
-            faults: 0,
+            history,
         })
     }
 
     /// How often the panel has failed.
     pub fn faults(&self) -> u64
-        ensures { result ≡ self.now.faults }
+        ensures { result ≡ faults_in self.now.history.calls }
     {
-        self.faults
+        self.history.faults()
     }
 
     /// How often was asked.
     pub fn asks(&self) -> u64
-        ensures { result ≡ self.now.asks }
+        ensures { result ≡ asks_in self.now.history.calls }
     {
-        self.asks
+        self.history.asks()
     }
 
     /// The answer to the next ask.
     fn next_answer(&self) -> Ask
-        ensures { result ≡ answer_at self.now.answers self.now.asks }
+        ensures { result ≡ answer_at self.now.answers (asks_in self.now.history.calls) }
     {
-        if self.asks < self.answers.len() as u64 {
-            self.answers[self.asks as usize]
+        let asks = self.history.asks();
+        if asks < self.answers.len() as u64 {
+            self.answers[asks as usize]
         } else {
             Ask::No
         }
@@ -129,13 +136,7 @@ impl MemPanel {
 }
 
 impl Panel for MemPanel {
-    ghost said = { λ p. all_told p.said };
-
-    ghost asks = { λ p. p.asks };
-
-    ghost reached = { λ _. None };
-
-    ghost faults = { λ p. p.faults };
+    ghost history = { λ p. p.history };
 
     /// As of any panel. A reach fails where its number is listed, and nowhere else.
     fn reach<R: Net<Listener = TcpListener, Stream = TcpStream> + SystemClock>(
@@ -144,18 +145,22 @@ impl Panel for MemPanel {
         port: u64,
         address: &[u8],
     ) -> Reach
-        ensures said { all_told self.new.said ≡ all_told self.old.said }
-        ensures asks { self.new.asks ≡ self.old.asks }
-        ensures reached { None ≡ reached_after result port address.now None }
-        ensures later { self.old.faults ≤ self.new.faults }
-        ensures count { self.new.faults ≡ faults_after_reach result self.old.faults }
+        ensures history { self.new.history ≡ with_call self.old.history (reach_call port address.now result) }
         ensures failed { (result ≡ Reach.Failed) ↔ Contains self.old.reach_fails self.new.reaches }
-        ensures others { self.new ≡ record self.old { reaches = one_more self.old.reaches; faults = self.new.faults } }
+        ensures others { self.new ≡ record self.old { reaches = one_more self.old.reaches; history = self.new.history } }
     {
+        let told = History::of(address);
         if self.reaches.next_fails() {
-            self.faults = self.faults.saturating_add(1);
+            self.history.add(LoggedCall::NotReached {
+                port,
+                address: told,
+            });
             Reach::Failed
         } else {
+            self.history.add(LoggedCall::Reached {
+                port,
+                address: told,
+            });
             Reach::Ready
         }
     }
@@ -167,45 +172,46 @@ impl Panel for MemPanel {
         port: u64,
         statement: &Formula,
     ) -> Ask
-        ensures said { all_told self.new.said ≡ all_told self.old.said ++ record { port = port; statement = formula_tree statement.now; answer = result } ∷ [] }
-        ensures asks { self.new.asks ≡ one_more self.old.asks }
-        ensures later { self.old.faults ≤ self.new.faults }
-        ensures count { self.new.faults ≡ faults_after_ask result self.old.faults }
-        ensures answer { result ≡ answer_at self.old.answers self.old.asks }
-        ensures others { self.new ≡ record self.old { said = self.new.said; asks = self.new.asks; faults = self.new.faults } }
+        ensures history { self.new.history ≡ with_call self.old.history (asked (record { port = port; statement = formula_tree statement.now; answer = result })) }
+        ensures answer { result ≡ answer_at self.old.answers (asks_in self.old.history.calls) }
+        ensures others { self.new ≡ record self.old { history = self.new.history } }
     {
         let answer = self.next_answer();
-        match answer {
-            Ask::Down => self.faults = self.faults.saturating_add(1),
-            Ask::Yes | Ask::No | Ask::NoMemory => {}
-        }
-        self.asks = self.asks.saturating_add(1);
-        self.said.tell(port, statement, answer);
+        let statement = Snapshot::of(statement);
+        self.history.add(LoggedCall::Asked {
+            port,
+            statement,
+            answer,
+        });
         answer
     }
 
     /// As of any panel. The share has the same answers from the first on, and the same numbers of calls that fail. A share
     /// fails where its number is listed, and nowhere else.
     fn share(&mut self) -> Shared<MemPanel>
-        ensures fresh { IfMade result (λ share. IsFresh (all_told share.said) share.asks share.faults) }
-        ensures said { all_told self.new.said ≡ all_told self.old.said }
-        ensures asks { self.new.asks ≡ self.old.asks }
-        ensures later { self.old.faults ≤ self.new.faults }
-        ensures count { self.new.faults ≡ faults_after_share result self.old.faults }
-        ensures same { IfMade result (λ share. share ≡ rehearsal self.old.answers self.old.reach_fails self.old.share_fails) }
+        ensures fresh { IfMade result (λ share. share.history ≡ share_of self.old.history) }
+        ensures history { self.new.history ≡ with_call self.old.history (share_call result) }
+        ensures same { IfMade result (λ share. share ≡ rehearsed self.old.answers self.old.reach_fails self.old.share_fails (share_of self.old.history)) }
         ensures failed { (result ≡ Shared.Failed) ↔ Contains self.old.share_fails self.new.shares }
-        ensures others { self.new ≡ record self.old { shares = one_more self.old.shares; faults = self.new.faults } }
+        ensures others { self.new ≡ record self.old { shares = one_more self.old.shares; history = self.new.history } }
     {
         if self.shares.next_fails() {
-            self.faults = self.faults.saturating_add(1);
+            self.history.add(LoggedCall::NotShared);
             return Shared::Failed;
         }
+        let history = self.history.of_share();
         let answers = self.answers.as_slice();
         let reaches = self.reaches.fails.as_slice();
         let shares = self.shares.fails.as_slice();
-        match MemPanel::new(self.alloc, answers, reaches, shares) {
-            Ok(share) => Shared::Made(share),
-            Err(AllocError) => Shared::NoMemory,
+        match MemPanel::with_history(self.alloc, answers, reaches, shares, history) {
+            Ok(share) => {
+                self.history.add(LoggedCall::Shared);
+                Shared::Made(share)
+            }
+            Err(AllocError) => {
+                self.history.add(LoggedCall::NoRoomToShare);
+                Shared::NoMemory
+            }
         }
     }
 }

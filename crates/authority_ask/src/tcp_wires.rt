@@ -1,9 +1,9 @@
 // Connections to authorities over TCP.
 ghost use Rattle.std.specs.Prelude.{◌≡◌, ◌<◌, ◌≤◌, ◌∷◌, ◌++◌, [], IfOk, length, take};
-ghost use Rattle.authority_ask.specs.Exchanges.{exchanges_in};
+ghost use Rattle.authority_ask.specs.WireLogs.{wire_calls_of};
 
 use crate::connections::Connection;
-use crate::exchange_log::ExchangeLog;
+use crate::wire_log::{LoggedWireCall, WireLog};
 use crate::wires::Wires;
 use nx_io::Reach;
 use std::alloc::{AllocError, Global};
@@ -15,20 +15,21 @@ use std::rt::Clock as SystemClock;
 const PORTS: u64 = 16;
 
 /// A connection for each port, which is made anew where it can't be used again. `docs/FORMATS.md`, "Authorities", states the lines
-/// that go over it. Contracts see what was exchanged.
+/// that go over it. Contracts see its calls.
 #[derive(Drop)]
 pub struct TcpWires {
     connections: Vec<Option<Connection>>,
-    log: ExchangeLog,
+    log: WireLog,
 }
 
 impl Model for TcpWires {
     ghost use Rattle.std.specs.Prelude.{◌≡◌, List, length};
-    ghost use Rattle.authority_ask.specs.Exchanges.{Exchange, exchanges_in};
+    ghost use Rattle.authority_ask.specs.WireCalls.{WireCall};
+    ghost use Rattle.authority_ask.specs.WireLogs.{wire_calls_of};
 
-    ghost Value = { List Exchange };
+    ghost Value = { List WireCall };
 
-    ghost view = { λ w. exchanges_in w.log };
+    ghost view = { λ w. wire_calls_of w.log };
 
     ghost invariant = { λ w. length w.connections.items ≡ 16 };
 }
@@ -40,13 +41,13 @@ impl TcpWires {
     {
         Ok(TcpWires {
             connections: no_connections(alloc)?,
-            log: ExchangeLog::Start,
+            log: WireLog::Start,
         })
     }
 }
 
 impl Wires for TcpWires {
-    ghost exchanged = { λ w. w };
+    ghost calls = { λ w. w };
 
     fn connect<R: Net<Listener = TcpListener, Stream = TcpStream> + SystemClock>(
         &mut self,
@@ -54,17 +55,21 @@ impl Wires for TcpWires {
         port: u64,
         address: &[u8],
     ) -> Reach {
-        match Connection::open(rt, address) {
+        let reach = match Connection::open(rt, address) {
             Some(connection) => {
                 self.connections[port as usize] = Some(connection);
                 Reach::Ready
             }
             None => Reach::Failed,
-        }
+        };
+        let call = LoggedWireCall::connecting(port, address, reach);
+        self.log.add(call);
+        reach
     }
 
     fn disconnect(&mut self, port: u64) {
         self.connections[port as usize] = None;
+        self.log.add(LoggedWireCall::Disconnected { port });
     }
 
     fn exchange<R: Net<Listener = TcpListener, Stream = TcpStream> + SystemClock>(
@@ -84,7 +89,8 @@ impl Wires for TcpWires {
             None => (0, None),
         };
         self.connections[port as usize] = kept;
-        self.log.tell(port, address, question, &answer[..count]);
+        let call = LoggedWireCall::exchanging(port, address, question, &answer[..count]);
+        self.log.add(call);
         count
     }
 

@@ -1,20 +1,20 @@
 -- What was asked, line by line.
-use Rattle.std.proofs.Common.{◌≡◌, ◌<◌, ◌≤◌, ◌+◌, ◌-◌, ℕ, zero, suc, List, [], ◌∷◌, ◌++◌, length, map, filter, take, Bool, true, false, Some, cond, refl, sym, ap, subst, ◌∙◌, arith, append_assoc, length-append}
+use Rattle.std.proofs.Common.{◌≡◌, ◌<◌, ◌≤◌, ◌+◌, ◌-◌, ℕ, zero, suc, List, [], ◌∷◌, ◌++◌, length, map, filter, take, Bool, true, false, Some, refl, sym, ap, ◌∙◌, arith, length-append}
 use Rattle.std.specs.List.{slice_get}
 use Rattle.std.proofs.lemmas.List.{append-nil, map-append}
 use Rattle.nal_term.specs.Trees.{TermTree, FormulaTree, says}
 use Rattle.proof_lines.specs.declared.rules.Rule.{Rule}
 use Rattle.proof_lines.specs.declared.rules.Rule.TheVariants.{Ask as AskRule}
 use Rattle.proof_lines.specs.Lines.{LineTree}
-use Rattle.nal_rules.specs.Asking.{Asked, ask_first, asks_for, port_in}
+use Rattle.nal_rules.specs.Asking.{Asked, ask_first, port_in}
 use Rattle.nal_rules.specs.Faults.{is_ask, line_at}
 use Rattle.nal_rules.specs.Verdicts.{IsAskOf}
-use Rattle.nx_io.specs.Streams.{Grows, gained, one_more}
-use Rattle.nx_io.proofs.ForCallers.{gained-by, grows-by}
+use Rattle.authority_ask.specs.PanelCalls.{HasOnlyAsked, PanelHistory, asked_since}
 use Rattle.authority_ask.specs.Panels.{Told}
+use Rattle.authority_ask.proofs.ForCallers.{only_through, since_through}
 use Rattle.authority_ask.specs.declared.panels.Ask.{Ask}
 use Rattle.authority_ask.specs.declared.panels.Ask.TheVariants.{Yes}
-use Rattle.guard_core.specs.Judging.{IsAskedAt, IsStoppedAt, all_asked, asks_after, told_of}
+use Rattle.guard_core.specs.Judging.{IsAskedAt, IsStoppedAt, all_asked, told_of}
 use Rattle.guard_core.specs.Inner.Stages.{AreAskable}
 
 -- ---- the lines that pass a test
@@ -76,15 +76,10 @@ asks_before ls i = filter is_ask (take i ls)
 abbrev pub told_before : List LineTree → List (TermTree × ℕ) → ℕ → List Told
 told_before ls bound i = map told_of (all_asked bound (asks_before ls i))
 
-asks_after-append : (xs : List Told) (t : Told) (n : ℕ) → asks_after (xs ++ t ∷ []) n ≡ one_more (asks_after xs n)
-asks_after-append [] t n = refl
-asks_after-append (x ∷ xs) t n = asks_after-append xs t (one_more n)
-
 -- within the asks: those of the lines before a place were made, and answered Yes
-pub record IsAsking (ls : List LineTree) (bound : List (TermTree × ℕ)) (i : ℕ) (said said_now : List Told) (asks asks_now faults faults_now count : ℕ) : Type 0 where
-  pub said_is : said_now ≡ said ++ told_before ls bound i
-  pub asks_is : asks_now ≡ asks_after (told_before ls bound i) asks
-  pub faults_is : faults_now ≡ faults
+pub record IsAsking (ls : List LineTree) (bound : List (TermTree × ℕ)) (i : ℕ) (before now : PanelHistory) (count : ℕ) : Type 0 where
+  pub only : HasOnlyAsked before now
+  pub said_is : asked_since before now ≡ told_before ls bound i
   pub count_is : count ≡ length (asks_before ls i)
   pub few : count ≤ i
 
@@ -128,57 +123,44 @@ module _ (ls : List LineTree) (bound : List (TermTree × ℕ)) (i k : ℕ) (next
       ∙ ap (λ (ys : List Asked). map told_of (all_asked bound (asks_before ls i) ++ ys)) (one_asked bound a.line a.principal a.statement a.port a.says_is a.port_is)
       ∙ map-append told_of (all_asked bound (asks_before ls i)) (record { port = a.port; statement = a.statement; affirmed = true } ∷ [])
 
-  pub asked_yes : {said before told : List Told} {asks asks_before_it asks_now faults faults_before_it faults_now count : ℕ}
-      → IsAsking ls bound i said before asks asks_before_it faults faults_before_it count
-      → IsAskedAt ls bound k Yes before told → asks_now ≡ one_more asks_before_it → faults_now ≡ faults_before_it
-      → IsAsking ls bound k said told asks asks_now faults faults_now (count + 1)
-  asked_yes {said = said} {asks = asks} so_far a more still =
-      let one : Told = record { port = a.port; statement = a.statement; answer = Yes } in
-      let before_it = told_before ls bound i in
+  -- what is asked behind what was asked
+  told_on : {start before now : PanelHistory} {count : ℕ} (more : List Told) → IsAsking ls bound i start before count → HasOnlyAsked before now → asked_since before now ≡ more
+      → asked_since start now ≡ told_before ls bound i ++ more
+  told_on {start = start} {before = before} {now = now} more so_far only told_is =
+      since_through start before now so_far.only only ∙ ap (λ (told : List Told). asked_since start before ++ told) told_is ∙ ap (λ (told : List Told). told ++ more) so_far.said_is
+
+  pub asked_yes : {start before now : PanelHistory} {count : ℕ} → IsAsking ls bound i start before count → HasOnlyAsked before now
+      → IsAskedAt ls bound k Yes [] (asked_since before now) → IsAsking ls bound k start now (count + 1)
+  asked_yes {start = start} {before = before} {now = now} so_far only a =
       let lines = ap length (one_before a) ∙ length-append (asks_before ls i) (a.line ∷ []) in
       let count_is = so_far.count_is in
       let few = so_far.few in
       record {
-        said_is =
-            a.told_is ∙ ap (λ (xs : List Told). xs ++ one ∷ []) so_far.said_is ∙ append_assoc said before_it (one ∷ [])
-            ∙ ap (λ (xs : List Told). said ++ xs) (sym (told_more a));
-        asks_is =
-            more ∙ ap one_more so_far.asks_is ∙ sym (asks_after-append before_it one asks)
-            ∙ ap (λ (xs : List Told). asks_after xs asks) (sym (told_more a));
-        faults_is = still ∙ so_far.faults_is;
+        only = only_through start before now so_far.only only;
+        said_is = told_on _ so_far only a.told_is ∙ sym (told_more a);
         count_is = omega (arith, lines, count_is);
         few = omega (arith, few, next);
       }
 
-  pub asked_nothing : {said before told : List Told} {asks asks_before_it asks_now faults faults_before_it faults_now count : ℕ}
-      → IsAsking ls bound i said before asks asks_before_it faults faults_before_it count → AreAskable ls bound
-      → ((p : TermTree) (s : FormulaTree) → IsAskOf ls k p s → ⊥) → i < length ls → told ≡ before → asks_now ≡ asks_before_it → faults_now ≡ faults_before_it
-      → IsAsking ls bound k said told asks asks_now faults faults_now count
-  asked_nothing {said = said} {asks = asks} so_far askable none within same unasked still =
+  pub asked_nothing : {start before now : PanelHistory} {count : ℕ} → IsAsking ls bound i start before count → AreAskable ls bound
+      → ((p : TermTree) (s : FormulaTree) → IsAskOf ls k p s → ⊥) → i < length ls → HasOnlyAsked before now → asked_since before now ≡ []
+      → IsAsking ls bound k start now count
+  asked_nothing {start = start} {before = before} {now = now} so_far askable none within only silent =
       let over = passed_over askable none within in
       let few = so_far.few in
       record {
-        said_is = same ∙ so_far.said_is ∙ ap (λ (ys : List LineTree). said ++ map told_of (all_asked bound ys)) (sym over);
-        asks_is = unasked ∙ so_far.asks_is ∙ ap (λ (ys : List LineTree). asks_after (map told_of (all_asked bound ys)) asks) (sym over);
-        faults_is = still ∙ so_far.faults_is;
+        only = only_through start before now so_far.only only;
+        said_is =
+            told_on [] so_far only silent ∙ append-nil (told_before ls bound i)
+            ∙ ap (λ (ys : List LineTree). map told_of (all_asked bound ys)) (sym over);
         count_is = so_far.count_is ∙ ap length (sym over);
         few = omega (arith, few, next);
       }
 
-  -- what was gained where the asks stop at this line
-  pub gained_to : {answer : Ask} {said before told : List Told} {asks asks_now faults faults_now count : ℕ} → IsAsking ls bound i said before asks asks_now faults faults_now count
-      → (a : IsAskedAt ls bound k answer before told) → told ≡ said ++ (told_before ls bound i ++ record { port = a.port; statement = a.statement; answer = answer } ∷ [])
-  gained_to {answer = answer} {said = said} so_far a =
-      let one : Told = record { port = a.port; statement = a.statement; answer = answer } in
-      a.told_is ∙ ap (λ (xs : List Told). xs ++ one ∷ []) so_far.said_is ∙ append_assoc said (told_before ls bound i) (one ∷ [])
-
-  pub grew_to : {answer : Ask} {said before told : List Told} {asks asks_now faults faults_now count : ℕ} → IsAsking ls bound i said before asks asks_now faults faults_now count
-      → IsAskedAt ls bound k answer before told → Grows said told
-  grew_to {said = said} {told = told} so_far a = grows-by said told _ (gained_to so_far a)
-
-  pub stopped_at : {answer : Ask} {said before told : List Told} {asks asks_now faults faults_now count : ℕ} → IsAsking ls bound i said before asks asks_now faults faults_now count
-      → IsAskedAt ls bound k answer before told → IsStoppedAt ls bound k answer (gained said told)
-  stopped_at {said = said} {told = told} so_far a =
+  -- the asks stop at this line
+  pub stopped_at : {answer : Ask} {start before now : PanelHistory} {count : ℕ} → IsAsking ls bound i start before count → HasOnlyAsked before now
+      → IsAskedAt ls bound k answer [] (asked_since before now) → IsStoppedAt ls bound k answer (asked_since start now)
+  stopped_at so_far only a =
       let place : k - 1 ≡ i = omega (arith, next) in
       record {
         line = a.line;
@@ -189,29 +171,16 @@ module _ (ls : List LineTree) (bound : List (TermTree × ℕ)) (i k : ℕ) (next
         is_ask_line = a.is_ask_line;
         says_is = a.says_is;
         port_is = a.port_is;
-        told_is = rw place (gained-by said told _ (gained_to so_far a));
+        told_is = rw place (told_on _ so_far only a.told_is);
       }
 
-  pub asks_to : {answer : Ask} {said before told : List Told} {asks asks_before_it asks_now faults faults_now count : ℕ}
-      → IsAsking ls bound i said before asks asks_before_it faults faults_now count
-      → IsAskedAt ls bound k answer before told → asks_now ≡ one_more asks_before_it → asks_now ≡ asks_after (gained said told) asks
-  asks_to {answer = answer} {said = said} {told = told} {asks = asks} so_far a more =
-      more ∙ ap one_more so_far.asks_is ∙ sym (asks_after-append (told_before ls bound i) (record { port = a.port; statement = a.statement; answer = answer }) asks)
-      ∙ ap (λ (xs : List Told). asks_after xs asks) (sym (gained-by said told _ (gained_to so_far a)))
-
 -- all lines were gone through
-module _ {ls : List LineTree} {bound : List (TermTree × ℕ)} {n : ℕ} {said told : List Told} {asks asks_now faults faults_now count : ℕ} (so_far : IsAsking ls bound n said told asks asks_now faults faults_now count) (all : n ≡ length ls) where
+module _ {ls : List LineTree} {bound : List (TermTree × ℕ)} {n : ℕ} {before now : PanelHistory} {count : ℕ} (so_far : IsAsking ls bound n before now count) (all : n ≡ length ls) where
   whole : asks_before ls n ≡ filter is_ask ls
   whole = ap (filter is_ask) (take_whole ls n all)
 
-  pub grew_whole : Grows said told
-  grew_whole = grows-by said told _ so_far.said_is
-
-  pub gained_whole : gained said told ≡ map told_of (all_asked bound (filter is_ask ls))
-  gained_whole = gained-by said told _ so_far.said_is ∙ ap (λ (ys : List LineTree). map told_of (all_asked bound ys)) whole
+  pub told_whole : asked_since before now ≡ map told_of (all_asked bound (filter is_ask ls))
+  told_whole = so_far.said_is ∙ ap (λ (ys : List LineTree). map told_of (all_asked bound ys)) whole
 
   pub count_whole : count ≡ length (filter is_ask ls)
   count_whole = so_far.count_is ∙ ap length whole
-
-  pub asks_whole : asks_now ≡ asks_after (gained said told) asks
-  asks_whole = so_far.asks_is ∙ ap (λ (xs : List Told). asks_after xs asks) (sym (gained-by said told _ so_far.said_is))

@@ -1,31 +1,30 @@
 -- What the guard finds is the verdict.
-use Rattle.std.proofs.Common.{◌≡◌, ◌<◌, ◌≤◌, ◌+◌, ◌-◌, ◌⊎◌, inl, inr, ℕ, zero, suc, List, [], ◌∷◌, ◌++◌, length, map, filter, take, drop, Bool, true, false, Contains, Option, Some, None, Result, Ok, Err, IfOk, IfErr, refl, sym, ap, subst, ◌∙◌, arith}
+use Rattle.std.proofs.Common.{◌≡◌, ◌<◌, ◌-◌, inr, ℕ, zero, suc, List, [], ◌∷◌, ◌++◌, length, map, filter, take, Bool, true, false, Option, Some, None, Result, Ok, Err, IfOk, IfErr, refl, sym, ap, subst, ◌∙◌, arith}
 use Rattle.std.specs.List.{slice_get}
 use Rattle.std.specs.Prelude.{unwrap_or}
 use Rattle.std.proofs.lemmas.List.{append-nil, map-append}
 use Rattle.std.proofs.lemmas.Option.{slice_get_within}
-use Rattle.nal_term.specs.Trees.{TermTree, FormulaTree, verum, falsum, atom, test, and, or, implies, forall, exists, says, speaks_for, speaks_for_on}
-use Rattle.proof_lines.specs.declared.rules.Rule.TheVariants.{Ask as AskRule}
+use Rattle.nal_term.specs.Trees.{TermTree, FormulaTree, says}
 use Rattle.proof_lines.specs.declared.lines.Line.{Line as CodeLine}
 use Rattle.proof_lines.specs.Lines.{LineTree, line_trees}
-use Rattle.nal_rules.specs.Asking.{Asked, IsAsked, IsDecided, ask_first, asks_for, lines_of, port_in}
+use Rattle.nal_rules.specs.Asking.{Asked, IsDecided, ask_first, asks_for, lines_of, port_in}
 use Rattle.nal_rules.specs.Faults.{HasLowestFault, IsFaultless, IsSays, is_ask, line_at}
-use Rattle.nal_rules.specs.Verdicts.{CaseTree, HasCause, IsAnsweredNo, IsLowest, IsMissingLabel, IsUnbound, IsVerdict, ask_place, cause_number}
+use Rattle.nal_rules.specs.Verdicts.{CaseTree, HasCause, IsAnsweredNo, IsLowest, IsMissingLabel, IsUnbound, IsVerdict, cause_number}
 use Rattle.nal_rules.specs.declared.verdicts.Fault.{Fault}
 use Rattle.nal_rules.specs.declared.verdicts.Fault.TheVariants.{NotAsk}
 use Rattle.nal_rules.specs.declared.verdicts.Cause.{Cause}
 use Rattle.nal_rules.specs.declared.verdicts.Cause.TheVariants.{GoalUnset, NoProof, Line, LabelMissing, NotBound, AuthorityNo}
 use Rattle.nal_rules.specs.declared.verdicts.Verdict.TheVariants.{Denied as DeniedVerdict}
 use Rattle.authority_ask.specs.Panels.{Told}
-use Rattle.authority_ask.specs.declared.panels.Ask.TheVariants.{Yes, No}
+use Rattle.authority_ask.specs.declared.panels.Ask.TheVariants.{No}
 use Rattle.guard_core.specs.declared.findings.Finding.{Finding}
 use Rattle.guard_core.specs.declared.findings.Finding.TheVariants.{Allowed, Denied}
 use Rattle.guard_core.specs.declared.findings.GuardError.{GuardError}
 use Rattle.guard_core.specs.declared.findings.GuardError.TheVariants.{Down, Memory}
-use Rattle.guard_core.specs.Judging.{IsAskedAt, IsBrokenOff, IsJudged, IsStoppedAt, all_asked, answers_in, is_yes, told_of, verdict_of}
+use Rattle.guard_core.specs.Judging.{IsBrokenOff, IsJudged, IsStoppedAt, all_asked, answers_in, is_yes, told_of}
 use Rattle.guard_core.specs.Inner.Stages.{AreAskable, HaveAnswered}
 use Rattle.proof_check.proofs.ForCallers.{no_port}
-use Rattle.guard_core.proofs.Asks.{all_more, ask_passes, passes_ask, take_whole}
+use Rattle.guard_core.proofs.Asks.{ask_passes, passes_ask, take_whole}
 
 -- ---- a case that is decided without authorities
 

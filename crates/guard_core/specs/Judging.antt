@@ -1,6 +1,5 @@
 -- What the guard finds of a case, by what the panel tells of the asks that it made for it.
-use Rattle.std.specs.Prelude.{◌≡◌, ℕ, ◌-◌, ◌⊎◌, List, [], ◌∷◌, ◌++◌, length, map, filter, take, Bool, true, false, cond, Some, Ok, Err}
-use Rattle.std.specs.declared.result.Result.{Result}
+use Rattle.std.specs.Prelude.{◌≡◌, ℕ, ◌-◌, ◌⊎◌, List, [], ◌∷◌, ◌++◌, length, map, filter, take, Bool, true, false, cond, Some}
 use Rattle.nal_term.specs.Trees.{TermTree, FormulaTree, says}
 use Rattle.proof_lines.specs.declared.rules.Rule.TheVariants.{Ask as AskRule}
 use Rattle.proof_lines.specs.Lines.{LineTree}
@@ -9,7 +8,6 @@ use Rattle.nal_rules.specs.Faults.{is_ask, line_at}
 use Rattle.nal_rules.specs.Verdicts.{CaseTree, IsVerdict}
 use Rattle.nal_rules.specs.declared.verdicts.Verdict.{Verdict}
 use Rattle.nal_rules.specs.declared.verdicts.Verdict.TheVariants.{Allowed as AllowedVerdict, Denied as DeniedVerdict}
-use Rattle.nx_io.specs.Streams.{one_more}
 use Rattle.authority_ask.specs.Panels.{Told}
 use Rattle.authority_ask.specs.declared.panels.Ask.{Ask}
 use Rattle.authority_ask.specs.declared.panels.Ask.TheVariants.{Yes, No, Down as DownAnswer, NoMemory}
@@ -75,14 +73,3 @@ IsStoppedAt ls bound k answer told = IsAskedAt ls bound k answer (map told_of (a
 abbrev pub IsBrokenOff : CaseTree → List Told → GuardError → Type 0
 IsBrokenOff c told (Down k) = (IsDecided c → ⊥) × IsStoppedAt (lines_of c) c.bound k DownAnswer told
 IsBrokenOff c told Memory = (told ≡ []) ⊎ ((k : ℕ) × (IsDecided c → ⊥) × IsStoppedAt (lines_of c) c.bound k NoMemory told)
-
--- the count of a panel's faults after a case was judged: one more at Down, the same otherwise
-abbrev pub faults_after_judging : Result Finding GuardError → ℕ → ℕ
-faults_after_judging (Ok finding) faults = faults
-faults_after_judging (Err (Down k)) faults = one_more faults
-faults_after_judging (Err Memory) faults = faults
-
--- how often a panel was asked, after these asks
-abbrev pub asks_after : List Told → ℕ → ℕ
-asks_after [] asks = asks
-asks_after (t ∷ ts) asks = asks_after ts (one_more asks)

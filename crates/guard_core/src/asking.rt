@@ -1,13 +1,12 @@
 // The asks that a proof needs, in the order of its ask lines.
-ghost use Rattle.std.specs.Prelude.{◌≡◌, ◌+◌, ◌≤◌, IfNone, IfSome, ℕ, map, length};
+ghost use Rattle.std.specs.Prelude.{◌≡◌, [], IfNone, IfSome, map};
 ghost use Rattle.nal_term.specs.Trees.{FormulaTree, TermTree};
 ghost use Rattle.proof_lines.specs.Lines.{line_trees};
 ghost use Rattle.nal_rules.specs.Asking.{binding_tree};
 ghost use Rattle.nal_rules.specs.Verdicts.{IsAskOf};
-ghost use Rattle.nx_io.specs.Streams.{Grows, gained, one_more};
-ghost use Rattle.authority_ask.specs.Panels.{faults_after_ask};
+ghost use Rattle.authority_ask.specs.PanelCalls.{HasOnlyAsked, asked_since};
 ghost use Rattle.guard_core.specs.Inner.Stages.{AreAskable, HaveAnswered};
-ghost use Rattle.guard_core.specs.Judging.{IsAskedAt, asks_after, faults_after_judging};
+ghost use Rattle.guard_core.specs.Judging.{IsAskedAt};
 
 use crate::findings::{Finding, GuardError};
 use authority_ask::{Ask, Panel};
@@ -25,12 +24,8 @@ pub fn ask_lines<P: Panel, R: Net<Listener = TcpListener, Stream = TcpStream> + 
     panel: &mut P,
 ) -> Result<Finding, GuardError>
     requires askable { AreAskable (line_trees proof.now) (map binding_tree bound.now) }
-    ensures grows { Grows (P.said panel.old) (P.said panel.new) }
-    ensures answered { HaveAnswered (line_trees proof.now) (map binding_tree bound.now) (gained (P.said panel.old) (P.said panel.new)) result }
-    ensures asks { P.asks panel.new ≡ asks_after (gained (P.said panel.old) (P.said panel.new)) (P.asks panel.old) }
-    ensures reached { P.reached panel.new ≡ P.reached panel.old }
-    ensures later { P.faults panel.old ≤ P.faults panel.new }
-    ensures count { P.faults panel.new ≡ faults_after_judging result (P.faults panel.old) }
+    ensures asked { HasOnlyAsked (P.history panel.old) (P.history panel.new) }
+    ensures answered { HaveAnswered (line_trees proof.now) (map binding_tree bound.now) (asked_since (P.history panel.old) (P.history panel.new)) result }
 {
     let mut asks = 0;
     for index in 0..proof.count() {
@@ -56,14 +51,9 @@ fn ask_line<P: Panel, R: Net<Listener = TcpListener, Stream = TcpStream> + Clock
 ) -> Option<Ask>
     requires askable { AreAskable (line_trees proof.now) (map binding_tree bound.now) }
     ensures none { IfNone result ((p : TermTree) (s : FormulaTree) → ¬ IsAskOf (line_trees proof.now) number p s) }
-    ensures silent { IfNone result (P.said panel.new ≡ P.said panel.old) }
-    ensures unasked { IfNone result (P.asks panel.new ≡ P.asks panel.old) }
-    ensures still { IfNone result (P.faults panel.new ≡ P.faults panel.old) }
-    ensures asked { IfSome result (λ answer. IsAskedAt (line_trees proof.now) (map binding_tree bound.now) number answer (P.said panel.old) (P.said panel.new)) }
-    ensures asks { IfSome result (λ _. P.asks panel.new ≡ one_more (P.asks panel.old)) }
-    ensures count { IfSome result (λ answer. P.faults panel.new ≡ faults_after_ask answer (P.faults panel.old)) }
-    ensures reached { P.reached panel.new ≡ P.reached panel.old }
-    ensures later { P.faults panel.old ≤ P.faults panel.new }
+    ensures silent { IfNone result (asked_since (P.history panel.old) (P.history panel.new) ≡ []) }
+    ensures told { IfSome result (λ answer. IsAskedAt (line_trees proof.now) (map binding_tree bound.now) number answer [] (asked_since (P.history panel.old) (P.history panel.new))) }
+    ensures asked { HasOnlyAsked (P.history panel.old) (P.history panel.new) }
 {
     let (principal, statement) = question(proof, number)?;
     let Some(port) = port_of(bound, principal) else {

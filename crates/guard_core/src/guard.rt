@@ -1,8 +1,8 @@
 // The verdict on a case, with the answers that authorities give.
-ghost use Rattle.std.specs.Prelude.{◌≡◌, ◌≤◌, IfErr, IfOk};
+ghost use Rattle.std.specs.Prelude.{IfErr, IfOk};
 ghost use Rattle.nal_rules.specs.Asking.{case_tree};
-ghost use Rattle.nx_io.specs.Streams.{Grows, gained};
-ghost use Rattle.guard_core.specs.Judging.{IsBrokenOff, IsJudged, asks_after, faults_after_judging};
+ghost use Rattle.authority_ask.specs.PanelCalls.{HasOnlyAsked, asked_since};
+ghost use Rattle.guard_core.specs.Judging.{IsBrokenOff, IsJudged};
 
 use crate::asking::ask_lines;
 use crate::findings::{Finding, GuardError};
@@ -16,8 +16,8 @@ use std::rt::Clock;
 /// Judges a case, asking the authorities of its ask lines in their order, up to the first that does not say Yes, and
 /// nobody where the case is decided without. `docs/LOGIC.md`, "Verdicts", says which cause is told where several apply.
 ///
-/// The finding is the verdict on the case with the answers that were given in this call, and what the panel tells of its
-/// asks grew by exactly the questions of the case. `Down` comes only where the panel failed in this call's ask for that
+/// The finding is the verdict on the case with the answers that were given in this call, and exactly the questions of the
+/// case were asked of the panel, and nothing else. `Down` comes only where the panel failed in this call's ask for that
 /// line: those before it were answered Yes. `Memory` comes before the first ask, or where the panel had none for an ask.
 pub fn judge<P: Panel, R: Net<Listener = TcpListener, Stream = TcpStream> + Clock>(
     rt: &R,
@@ -25,13 +25,9 @@ pub fn judge<P: Panel, R: Net<Listener = TcpListener, Stream = TcpStream> + Cloc
     case: &Case,
     panel: &mut P,
 ) -> Result<Finding, GuardError>
-    ensures grows { Grows (P.said panel.old) (P.said panel.new) }
-    ensures judged { IfOk result (λ finding. IsJudged (case_tree case.now) (gained (P.said panel.old) (P.said panel.new)) finding) }
-    ensures broken_off { IfErr result (λ error. IsBrokenOff (case_tree case.now) (gained (P.said panel.old) (P.said panel.new)) error) }
-    ensures asks { P.asks panel.new ≡ asks_after (gained (P.said panel.old) (P.said panel.new)) (P.asks panel.old) }
-    ensures reached { P.reached panel.new ≡ P.reached panel.old }
-    ensures later { P.faults panel.old ≤ P.faults panel.new }
-    ensures count { P.faults panel.new ≡ faults_after_judging result (P.faults panel.old) }
+    ensures asked { HasOnlyAsked (P.history panel.old) (P.history panel.new) }
+    ensures judged { IfOk result (λ finding. IsJudged (case_tree case.now) (asked_since (P.history panel.old) (P.history panel.new)) finding) }
+    ensures broken_off { IfErr result (λ error. IsBrokenOff (case_tree case.now) (asked_since (P.history panel.old) (P.history panel.new)) error) }
 {
     let Some(goal) = &case.goal else {
         return Ok(Finding::Denied(Cause::GoalUnset));

@@ -1,3 +1,6 @@
+ghost use Rattle.std.specs.Prelude.{◌≡◌, IsTrue};
+ghost use Rattle.authority_ask.specs.PanelCalls.{shared, with_call};
+
 use super::answers;
 use authority_ask::{Ask, MemPanel, Panel};
 use nx_io::{Reach, Shared};
@@ -30,9 +33,11 @@ where
     fails && panel.faults() == 3 && share_answers(rt, alloc, panel)
 }
 
+// A share is made, asked and dropped. In the history of its maker nothing shows of it, but that it was made.
 fn share_answers<R>(rt: &R, alloc: Global, panel: &mut MemPanel) -> bool
 where
     R: Net<Listener = TcpListener, Stream = TcpStream> + Clock + Abort,
+    ensures { IsTrue result → panel.new.history ≡ with_call panel.old.history shared }
 {
     match panel.share() {
         Shared::Made(mut share) => {
@@ -48,6 +53,15 @@ fn counts(panel: &MemPanel, asks: u64, faults: u64) -> bool {
     panel.asks() == asks && panel.faults() == faults
 }
 
+// Whether the calls of a share are its own: those of its maker count none of them.
+fn shares_count_apart<R>(rt: &R, alloc: Global, panel: &mut MemPanel) -> bool
+where
+    R: Net<Listener = TcpListener, Stream = TcpStream> + Clock + Abort,
+{
+    let (asks, faults) = (panel.asks(), panel.faults());
+    share_answers(rt, alloc, panel) && counts(panel, asks, faults)
+}
+
 // The answers come in order, whatever is asked, and then No.
 fn try_out<R>(rt: &R, alloc: Global, panel: &mut MemPanel)
 where
@@ -56,6 +70,7 @@ where
     assert!(rt; reaches(rt, panel));
     assert!(rt; answers(rt, alloc, panel, OK, "YDMYNN") && counts(panel, 6, 2));
     assert!(rt; shares(rt, alloc, panel));
+    assert!(rt; shares_count_apart(rt, alloc, panel));
 }
 
 fn try_new<R>(rt: &R, alloc: Global) -> Result<(), AllocError>

@@ -1,3 +1,6 @@
+ghost use Rattle.std.specs.Prelude.{◌≡◌, IsTrue};
+ghost use Rattle.authority_ask.specs.PanelCalls.{shared, with_call};
+
 use super::answers;
 use authority_ask::{HostPanel, MemClock, Panel};
 use nx_io::{Reach, Shared};
@@ -54,10 +57,11 @@ fn serve(listener: &TcpListener) {
 
 const OK: (u64, &[u8]) = (1, b"ntp says ok");
 
-// A share connects for itself.
+// A share connects for itself. In the history of its maker nothing shows of it, but that it was made.
 fn share_is_denied<R>(rt: &R, alloc: Global, panel: &mut HostPanel<MemClock>) -> bool
 where
     R: Net<Listener = TcpListener, Stream = TcpStream> + SystemClock + Abort,
+    ensures { IsTrue result → panel.new.history ≡ with_call panel.old.history shared }
 {
     match panel.share() {
         Shared::Made(mut share) => {

@@ -1,5 +1,5 @@
 use Rattle.std.proofs.Common.{◌≡◌, map, take}
-use Rattle.authority_ask.specs.Hosts.{address_bytes}
+use Rattle.authority_ask.specs.Inner.Addresses.{address_bytes}
 use Rattle.authority_ask.proofs.hosts.copies.Given as goal
 
 abbrev pub invariant-loop-address : goal.invariant-loop-address

@@ -6,7 +6,7 @@ use Rattle.proof_lines.specs.declared.lines.Line.{Line}
 use Rattle.proof_lines.specs.Lines.{line_trees}
 use Rattle.nal_rules.specs.Asking.{case_tree}
 use Rattle.nal_rules.specs.Verdicts.{IsMissingLabel, IsUnbound}
-use Rattle.nx_io.proofs.ForCallers.{gained-nothing}
+use Rattle.authority_ask.proofs.ForCallers.{since_nothing}
 use Rattle.guard_core.proofs.Judged.{askable, broken_result, faulty, judged_result, missing, no_lines, not_bound}
 use Rattle.guard_core.proofs.guard.judge.Goals as goal
 
@@ -17,7 +17,7 @@ returns-in-Err-Line-clause-judged g c =
     let ls = line_trees c.in-Some-proof.proof in
     let goal_is : tree.goal ≡ Some goal = ap (λ (o : Option Formula). option_map formula_tree o) c.in-Some.is in
     let proof_is : tree.proof ≡ Some ls = ap (λ (o : Option (List Line)). option_map line_trees o) c.in-Some-proof.is in
-    rw (gained-nothing, c.in-Err-Line.line-is, c.in-Err-Line.fault-is) (faulty tree goal ls goal_is proof_is c.in-Err-Line.line c.in-Err-Line.fault (rw c.in-Err-Line.field-0-is at c.in-Err-Line.ensures.line))
+    rw (since_nothing, c.in-Err-Line.line-is, c.in-Err-Line.fault-is) (faulty tree goal ls goal_is proof_is c.in-Err-Line.line c.in-Err-Line.fault (rw c.in-Err-Line.field-0-is at c.in-Err-Line.ensures.line))
 
 pub returns-in-Some-missing_label-clause-judged : goal.returns-in-Some-missing_label-clause-judged
 returns-in-Some-missing_label-clause-judged g c =
@@ -27,7 +27,7 @@ returns-in-Some-missing_label-clause-judged g c =
     let goal_is : tree.goal ≡ Some goal = ap (λ (o : Option Formula). option_map formula_tree o) c.in-Some.is in
     let proof_is : tree.proof ≡ Some ls = ap (λ (o : Option (List Line)). option_map line_trees o) c.in-Some-proof.is in
     let some : ls ≡ [] → ⊥ = λ none. let e = c.check.ensures.empty.1 (no_lines c.in-Some-proof.proof none) in let k = c.in-Ok.is in absurd (cc (e, k)) in
-    rw gained-nothing (missing tree goal ls goal_is proof_is some c.in-Ok.ensures.faultless c.in-Some-missing_label.line (rw c.as_slice.ensures at c.in-Some-missing_label.ensures))
+    rw since_nothing (missing tree goal ls goal_is proof_is some c.in-Ok.ensures.faultless c.in-Some-missing_label.line (rw c.as_slice.ensures at c.in-Some-missing_label.ensures))
 
 pub returns-in-Some-unbound_line-clause-judged : goal.returns-in-Some-unbound_line-clause-judged
 returns-in-Some-unbound_line-clause-judged g c =
@@ -38,7 +38,7 @@ returns-in-Some-unbound_line-clause-judged g c =
     let proof_is : tree.proof ≡ Some ls = ap (λ (o : Option (List Line)). option_map line_trees o) c.in-Some-proof.is in
     let some : ls ≡ [] → ⊥ = λ none. let e = c.check.ensures.empty.1 (no_lines c.in-Some-proof.proof none) in let k = c.in-Ok.is in absurd (cc (e, k)) in
     let held : (k : ℕ) → ¬ IsMissingLabel ls tree.labels k = rw c.as_slice.ensures at c.in_default-missing_label.ensures in
-    rw gained-nothing (not_bound tree goal ls goal_is proof_is some c.in-Ok.ensures.faultless held c.in-Some-unbound_line.line (rw c.as_slice-2.ensures at c.in-Some-unbound_line.ensures))
+    rw since_nothing (not_bound tree goal ls goal_is proof_is some c.in-Ok.ensures.faultless held c.in-Some-unbound_line.line (rw c.as_slice-2.ensures at c.in-Some-unbound_line.ensures))
 
 pub ask_lines-requires : goal.ask_lines-requires
 ask_lines-requires g c =
