@@ -5,3 +5,4 @@ pub mod Snaps
 pub mod Meeting
 pub mod Deciding
 pub mod ForCallers
+pub mod Accessing

@@ -34,5 +34,6 @@ module _ {K : Type 0} (sent : K → List ℕ) (faults : K → ℕ) where
         text = cut_text book.is_open book.is_broken (head_of book) (trees_of book) e book.start (sent book.sink) (sent sink) opened unbroken written.text accepted (subst (λ (xs : List ℕ). SendsPart (sent book.sink) (sent sink) xs) line_is part);
         unopened = written.unopened;
         failed = λ _. omega (arith, before, later, count);
+        unbroken = λ broken. absurd (cc broken);
         later = omega (arith, before, later, count);
       }

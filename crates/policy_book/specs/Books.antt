@@ -60,6 +60,22 @@ abbrev pub is_failed : Reach → Bool
 is_failed Ready = false
 is_failed Failed = true
 
+-- the pass once it was met at the end of this journal: it has seen all entries, and knows these steps
+abbrev pub met_at : Identity Entry Head → List Entry → List AtomicStep → PassValue Entry Head → PassValue Entry Head
+met_at board entries known pass = record pass { board = board; seen = entries; trail = pass.trail ++ Met (length entries) ∷ []; known = known }
+
+-- What is learnt of a pass that is met at the end of a journal. What it had seen begins the journal, its session is one of the board's, and the journal has no entry of it beside those that it had seen, and those that it had seen when it was last met
+pub record IsMetAt (board : Identity Entry Head) (next : ℕ) (entries : List Entry) (pass : PassValue Entry Head) : Type 0 where
+  pub seen : IsPrefix pass.seen entries
+  pub above : board.origin.first ≤ pass.session
+  pub below : pass.session < next
+  pub own_seen : own session_of entries pass.session ≡ own session_of pass.seen pass.session
+  pub own_met : own session_of entries pass.session ≡ own session_of (met_seen pass) pass.session
+
+-- what a change of a principal comes to at the end of a journal: its first refusal, or its reply number and the length of its line
+abbrev pub decided_at : Identity Entry Head → List Entry → ℕ → ℕ → Event → Result Due Refusal
+decided_at board entries session principal event = decision board.origin.setting (replay board.origin.setting (entry_trees entries)) session principal (event_tree event)
+
 module _ {K : Type 0} where
   -- a book as it was made, over this board and with this sink
   abbrev pub new_book : (K → List ℕ) → (K → ℕ) → Identity Entry Head → K → BookValue K
@@ -103,24 +119,21 @@ module _ {K : Type 0} where
     pub text : HasText book.is_open book.is_broken (head_of book) (trees_of book) book.start (sent book.sink)
     pub unopened : book.is_open ≡ false → book.entries ≡ book.board.origin.opening
     pub failed : book.is_broken ≡ true → Rose book.start_faults (faults book.sink)
+    pub unbroken : book.is_broken ≡ false → faults book.sink ≡ book.start_faults
     pub later : book.start_faults ≤ faults book.sink
 
-  -- the pass once it was met: it has seen all entries, and knows these steps
+  -- the pass once the book met it
   abbrev pub met_in : BookValue K → List AtomicStep → PassValue Entry Head → PassValue Entry Head
-  met_in book known pass = record pass { board = book.board; seen = book.entries; trail = pass.trail ++ Met (length book.entries) ∷ []; known = known }
+  met_in book known pass = met_at book.board book.entries known pass
 
   -- what is known once the book met these passes
   abbrev pub AreGatheredIn : BookValue K → List (PassValue Entry Head) → List AtomicStep → Type 0
   AreGatheredIn book passes known = AreGathered book.board book.next book.entries book.known passes known
 
-  -- What is learnt of a pass that is met. What it had seen begins the journal, its session is one of the board's, and the journal has no entry of it beside those that it had seen, and those that it had seen when it was last met
-  pub record IsMetIn (book : BookValue K) (pass : PassValue Entry Head) : Type 0 where
-    pub seen : IsPrefix pass.seen book.entries
-    pub above : book.board.origin.first ≤ pass.session
-    pub below : pass.session < book.next
-    pub own_seen : own session_of book.entries pass.session ≡ own session_of pass.seen pass.session
-    pub own_met : own session_of book.entries pass.session ≡ own session_of (met_seen pass) pass.session
+  -- what is learnt of a pass that the book meets
+  abbrev pub IsMetIn : BookValue K → PassValue Entry Head → Type 0
+  IsMetIn book pass = IsMetAt book.board book.next book.entries pass
 
-  -- what a change of a principal comes to at the end of the journal: its first refusal, or its reply number and the length of its line
+  -- what a change of a principal comes to at the end of the journal
   abbrev pub decided : BookValue K → ℕ → ℕ → Event → Result Due Refusal
-  decided book session principal event = decision (head_of book) (state_of book) session principal (event_tree event)
+  decided book session principal event = decided_at book.board book.entries session principal event

@@ -4,6 +4,7 @@
 //! is made, so the text that was written has each change that was answered.
 #![tactic(auto)]
 
+mod access;
 mod book;
 mod matter;
 mod naming;
@@ -12,6 +13,7 @@ mod snapping;
 mod verdicts;
 mod writing;
 
+pub use access::{BookAccess, LockedBook};
 pub use book::Book;
 pub use matter::NalMatter;
 pub use naming::BookNaming;

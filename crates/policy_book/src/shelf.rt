@@ -1,6 +1,7 @@
 //! What stands under the lock.
-ghost use Rattle.std.specs.Prelude.{◌≡◌, ◌<◌, [], ◌∷◌, true, length, IfSome, Some};
+ghost use Rattle.std.specs.Prelude.{◌≡◌, ◌+◌, ◌<◌, [], ◌∷◌, true, length, IfSome, Some};
 ghost use Rattle.policy_history.specs.Events.{admitted};
+ghost use Rattle.policy_book.specs.Access.{unrecorded_by};
 ghost use Rattle.policy_book.specs.Books.{AreGatheredIn, IsMetIn, IsNamed, entry_of, met_in, trees_of};
 ghost use Rattle.policy_book.specs.Snaps.{IsSnap};
 ghost use Rattle.policy_book.specs.Writes.{IsAnsweredBy, IsLineFor};
@@ -12,21 +13,25 @@ use crate::snapping::Snapped;
 use crate::writing::Written;
 use nal_term::{Name, Secret};
 use nx_io::Sink;
-use policy_history::Event;
+use policy_history::{Event, Refusal};
 use std::alloc::Global;
 use std::marker::{Model, PhantomData};
+use std::sync::ledger;
+use std::sync::ledger::{Ledger, Share};
 use verdict_words::{Board, Pass};
 
 /// An open book under a lock. Its type says which board the book is of, what its sink had sent when it was made, and that no
-/// pass is made any more; so whoever takes the lock knows that much of what is there.
+/// pass is made any more; so whoever takes the lock knows that much of what is there. The ledger counts the changes that were
+/// answered that they were not recorded: where there is one, the book is broken.
 #[derive(Drop)]
-pub struct Shelf<K: Sink, N: BookNaming> {
+pub struct Shelf<K: Sink, N: BookNaming, T: Ledger> {
     book: Book<K>,
+    tickets: ledger::Book<T>,
     of: PhantomData<N>,
 }
 
-impl<K: Sink, N: BookNaming> Model for Shelf<K, N> {
-    ghost use Rattle.std.specs.Prelude.{◌≡◌, true};
+impl<K: Sink, N: BookNaming, T: Ledger> Model for Shelf<K, N, T> {
+    ghost use Rattle.std.specs.Prelude.{◌≡◌, ◌<◌, true};
     ghost use Rattle.std.specs.Coded.{codes};
     ghost use Rattle.nal_term.specs.contracts.terms.Term as t;
     ghost use Rattle.nal_term.specs.contracts.formulas.Formula as f;
@@ -38,30 +43,37 @@ impl<K: Sink, N: BookNaming> Model for Shelf<K, N> {
 
     ghost view = { λ s. s.book };
 
-    ghost invariant = { λ s. (s.book.is_open ≡ true) × IsNamed N.board N.next N.start N.start_faults s.book };
+    ghost invariant = { λ s. (s.book.is_open ≡ true) × IsNamed N.board N.next N.start N.start_faults s.book × (0 < s.tickets.total → s.book.is_broken ≡ true) };
 }
 
-impl<K: Sink, N: BookNaming> Shelf<K, N> {
-    /// Puts the book that the parameter names on a shelf.
-    pub fn new(book: Book<K>) -> Shelf<K, N>
+impl<K: Sink, N: BookNaming, T: Ledger> Shelf<K, N, T> {
+    /// Puts the book that the parameter names on a shelf, with a ledger in which nothing was counted.
+    pub fn new(book: Book<K>, tickets: ledger::Book<T>) -> Shelf<K, N, T>
         requires opened { book.is_open ≡ true }
         requires named { IsNamed N.board N.next N.start N.start_faults book }
+        requires unused { tickets.total ≡ 0 }
         ensures { result ≡ book }
     {
         Shelf {
             book,
+            tickets,
             of: PhantomData,
         }
     }
 
-    /// The book.
-    pub fn into_book(self) -> Book<K>
-        ensures book { result ≡ self }
-        ensures opened { result.is_open ≡ true }
-        ensures named { IsNamed N.board N.next N.start N.start_faults result }
+    /// The book, and the ledger: where a change was answered that it was not recorded, the book is broken.
+    pub fn into_parts(self) -> (Book<K>, ledger::Book<T>)
+        ensures book { result.0 ≡ self }
+        ensures opened { result.0.is_open ≡ true }
+        ensures named { IsNamed N.board N.next N.start N.start_faults result.0 }
+        ensures failed { 0 < result.1.total → result.0.is_broken ≡ true }
     {
-        let Shelf { book, of: _ } = self;
-        book
+        let Shelf {
+            book,
+            tickets,
+            of: _,
+        } = self;
+        (book, tickets)
     }
 
     /// As `Book::admit`.
@@ -72,7 +84,7 @@ impl<K: Sink, N: BookNaming> Shelf<K, N> {
         self.book.admit(name, secret)
     }
 
-    /// As `Book::write`.
+    /// As `Book::write`. The share has one more where the answer is that the change was not recorded.
     pub fn write(
         &mut self,
         board: &Board<NalMatter>,
@@ -80,17 +92,23 @@ impl<K: Sink, N: BookNaming> Shelf<K, N> {
         principal: u32,
         event: Event,
         line: &[u8],
+        mark: &mut Share<T>,
     ) -> (Pass<NalMatter>, Written)
         requires board { N.board ≡ Some board.now }
         requires pass { pass.board ≡ board.now }
         requires principal { principal < length board.now.origin.setting.principals }
         requires line { IsLineFor board.now.origin.setting (entry_of pass.session principal event) line.now }
+        requires parts { 0 < mark.old.parts }
         ensures answered { IsAnsweredBy K.sent K.faults self.old self.new pass result.0 principal event line.now result.1 }
         ensures pass { (result.0.board ≡ pass.board) × (result.0.session ≡ pass.session) }
         ensures board { self.old.board ≡ board.now }
         ensures named { IsNamed N.board N.next N.start N.start_faults self.old }
+        ensures amount { mark.new.amount ≡ mark.old.amount + unrecorded_by result.1 }
+        ensures parts { mark.new.parts ≡ mark.old.parts }
     {
-        self.book.write(board, pass, principal, event, line)
+        let (pass, written) = self.book.write(board, pass, principal, event, line);
+        count(&mut self.tickets, mark, &written);
+        (pass, written)
     }
 
     /// As `Book::snap`.
@@ -129,5 +147,21 @@ impl<K: Sink, N: BookNaming> Shelf<K, N> {
         ensures named { IsNamed N.board N.next N.start N.start_faults self.old }
     {
         self.book.meet(board, pass)
+    }
+}
+
+// Counts a change that was answered that it was not recorded.
+fn count<T: Ledger>(tickets: &mut ledger::Book<T>, mark: &mut Share<T>, written: &Written)
+    requires parts { 0 < mark.old.parts }
+    ensures total { tickets.new.total ≡ tickets.old.total + unrecorded_by written.now }
+    ensures amount { mark.new.amount ≡ mark.old.amount + unrecorded_by written.now }
+    ensures parts { mark.new.parts ≡ mark.old.parts }
+{
+    if let Written::Refused {
+        refusal: Refusal::NotRecorded,
+        ..
+    } = written
+    {
+        tickets.add(mark, 1);
     }
 }

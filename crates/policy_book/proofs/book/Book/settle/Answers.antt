@@ -11,7 +11,7 @@ invariant_of-self g c =
     let b = c.self.inside in
     let kept = c.self.invariant in
     subst (λ (seat : SeatValue Entry Head). IsKept {K = g.row.K.Denot} g.K.Sink.sent g.K.Sink.faults b.journal seat (value_of g.K.Sink.sent g.K.Sink.faults seat b.sink b.start.value b.is_open b.is_broken)) (sym c.settle.ensures.seat)
-    (record { head = kept.head; entries = kept.entries; lag = nobody_lags c.args.passes.items b.seat.lag kept.lag; raised = kept.raised; written = record { text = kept.written.text; unopened = kept.written.unopened; failed = kept.written.failed; later = kept.written.later } })
+    (record { head = kept.head; entries = kept.entries; lag = nobody_lags c.args.passes.items b.seat.lag kept.lag; raised = kept.raised; written = record { text = kept.written.text; unopened = kept.written.unopened; failed = kept.written.failed; unbroken = kept.written.unbroken; later = kept.written.later } })
 
 pub returns-clause-met : goal.returns-clause-met
 returns-clause-met g c = λ k d within.
