@@ -1,5 +1,5 @@
 -- How the answer to a request comes from its parts.
-use Rattle.std.proofs.Common.{◌≡◌, ℕ, List, Option, Some, None, refl, sym, subst, inr, length, inl}
+use Rattle.std.proofs.Common.{◌≡◌, ℕ, List, [], Option, Some, None, refl, sym, subst, inr, length, inl}
 use Rattle.std.specs.Prelude.{Result, Ok, Err}
 use Rattle.nx_io.specs.Streams.{gained, Grows}
 use Rattle.nx_io.proofs.ForCallers.{gained-nothing, grows-nothing}
@@ -18,21 +18,20 @@ use Rattle.guard_core.specs.Judging.{IsBrokenOff, IsJudged}
 use Rattle.session_wire.specs.declared.requests.Request.{Request}
 use Rattle.session_wire.specs.declared.requests.Request.TheVariants.{Hello, Call}
 use Rattle.session_wire.specs.declared.replies.Reply.{Reply}
-use Rattle.session_wire.specs.declared.replies.Reply.TheVariants.{Refused, Down, NoMemory}
+use Rattle.session_wire.specs.declared.replies.Reply.TheVariants.{Refused, NoMemory}
 use Rattle.journal_text.specs.RequestEvents.{IsChange, IsEventOf}
 use Rattle.session_core.specs.Answers.{HasOutcome, answered, given_up, IsAnswer, IsCalledOn, IsGivenUp, Outcome, called, changed, found as found_call, down as down_call, outcome_of, replied}
-use Rattle.session_core.specs.Answers.{faults_after_reply}
-use Rattle.session_core.specs.Inner.Steps.{IsDown, IsCallReply, answered as call_answered, given_up as call_given_up, IsChanged, asked, no_memory as change_no_memory, decided, no_memory as decide_no_memory, IsHello, IsJudgedReply, found, down, no_memory}
+use Rattle.session_core.specs.Inner.Steps.{IsCallReply, answered as call_answered, given_up as call_given_up, IsChanged, asked, no_memory as change_no_memory, decided, no_memory as decide_no_memory, IsHello, IsJudgedReply, found, down, no_memory}
 
 -- only a reply
-pub still : (who : Option ℕ) (reply : Reply) (said : List Told) (es : List EntryTree) → outcome_of reply who said said es es ≡ replied who reply
-still who reply said es = rw (gained-nothing said, gained-nothing es) refl
+pub still : (who : Option ℕ) (reply : Reply) (asks : List Told) (es : List EntryTree) → asks ≡ [] → outcome_of reply who asks es es ≡ replied who reply
+still who reply asks es none = rw (none, gained-nothing es) refl
 
 -- a request before a hello
-pub not_open : (h : Head) (es : List EntryTree) (session : ℕ) (request : Request) (said : List Told) → ¬ IsHello request
-    → HasOutcome h es session None request (outcome_of (Refused (length es) 1) None said said es es)
-not_open h es session (Hello name secret) said other = absurd (other tt)
-not_open h es session request said other = answered (still None (Refused (length es) 1) said es)
+pub not_open : (h : Head) (es : List EntryTree) (session : ℕ) (request : Request) (asks : List Told) → asks ≡ [] → ¬ IsHello request
+    → HasOutcome h es session None request (outcome_of (Refused (length es) 1) None asks es es)
+not_open h es session (Hello name secret) asks none other = absurd (other tt)
+not_open h es session request asks none other = answered (still None (Refused (length es) 1) asks es none)
 
 -- a request for a change is answered as its event is
 change_answer : (h : Head) (es : List EntryTree) (session p : ℕ) (request : Request) (outcome : Outcome) → IsChange request
@@ -47,24 +46,24 @@ change_given_up h es p (Call op object arg) outcome change same = absurd change
 change_given_up h es p request outcome change same = same
 
 -- what was decided, as an outcome
-whole : (es es_now : List EntryTree) (session p : ℕ) (e : EventTree) (reply : Reply) (said : List Told) (d : Result Due Refusal)
+whole : (es es_now : List EntryTree) (session p : ℕ) (e : EventTree) (reply : Reply) (asks : List Told) (d : Result Due Refusal) → asks ≡ []
     → reply ≡ (changed es session p e d).reply → gained es es_now ≡ (changed es session p e d).added
-    → outcome_of reply (Some p) said said es es_now ≡ changed es session p e d
-whole es es_now session p e reply said (Err refusal) r a = rw (r, a, gained-nothing said) refl
-whole es es_now session p e reply said (Ok due) r a = rw (r, a, gained-nothing said) refl
+    → outcome_of reply (Some p) asks es es_now ≡ changed es session p e d
+whole es es_now session p e reply asks (Err refusal) none r a = rw (r, a, none) refl
+whole es es_now session p e reply asks (Ok due) none r a = rw (r, a, none) refl
 
-given_up_change : (h : Head) (es es_now : List EntryTree) (session p : ℕ) (request : Request) (reply : Reply) (said : List Told) → IsChange request
-    → reply ≡ NoMemory → es_now ≡ es → HasOutcome h es session (Some p) request (outcome_of reply (Some p) said said es es_now)
-given_up_change h es es_now session p request reply said change r same =
-    given_up (change_given_up h es p request _ change (rw (r, same) (still (Some p) NoMemory said es)))
+given_up_change : (h : Head) (es es_now : List EntryTree) (session p : ℕ) (request : Request) (reply : Reply) (asks : List Told) → asks ≡ [] → IsChange request
+    → reply ≡ NoMemory → es_now ≡ es → HasOutcome h es session (Some p) request (outcome_of reply (Some p) asks es es_now)
+given_up_change h es es_now session p request reply asks none change r same =
+    given_up (change_given_up h es p request _ change (rw (r, same) (still (Some p) NoMemory asks es none)))
 
 -- a request for a change
-pub by_change : (h : Head) (es es_now : List EntryTree) (session p : ℕ) (request : Request) (reply : Reply) (said : List Told) → IsChange request
-    → IsChanged h es es_now session p request reply → HasOutcome h es session (Some p) request (outcome_of reply (Some p) said said es es_now)
-by_change h es es_now session p request reply said change (asked e event (decided g r a)) =
-    answered (change_answer h es session p request _ change e event (whole es es_now session p e reply said _ r a))
-by_change h es es_now session p request reply said change (asked e event (decide_no_memory r same)) = given_up_change h es es_now session p request reply said change r same
-by_change h es es_now session p request reply said change (change_no_memory r same) = given_up_change h es es_now session p request reply said change r same
+pub by_change : (h : Head) (es es_now : List EntryTree) (session p : ℕ) (request : Request) (reply : Reply) (asks : List Told) → asks ≡ [] → IsChange request
+    → IsChanged h es es_now session p request reply → HasOutcome h es session (Some p) request (outcome_of reply (Some p) asks es es_now)
+by_change h es es_now session p request reply asks none change (asked e event (decided g r a)) =
+    answered (change_answer h es session p request _ change e event (whole es es_now session p e reply asks _ none r a))
+by_change h es es_now session p request reply asks none change (asked e event (decide_no_memory r same)) = given_up_change h es es_now session p request reply asks none change r same
+by_change h es es_now session p request reply asks none change (change_no_memory r same) = given_up_change h es es_now session p request reply asks none change r same
 
 -- what a change leaves of the journal
 pub change_grows : (h : Head) (es es_now : List EntryTree) (session p : ℕ) (request : Request) (reply : Reply) → IsChanged h es es_now session p request reply → Grows es es_now
@@ -73,19 +72,19 @@ change_grows h es es_now session p request reply (asked e event (decide_no_memor
 change_grows h es es_now session p request reply (change_no_memory r same) = rw same (grows-nothing es)
 
 -- a call, by its reply
-pub by_call : (h : Head) (es : List EntryTree) (session p : ℕ) (op object : List ℕ) (arg : ℕ) (reply : Reply) (said said_now : List Told)
-    → IsCallReply h es p op object (gained said said_now) reply
-    → HasOutcome h es session (Some p) (Call op object arg) (outcome_of reply (Some p) said said_now es es)
-by_call h es session p op object arg reply said said_now (call_answered c) =
-    let Given : List EntryTree → Type 0 = λ added. IsCalledOn h es p op (number_of (replay h es).objects object) (record { reply = reply; who = Some p; asks = gained said said_now; added = added }) in
+pub by_call : (h : Head) (es : List EntryTree) (session p : ℕ) (op object : List ℕ) (arg : ℕ) (reply : Reply) (asks : List Told)
+    → IsCallReply h es p op object asks reply
+    → HasOutcome h es session (Some p) (Call op object arg) (outcome_of reply (Some p) asks es es)
+by_call h es session p op object arg reply asks (call_answered c) =
+    let Given : List EntryTree → Type 0 = λ added. IsCalledOn h es p op (number_of (replay h es).objects object) (record { reply = reply; who = Some p; asks = asks; added = added }) in
     answered (subst Given (sym (gained-nothing es)) c)
-by_call h es session p op object arg reply said said_now (call_given_up r a) = given_up (a, rw (r, gained-nothing es) refl)
+by_call h es session p op object arg reply asks (call_given_up r a) = given_up (a, rw (r, gained-nothing es) refl)
 
 -- a call of an object that is not there
-pub call_none : (h : Head) (es : List EntryTree) (p : ℕ) (op object : List ℕ) (at : ℕ) (said : List Told) → number_of (replay h es).objects object ≡ None → at ≡ length es
-    → IsCallReply h es p op object (gained said said) (Refused at 8)
-call_none h es p op object at said none at_is =
-    call_answered (subst (λ (m : Option ℕ). IsCalledOn h es p op m (called p (gained said said) (Refused at 8))) (sym none) (rw (gained-nothing said, at_is) refl))
+pub call_none : (h : Head) (es : List EntryTree) (p : ℕ) (op object : List ℕ) (at : ℕ) (asks : List Told) → asks ≡ [] → number_of (replay h es).objects object ≡ None → at ≡ length es
+    → IsCallReply h es p op object asks (Refused at 8)
+call_none h es p op object at asks unasked none at_is =
+    call_answered (subst (λ (m : Option ℕ). IsCalledOn h es p op m (called p asks (Refused at 8))) (sym none) (rw (unasked, at_is) refl))
 
 -- a call of an object that is there
 pub call_judged : (h : Head) (es : List EntryTree) (p : ℕ) (op object : List ℕ) (at n : ℕ) (c : CaseTree) (asks : List Told) (reply : Reply)
@@ -100,11 +99,6 @@ call_judged h es p op object at n c asks reply number case at_is (down k broken 
 call_judged h es p op object at n c asks reply number case at_is (no_memory broken r) =
     call_given_up r (inr (n, number, subst (λ (d : CaseTree). IsBrokenOff d asks MemoryError) case broken))
 
--- a reply that tells of no authority that was down
-pub up_count : (reply : Reply) (faults : ℕ) → ¬ IsDown reply → faults ≡ faults_after_reply reply faults
-up_count (Down at k) faults up = absurd (up tt)
-up_count reply faults up = refl
-
 -- a request that is neither a hello nor a call asks for a change
 pub is_change : (request : Request) → ¬ IsHello request → ((op object : List ℕ) (arg : ℕ) → request ≡ Call op object arg → ⊥) → IsChange request
 is_change (Hello name secret) other call = absurd (other tt)
@@ -112,8 +106,8 @@ is_change (Call op object arg) other call = absurd (call op object arg refl)
 is_change request other call = tt
 
 -- a request for which there was no memory, whichever it is
-pub given_up_outcome : (h : Head) (es : List EntryTree) (session : ℕ) (who : Option ℕ) (request : Request) (said : List Told)
-    → HasOutcome h es session who request (outcome_of NoMemory who said said es es)
-given_up_outcome h es session (Some p) (Call op object arg) said = given_up (inl (gained-nothing said), rw (gained-nothing es) refl)
-given_up_outcome h es session (Some p) request said = given_up (still (Some p) NoMemory said es)
-given_up_outcome h es session None request said = given_up (still None NoMemory said es)
+pub given_up_outcome : (h : Head) (es : List EntryTree) (session : ℕ) (who : Option ℕ) (request : Request)
+    → HasOutcome h es session who request (outcome_of NoMemory who [] es es)
+given_up_outcome h es session (Some p) (Call op object arg) = given_up (inl refl, rw (gained-nothing es) refl)
+given_up_outcome h es session (Some p) request = given_up (still (Some p) NoMemory [] es refl)
+given_up_outcome h es session None request = given_up (still None NoMemory [] es refl)

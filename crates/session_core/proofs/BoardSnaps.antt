@@ -29,12 +29,11 @@ use Rattle.verdict_words.specs.declared.views.Item.{Item}
 use Rattle.verdict_words.specs.declared.views.Item.TheVariants.{Met}
 use Rattle.verdict_words.specs.Histories.{IsPrefix, own}
 use Rattle.verdict_words.specs.Rule.{last_met}
-use Rattle.verdict_words.specs.Values.{Identity, PassValue, met_seen}
-use Rattle.verdict_words.proofs.ForCallers.{last_met_now, prefix_length, prefix_through, prefix_whole}
-use Rattle.verdict_words.specs.declared.views.AtomicStep.{AtomicStep}
-use Rattle.policy_book.specs.Books.{AreGatheredIn, BookValue, IsMetIn, met_in, session_of}
+use Rattle.verdict_words.specs.Values.{Identity, PassValue}
+use Rattle.verdict_words.proofs.ForCallers.{last_met_now, met_seen_now as seen_when_met, prefix_length, prefix_through, prefix_whole}
+use Rattle.policy_book.specs.Access.{HasMet}
+use Rattle.policy_book.specs.Books.{met_at, session_of}
 use Rattle.policy_book.specs.Snaps.{IsSnapOf}
-use Rattle.policy_book.proofs.ForCallers.{gathered_knows, met_now}
 use Rattle.session_core.specs.Standing.{Triple, joined, knows, most_known}
 use Rattle.session_core.specs.Told as told
 use Rattle.session_core.specs.Told.{Answers, AreAskedInVain, Calls, IsPlaceIn, IsSeen, Keeps, Misses, Turn, checked, state_at, stepped, verdict_reply}
@@ -63,24 +62,23 @@ pub record IsMetNow (m n : BoardSession) : Type 0 where
   pub admitted_is : n.admitted ≡ m.admitted
   pub known_is : n.known.rows ≡ m.known.rows
 
-pub own_met : {K : Type 0} (book : BookValue K) (known : List AtomicStep) (pass q : PassValue Entry Head) → IsMetIn book pass → q ≡ met_in book known pass → own_in q ≡ own_in pass
-own_met book known pass q met is =
-    let seen : met_seen q ≡ book.entries = ap met_seen is ∙ met_now book known pass in
-    let session : q.session ≡ pass.session = ap (λ (x : PassValue Entry Head). x.session) is in
-    own_trees q ∙ ap (λ (es : List Entry). entry_trees (own session_of es q.session)) seen ∙ ap (λ (s : ℕ). entry_trees (own session_of book.entries s)) session
-    ∙ ap entry_trees met.own_met ∙ sym (own_trees pass)
+pub own_met : (board : Identity Entry Head) (entries : List Entry) (pass q : PassValue Entry Head) → HasMet board entries pass q → own_in q ≡ own_in pass
+own_met board entries pass q met =
+    ap own_in met.pass_is ∙ own_trees (met_at board entries q.known pass)
+    ∙ ap (λ (es : List Entry). entry_trees (own session_of es pass.session)) (seen_when_met (met_at board entries q.known pass) pass.trail refl)
+    ∙ ap entry_trees met.met.own_met ∙ sym (own_trees pass)
 
-pub met_now_of : {K : Type 0} (book : BookValue K) (known : List AtomicStep) (m : BoardSession) (q : PassValue Entry Head) (k : KnownValue) → IsMetIn book m.pass → AreGatheredIn book (m.pass ∷ []) known → q ≡ met_in book known m.pass → book.board ≡ m.pass.board
+pub met_now_of : (board : Identity Entry Head) (entries : List Entry) (m : BoardSession) (q : PassValue Entry Head) (k : KnownValue) → HasMet board entries m.pass q → board ≡ m.pass.board
     → k.rows ≡ m.known.rows → IsMetNow m (record { pass = q; admitted = m.admitted; known = k })
-met_now_of book known m q k met gathered is board rows =
-    let seen : q.seen ≡ book.entries = ap (λ (x : PassValue Entry Head). x.seen) is in
+met_now_of board entries m q k met same rows =
+    let seen : q.seen ≡ entries = ap (λ (x : PassValue Entry Head). x.seen) met.pass_is in
     record {
-      seen = subst (λ (es : List Entry). IsPrefix m.pass.seen es) (sym seen) met.seen;
-      knows = subst (IsPrefix m.pass.known) (sym (ap (λ (x : PassValue Entry Head). x.known) is)) (gathered_knows book m.pass known gathered);
-      trail = ap (λ (x : PassValue Entry Head). x.trail) is ∙ ap (λ (es : List Entry). m.pass.trail ++ Met (length es) ∷ []) (sym seen);
-      own_is = own_met book known m.pass q met is;
-      session_is = ap (λ (x : PassValue Entry Head). x.session) is;
-      board_is = ap (λ (x : PassValue Entry Head). x.board) is ∙ board;
+      seen = subst (λ (es : List Entry). IsPrefix m.pass.seen es) (sym seen) met.met.seen;
+      knows = met.knows;
+      trail = ap (λ (x : PassValue Entry Head). x.trail) met.pass_is ∙ ap (λ (es : List Entry). m.pass.trail ++ Met (length es) ∷ []) (sym seen);
+      own_is = own_met board entries m.pass q met;
+      session_is = ap (λ (x : PassValue Entry Head). x.session) met.pass_is;
+      board_is = ap (λ (x : PassValue Entry Head). x.board) met.pass_is ∙ same;
       admitted_is = refl;
       known_is = rows;
     }
@@ -390,30 +388,31 @@ checked_ready board n t p op object arg at case place k asks reply ready who sna
 
 -- ---- What was taken of a case, by the pass that was met
 
-pub snap_board : {K : Type 0} {known : List AtomicStep} (book : BookValue K) (board : Identity Entry Head) (pass q : PassValue Entry Head) (p : ℕ) (op object given : List ℕ) (at : ℕ) (case : RawCase) (place : Option CasePlace) (k : ℕ)
-    → q ≡ met_in book known pass → given ≡ object → IsSnapOf board.origin.setting (entry_trees book.entries) p op object at case place k
-    → IsSnapOf board.origin.setting (entry_trees q.seen) p op given at case place k
-snap_board book board pass q p op object given at case place k is same snap =
-    subst (λ (x : List ℕ). IsSnapOf board.origin.setting (entry_trees q.seen) p op x at case place k) (sym same)
-    (subst (λ (es : List Entry). IsSnapOf board.origin.setting (entry_trees es) p op object at case place k) (sym (ap (λ (x : PassValue Entry Head). x.seen) is)) snap)
+module _ (board : Identity Entry Head) (entries : List Entry) (pass q : PassValue Entry Head) (met : HasMet board entries pass q) where
+  seen_entries : entries ≡ q.seen
+  seen_entries = sym (ap (λ (x : PassValue Entry Head). x.seen) met.pass_is)
 
-pub snap_here : {K : Type 0} {known : List AtomicStep} (book : BookValue K) (board : Identity Entry Head) (pass q : PassValue Entry Head) (p : ℕ) (op object given : List ℕ) (at : ℕ) (case : RawCase) (place : Option CasePlace) (k : ℕ)
-    → q ≡ met_in book known pass → book.board ≡ board → given ≡ object → IsSnapOf board.origin.setting (entry_trees book.entries) p op object at case place k
-    → IsSnapOf q.board.origin.setting (entry_trees q.seen) p op given at case place k
-snap_here book board pass q p op object given at case place k is board_is same snap =
-    subst (λ (b : Identity Entry Head). IsSnapOf b.origin.setting (entry_trees q.seen) p op given at case place k) (sym (ap (λ (x : PassValue Entry Head). x.board) is ∙ board_is))
-    (snap_board book board pass q p op object given at case place k is same snap)
+  seen_board : board ≡ q.board
+  seen_board = sym (ap (λ (x : PassValue Entry Head). x.board) met.pass_is)
 
-pub none_here : {K : Type 0} {known : List AtomicStep} (book : BookValue K) (board : Identity Entry Head) (pass q : PassValue Entry Head) (object : List ℕ) (at : ℕ) → q ≡ met_in book known pass → book.board ≡ board
-    → (at ≡ length (entry_trees book.entries)) × (number_of (replay board.origin.setting (entry_trees book.entries)).objects object ≡ None)
-    → (at ≡ length (entry_trees q.seen)) × (number_of (replay q.board.origin.setting (entry_trees q.seen)).objects object ≡ None)
-none_here book board pass q object at is board_is none =
-    let seen : book.entries ≡ q.seen = sym (ap (λ (x : PassValue Entry Head). x.seen) is) in
-    let board_now : board ≡ q.board = sym (ap (λ (x : PassValue Entry Head). x.board) is ∙ board_is) in (
-      none.0 ∙ ap (λ (es : List Entry). length (entry_trees es)) seen,
-      subst (λ (b : Identity Entry Head). number_of (replay b.origin.setting (entry_trees q.seen)).objects object ≡ None) board_now
-          (subst (λ (es : List Entry). number_of (replay board.origin.setting (entry_trees es)).objects object ≡ None) seen none.1),
-    )
+  pub snap_board : (p : ℕ) (op object given : List ℕ) (at : ℕ) (case : RawCase) (place : Option CasePlace) (k : ℕ) → given ≡ object → IsSnapOf board.origin.setting (entry_trees entries) p op object at case place k
+      → IsSnapOf board.origin.setting (entry_trees q.seen) p op given at case place k
+  snap_board p op object given at case place k same snap =
+      subst (λ (x : List ℕ). IsSnapOf board.origin.setting (entry_trees q.seen) p op x at case place k) (sym same)
+      (subst (λ (es : List Entry). IsSnapOf board.origin.setting (entry_trees es) p op object at case place k) seen_entries snap)
+
+  pub snap_here : (p : ℕ) (op object given : List ℕ) (at : ℕ) (case : RawCase) (place : Option CasePlace) (k : ℕ) → given ≡ object → IsSnapOf board.origin.setting (entry_trees entries) p op object at case place k
+      → IsSnapOf q.board.origin.setting (entry_trees q.seen) p op given at case place k
+  snap_here p op object given at case place k same snap =
+      subst (λ (b : Identity Entry Head). IsSnapOf b.origin.setting (entry_trees q.seen) p op given at case place k) seen_board (snap_board p op object given at case place k same snap)
+
+  pub none_here : (object : List ℕ) (at : ℕ) → (at ≡ length (entry_trees entries)) × (number_of (replay board.origin.setting (entry_trees entries)).objects object ≡ None)
+      → (at ≡ length (entry_trees q.seen)) × (number_of (replay q.board.origin.setting (entry_trees q.seen)).objects object ≡ None)
+  none_here object at none = (
+    none.0 ∙ ap (λ (es : List Entry). length (entry_trees es)) seen_entries,
+    subst (λ (b : Identity Entry Head). number_of (replay b.origin.setting (entry_trees q.seen)).objects object ≡ None) seen_board
+        (subst (λ (es : List Entry). number_of (replay board.origin.setting (entry_trees es)).objects object ≡ None) seen_entries none.1),
+  )
 
 pub checked_as : {p : ℕ} {op given object : List ℕ} {arg k : ℕ} {place : Option CasePlace} {c : CaseTree} {n t : BoardSession} {asks : List Ask} {reply : Reply}
     → given ≡ object → IsChecked p op given arg k place c n t asks reply → IsChecked p op object arg k place c n t asks reply

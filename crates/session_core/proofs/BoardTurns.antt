@@ -1,19 +1,19 @@
 -- The turns of a session over a shared board that are no call's: hellos, changes, and what is given up.
-use Rattle.std.proofs.Common.{◌≡◌, ◌≢◌, ◌+◌, ◌<◌, ◌⊎◌, inl, inr, ℕ, List, [], ◌∷◌, ◌++◌, length, option_map, Option, Some, None, refl, sym, ap, ◌∙◌, subst, arith, append_assoc}
+use Rattle.std.proofs.Common.{◌≡◌, ◌≢◌, ◌+◌, ◌<◌, ◌≤◌, ◌⊎◌, inl, inr, ℕ, List, [], ◌∷◌, ◌++◌, length, option_map, Option, Some, None, refl, sym, ap, ◌∙◌, subst, arith, append_assoc}
 use Rattle.std.specs.Prelude.{slice_get, Result, Ok, Err, IsOk}
 use Rattle.std.proofs.lemmas.List.{append-nil, length-append, map-append}
 use Rattle.policy_history.specs.declared.events.Due.{Due}
 use Rattle.policy_history.specs.declared.events.Entry.{Entry}
 use Rattle.policy_history.specs.declared.events.Event.{Event}
 use Rattle.policy_history.specs.declared.events.Refusal.{Refusal}
-use Rattle.policy_history.specs.declared.events.Refusal.TheVariants.{NotRecorded}
+use Rattle.policy_history.specs.declared.events.Refusal.TheVariants.{NoSuchPrincipal, NotYourPrincipal, NoSuchLabel, NotHolder, NoSuchObject, NameTaken, NotOwner, NoGoal, NoSuchProof, NoBinding, BadPort, BadFormula, BadProof, Quota, ObjectsFull, CasesFull, NotRecorded}
 use Rattle.policy_history.specs.declared.heads.Head.{Head}
 use Rattle.policy_history.specs.declared.heads.Principal.{Principal}
 use Rattle.policy_history.specs.PolicyLines.{entry_line}
 use Rattle.policy_history.specs.PolicyTexts.{IsSpelledWhole}
 use Rattle.nal_term.specs.TreeKeys.{same_bytes, same_bytes-Decides}
 use Rattle.std.proofs.Common.{◌&&◌, get_or, unwrap_or}
-use Rattle.std.proofs.lemmas.List.Elements.{All-nil}
+use Rattle.std.proofs.lemmas.List.Elements.{All-cons, All-nil}
 use Rattle.std.proofs.lemmas.List.Quantifiers.{position-Some}
 use Rattle.std.proofs.lemmas.Option.{slice_get-get_or}
 use Rattle.policy_history.specs.Events.{EntryTree, EventTree, admitted, entry_tree, event_tree, name_of}
@@ -29,14 +29,16 @@ use Rattle.journal_text.specs.RequestEvents.{IsEventOf}
 use Rattle.verdict_words.specs.declared.views.Item.TheVariants.{Met}
 use Rattle.verdict_words.specs.Histories.{IsPrefix, own}
 use Rattle.verdict_words.specs.Rule.{last_met}
-use Rattle.verdict_words.specs.Values.{Identity, PassValue, met_seen}
-use Rattle.verdict_words.proofs.ForCallers.{last_met_now, prefix_length, prefix_grows, prefix_whole}
-use Rattle.policy_book.specs.Books.{BookValue, IsMetIn, decided, met_in, session_of}
-use Rattle.policy_book.specs.Writes.{IsAnsweredBy, IsLineFor, IsUnrecorded, added_by}
+use Rattle.verdict_words.specs.Values.{Identity, PassValue}
+use Rattle.verdict_words.specs.declared.views.AtomicStep.{AtomicStep}
+use Rattle.verdict_words.proofs.ForCallers.{last_met_now, met_seen_now, own_snoc, prefix_length, prefix_grows, prefix_whole}
+use Rattle.policy_book.specs.Access.{HasMet, IsAnswered, unrecorded_by}
+use Rattle.policy_book.specs.Books.{decided_at, met_at, session_of}
+use Rattle.policy_book.specs.Writes.{IsLineFor}
 use Rattle.policy_book.specs.declared.writing.Written.{Written}
 use Rattle.policy_book.specs.declared.writing.Written.TheVariants as written
-use Rattle.policy_book.proofs.ForCallers.{own_written, written_knows}
 use Rattle.session_core.specs.Answers.{greeted}
+use Rattle.session_core.specs.Served.{AreCounted, IsUnrecorded}
 use Rattle.session_core.specs.Told as told
 use Rattle.session_core.specs.Told.{Answers, IsSeen, Turn, plain, state_at, stepped}
 use Rattle.session_core.specs.declared.board_session.Admitted.{Admitted}
@@ -133,117 +135,161 @@ ok_due : (r : Result Due Refusal) → IsOk r → (due : Due) × (r ≡ Ok due)
 ok_due (Ok due) ok = (due, refl)
 ok_due (Err refusal) ok = absurd (cc ok)
 
-module _ {K : Type 0} (sent : K → List ℕ) (faults : K → ℕ) (old new : BookValue K) (s : BoardSession) (q : PassValue Entry Head) (p : ℕ) (event : Event) (line : List ℕ) (request : Request)
-    (board_is : old.board ≡ s.pass.board) (who : who_of s ≡ Some p) (is_event : IsEventOf request (event_tree event)) where
+-- the entries of its own that a session knows, behind a pass that was met
+own_behind : (board : Identity Entry Head) (entries : List Entry) (known : List AtomicStep) (pass : PassValue Entry Head) → own_in (met_at board entries known pass) ≡ entry_trees (own session_of entries pass.session)
+own_behind board entries known pass =
+    own_trees (met_at board entries known pass) ∙ ap (λ (es : List Entry). entry_trees (own session_of es pass.session)) (met_seen_now (met_at board entries known pass) pass.trail refl)
+
+module _ (s : BoardSession) (q : PassValue Entry Head) (p : ℕ) (event : Event) (request : Request) (who : who_of s ≡ Some p) (is_event : IsEventOf request (event_tree event)) where
+  abbrev board : Identity Entry Head
+  board = s.pass.board
+
+  abbrev mine : Entry
+  mine = record { session = s.pass.session; principal = p; event = event }
+
   -- a change that is decided where the history ends so
-  decided_at : (later : List Entry) → IsPrefix old.entries later → decided old s.pass.session p event ≡ decision (head_of s) (state_at (head_of s) (entry_trees later) (length old.entries)) s.pass.session p (event_tree event)
-  decided_at later prefix =
-      ap (λ (b : Identity Entry Head). decision b.origin.setting (replay b.origin.setting (entry_trees old.entries)) s.pass.session p (event_tree event)) board_is
-      ∙ ap (λ (es : List EntryTree). decision (head_of s) (replay (head_of s) es) s.pass.session p (event_tree event)) (sym (first_trees old.entries later (length old.entries) refl prefix))
+  decided_then : (entries later : List Entry) → IsPrefix entries later
+      → decided_at board entries s.pass.session p event ≡ decision (head_of s) (state_at (head_of s) (entry_trees later) (length entries)) s.pass.session p (event_tree event)
+  decided_then entries later prefix =
+      ap (λ (es : List EntryTree). decision (head_of s) (replay (head_of s) es) s.pass.session p (event_tree event)) (sym (first_trees entries later (length entries) refl prefix))
 
-  seen_at : (later : List Entry) → IsPrefix old.entries later → IsMetIn old s.pass → IsSeen (entry_trees later) (length s.pass.seen) (length old.entries)
-  seen_at later prefix met =
-      let long = prefix_length old.entries later prefix in
+  seen_at : (entries later : List Entry) → IsPrefix entries later → IsPrefix s.pass.seen entries → IsSeen (entry_trees later) (length s.pass.seen) (length entries)
+  seen_at entries later prefix seen =
+      let long = prefix_length entries later prefix in
       let count = trees_count later in
-      (prefix_length s.pass.seen old.entries met.seen, omega (arith, long, count))
-
-  own_now : (answer : Written) → IsAnsweredBy sent faults old new s.pass q p event line answer → q.session ≡ s.pass.session
-      → own_in q ≡ own_in s.pass ++ entry_trees (added_by answer (record { session = s.pass.session; principal = p; event = event }))
-  own_now answer answered session =
-      own_trees q ∙ ap (λ (n : ℕ). entry_trees (own session_of (met_seen q) n)) session ∙ ap entry_trees (own_written sent faults old new s.pass q p event line answer answered)
-      ∙ map-append entry_tree (own session_of (met_seen s.pass) s.pass.session) (added_by answer (record { session = s.pass.session; principal = p; event = event }))
-      ∙ ap (λ (es : List EntryTree). es ++ entry_trees (added_by answer (record { session = s.pass.session; principal = p; event = event }))) (sym (own_trees s.pass))
+      (prefix_length s.pass.seen entries seen, omega (arith, long, count))
 
   -- a refusal
-  refused_by : (refusal : Refusal) (own_is : own_in q ≡ own_in s.pass ++ []) → q ≡ met_in old new.known s.pass → IsPrefix s.pass.known q.known → IsMetIn old s.pass
-      → told.Changes (head_of s) (entry_trees old.entries) s.pass.session (standing s) p (event_tree event) (stepped (record (standing s) { low = length old.entries }) (RefusedReply (length old.entries) (refusal_number refusal)) [] (Met (length old.entries) ∷ []))
-      → IsTurn s (record s { pass = q }) [] request (RefusedReply (length old.entries) (refusal_number refusal))
-  refused_by refusal own_is is knows met changes =
-      let seen : old.entries ≡ q.seen = sym (ap (λ (x : PassValue Entry Head). x.seen) is) in
-      let turn : Turn = stepped (record (standing s) { low = length old.entries }) (RefusedReply (length old.entries) (refusal_number refusal)) [] (Met (length old.entries) ∷ []) in
+  refused_by : (entries : List Entry) (refusal : Refusal) → HasMet board entries s.pass q
+      → told.Changes (head_of s) (entry_trees entries) s.pass.session (standing s) p (event_tree event) (stepped (record (standing s) { low = length entries }) (RefusedReply (length entries) (refusal_number refusal)) [] (Met (length entries) ∷ []))
+      → IsTurn s (record s { pass = q }) [] request (RefusedReply (length entries) (refusal_number refusal))
+  refused_by entries refusal met changes =
+      let seen : entries ≡ q.seen = sym (ap (λ (x : PassValue Entry Head). x.seen) met.pass_is) in
+      let turn : Turn = stepped (record (standing s) { low = length entries }) (RefusedReply (length entries) (refusal_number refusal)) [] (Met (length entries) ∷ []) in
       record {
         turn = turn;
         answers = told.change p (event_tree event) who is_event (subst (λ (es : List Entry). told.Changes (head_of s) (entry_trees es) s.pass.session (standing s) p (event_tree event) turn) seen changes);
         reply_is = refl;
         asks_are = refl;
-        trail = ap (λ (x : PassValue Entry Head). x.trail) is;
-        own_is = own_is;
+        trail = ap (λ (x : PassValue Entry Head). x.trail) met.pass_is;
+        own_is = ap own_in met.pass_is ∙ own_behind board entries q.known s.pass ∙ ap entry_trees met.met.own_met ∙ sym (own_trees s.pass) ∙ sym (append-nil (own_in s.pass));
         after = ap (λ (es : List Entry). record (standing s) { low = length es }) seen;
-        seen = subst (λ (es : List Entry). IsPrefix s.pass.seen es) seen met.seen;
-        knows = knows;
-        session_is = ap (λ (x : PassValue Entry Head). x.session) is;
-        board_is = ap (λ (x : PassValue Entry Head). x.board) is ∙ board_is;
+        seen = subst (λ (es : List Entry). IsPrefix s.pass.seen es) seen met.met.seen;
+        knows = met.knows;
+        session_is = ap (λ (x : PassValue Entry Head). x.session) met.pass_is;
+        board_is = ap (λ (x : PassValue Entry Head). x.board) met.pass_is;
       }
 
-  pub written_turn : (answer : Written) → IsAnsweredBy sent faults old new s.pass q p event line answer → IsTurn s (record s { pass = q }) [] request (reply_of answer)
+  pub written_turn : (answer : Written) → IsAnswered board s.pass q p event answer → IsTurn s (record s { pass = q }) [] request (reply_of answer)
   written_turn (written.Done at number) d =
-      let e : Entry = record { session = s.pass.session; principal = p; event = event } in
-      let later : List Entry = old.entries ++ e ∷ [] in
-      let prefix : IsPrefix old.entries later = (e ∷ [], refl) in
-      let entries : new.entries ≡ later = ap (λ (b : BookValue K). b.entries) d.book in
-      let seen : q.seen ≡ later = ap (λ (x : PassValue Entry Head). x.seen) d.pass_is ∙ entries in
-      let count : length later ≡ length old.entries + 1 = length-append old.entries (e ∷ []) in
-      let due : Due = record { number = number; bytes = d.accepted.0 } in
+      let entries : List Entry = d.entries in
+      let later : List Entry = entries ++ mine ∷ [] in
+      let prefix : IsPrefix entries later = (mine ∷ [], refl) in
+      let seen : q.seen ≡ later = ap (λ (x : PassValue Entry Head). x.seen) d.pass_is in
+      let count : length later ≡ length entries + 1 = length-append entries (mine ∷ []) in
+      let due : Due = record { number = number; bytes = d.bytes } in
       let session : q.session ≡ s.pass.session = ap (λ (x : PassValue Entry Head). x.session) d.pass_is in
-      let trees : entry_trees later ≡ entry_trees old.entries ++ entry_tree e ∷ [] = map-append entry_tree old.entries (e ∷ []) in
-      let got : slice_get (entry_trees later) (length old.entries) ≡ Some (entry_tree e) =
-      (λ i. slice_get (trees i) (sym (trees_count old.entries) i)) ∙ slice_get_end (entry_trees old.entries) (entry_tree e) in
+      let trees : entry_trees later ≡ entry_trees entries ++ entry_tree mine ∷ [] = map-append entry_tree entries (mine ∷ []) in
+      let got : slice_get (entry_trees later) (length entries) ≡ Some (entry_tree mine) =
+      (λ i. slice_get (trees i) (sym (trees_count entries) i)) ∙ slice_get_end (entry_trees entries) (entry_tree mine) in
       let turn : Turn = record {
-        reply = DoneReply (length old.entries + 1) number;
+        reply = DoneReply (length entries + 1) number;
         asks = [];
-        steps = Met (length old.entries) ∷ Met (length old.entries + 1) ∷ [];
-        added = entry_tree e ∷ [];
-        after = record (standing s) { low = length old.entries + 1 };
+        steps = Met (length entries) ∷ Met (length entries + 1) ∷ [];
+        added = entry_tree mine ∷ [];
+        after = record (standing s) { low = length entries + 1 };
       } in
       record {
         turn = turn;
         answers = subst (λ (es : List Entry). Answers (head_of s) (entry_trees es) s.pass.session (standing s) request turn) (sym seen)
             (told.change p (event_tree event) who is_event
-            (told.done (length old.entries) due (seen_at later prefix d.met) (sym (decided_at later prefix) ∙ d.accepted.1) got refl));
+            (told.done (length entries) due (seen_at entries later prefix d.met.seen) (sym (decided_then entries later prefix) ∙ d.accepted) got refl));
         reply_is = ap (λ (n : ℕ). DoneReply n number) (sym d.at_is);
         asks_are = refl;
         trail = ap (λ (x : PassValue Entry Head). x.trail) d.pass_is
-            ∙ ap (λ (n : ℕ). (s.pass.trail ++ Met (length old.entries) ∷ []) ++ Met n ∷ []) (ap length entries ∙ count)
-            ∙ append_assoc s.pass.trail (Met (length old.entries) ∷ []) (Met (length old.entries + 1) ∷ []);
-        own_is = own_now (written.Done at number) d session;
+            ∙ ap (λ (n : ℕ). (s.pass.trail ++ Met (length entries) ∷ []) ++ Met n ∷ []) count
+            ∙ append_assoc s.pass.trail (Met (length entries) ∷ []) (Met (length entries + 1) ∷ []);
+        own_is = ap own_in d.pass_is ∙ own_behind board later q.known (met_at board entries q.known s.pass) ∙ ap entry_trees (own_snoc session_of entries mine s.pass.session refl)
+            ∙ map-append entry_tree (own session_of entries s.pass.session) (mine ∷ []) ∙ ap (λ (es : List EntryTree). es ++ entry_tree mine ∷ []) (ap entry_trees d.met.own_met ∙ sym (own_trees s.pass));
         after = ap (λ (n : ℕ). record (standing s) { low = n }) (sym (ap length seen ∙ count));
-        seen = subst (λ (es : List Entry). IsPrefix s.pass.seen es) (sym seen) (prefix_grows s.pass.seen old.entries (e ∷ []) d.met.seen);
-        knows = written_knows sent faults old new s.pass q p event line (written.Done at number) d;
+        seen = subst (λ (es : List Entry). IsPrefix s.pass.seen es) (sym seen) (prefix_grows s.pass.seen entries (mine ∷ []) d.met.seen);
+        knows = d.knows;
         session_is = session;
-        board_is = ap (λ (x : PassValue Entry Head). x.board) d.pass_is ∙ ap (λ (b : BookValue K). b.board) d.book ∙ board_is;
+        board_is = ap (λ (x : PassValue Entry Head). x.board) d.pass_is;
       }
   written_turn (written.Refused at refusal) r =
-      let session : q.session ≡ s.pass.session = ap (λ (x : PassValue Entry Head). x.session) r.pass_is in
-      subst (λ (n : ℕ). IsTurn s (record s { pass = q }) [] request (RefusedReply n (refusal_number refusal))) (sym r.at_is)
-      (refused_by refusal (own_now (written.Refused at refusal) r session) r.pass_is (written_knows sent faults old new s.pass q p event line (written.Refused at refusal) r) r.met (refusal_of r.why))
+      subst (λ (n : ℕ). IsTurn s (record s { pass = q }) [] request (RefusedReply n (refusal_number refusal))) (sym r.at_is) (refused_by r.entries refusal r.met (refusal_of r.why))
     where
-      refusal_of : ((decided old s.pass.session p event ≡ Err refusal) × (new ≡ record old { known = new.known })) ⊎ ((refusal ≡ NotRecorded) × IsUnrecorded sent faults old new s.pass q p event line)
-          → told.Changes (head_of s) (entry_trees old.entries) s.pass.session (standing s) p (event_tree event) (stepped (record (standing s) { low = length old.entries }) (RefusedReply (length old.entries) (refusal_number refusal)) [] (Met (length old.entries) ∷ []))
-      refusal_of (inl why) = told.refused (length old.entries) refusal (seen_at old.entries (prefix_whole old.entries) r.met) (sym (decided_at old.entries (prefix_whole old.entries)) ∙ why.0) refl
+      refusal_of : (decided_at board r.entries s.pass.session p event ≡ Err refusal) ⊎ ((refusal ≡ NotRecorded) × IsOk (decided_at board r.entries s.pass.session p event))
+          → told.Changes (head_of s) (entry_trees r.entries) s.pass.session (standing s) p (event_tree event) (stepped (record (standing s) { low = length r.entries }) (RefusedReply (length r.entries) (refusal_number refusal)) [] (Met (length r.entries) ∷ []))
+      refusal_of (inl why) =
+          told.refused (length r.entries) refusal (seen_at r.entries r.entries (prefix_whole r.entries) r.met.met.seen) (sym (decided_then r.entries r.entries (prefix_whole r.entries)) ∙ why) refl
       refusal_of (inr why) =
-          let due = ok_due (decided old s.pass.session p event) why.1.accepted in
-          told.not_recorded (length old.entries) due.0 (seen_at old.entries (prefix_whole old.entries) r.met) (sym (decided_at old.entries (prefix_whole old.entries)) ∙ due.1)
-          (ap (λ (x : Refusal). stepped (record (standing s) { low = length old.entries }) (RefusedReply (length old.entries) (refusal_number x)) [] (Met (length old.entries) ∷ [])) why.0)
-  written_turn written.NoMemory m = subst (λ (x : PassValue Entry Head). IsTurn s (record s { pass = x }) [] request NoMemory) (sym m.pass_is) (given_up_any s request)
+          let due = ok_due (decided_at board r.entries s.pass.session p event) why.1 in
+          told.not_recorded (length r.entries) due.0 (seen_at r.entries r.entries (prefix_whole r.entries) r.met.met.seen) (sym (decided_then r.entries r.entries (prefix_whole r.entries)) ∙ due.1)
+          (ap (λ (x : Refusal). stepped (record (standing s) { low = length r.entries }) (RefusedReply (length r.entries) (refusal_number x)) [] (Met (length r.entries) ∷ [])) why.0)
+  written_turn written.NoMemory same = subst (λ (x : PassValue Entry Head). IsTurn s (record s { pass = x }) [] request NoMemory) (sym same) (given_up_any s request)
 
-  met_ready : (board : Identity Entry Head) → IsReady board s → q.board ≡ s.pass.board → IsPrefix s.pass.seen q.seen → last_met q.trail ≡ length q.seen → IsReady board (record s { pass = q })
-  met_ready board ready same prefix last = record {
+  met_ready : (at : Identity Entry Head) → IsReady at s → q.board ≡ s.pass.board → IsPrefix s.pass.seen q.seen → last_met q.trail ≡ length q.seen → IsReady at (record s { pass = q })
+  met_ready at ready same prefix last = record {
     board_is = same ∙ ready.board_is;
     met = omega (arith, last);
     who = ready.who;
-    known = known_stay board.origin.setting (trees_of s) (entry_trees q.seen) (who_of s) s.known.rows (trees_prefix s.pass.seen q.seen prefix) ready.known;
+    known = known_stay at.origin.setting (trees_of s) (entry_trees q.seen) (who_of s) s.known.rows (trees_prefix s.pass.seen q.seen prefix) ready.known;
   }
 
-  pub written_ready : (board : Identity Entry Head) → IsReady board s → (answer : Written) → IsAnsweredBy sent faults old new s.pass q p event line answer → IsReady board (record s { pass = q })
-  written_ready board ready (written.Done at number) d =
-      let turn = written_turn (written.Done at number) d in
-      met_ready board ready turn.board_is turn.seen (ap (λ (x : PassValue Entry Head). last_met x.trail) d.pass_is ∙ last_met_now (s.pass.trail ++ Met (length old.entries) ∷ []) (length new.entries)
-      ∙ sym (ap (λ (x : PassValue Entry Head). length x.seen) d.pass_is))
-  written_ready board ready (written.Refused at refusal) r =
-      let turn = written_turn (written.Refused at refusal) r in
-      met_ready board ready turn.board_is turn.seen (ap (λ (x : PassValue Entry Head). last_met x.trail) r.pass_is ∙ last_met_now s.pass.trail (length old.entries)
-      ∙ sym (ap (λ (x : PassValue Entry Head). length x.seen) r.pass_is))
-  written_ready board ready written.NoMemory m = subst (λ (x : PassValue Entry Head). IsReady board (record s { pass = x })) (sym m.pass_is) ready
+  -- a pass that was just met
+  last_here : (entries : List Entry) (pass : PassValue Entry Head) → q ≡ met_at board entries q.known pass → last_met q.trail ≡ length q.seen
+  last_here entries pass is = ap (λ (x : PassValue Entry Head). last_met x.trail) is ∙ last_met_now pass.trail (length entries) ∙ sym (ap (λ (x : PassValue Entry Head). length x.seen) is)
+
+  pub written_ready : (at : Identity Entry Head) → IsReady at s → (answer : Written) → IsAnswered board s.pass q p event answer → IsReady at (record s { pass = q })
+  written_ready at ready (written.Done number_at number) d =
+      let turn = written_turn (written.Done number_at number) d in
+      met_ready at ready turn.board_is turn.seen (last_here (d.entries ++ mine ∷ []) (met_at board d.entries q.known s.pass) d.pass_is)
+  written_ready at ready (written.Refused number_at refusal) r =
+      let turn = written_turn (written.Refused number_at refusal) r in
+      met_ready at ready turn.board_is turn.seen (last_here r.entries s.pass r.met.pass_is)
+  written_ready at ready written.NoMemory same = subst (λ (x : PassValue Entry Head). IsReady at (record s { pass = x })) (sym same) ready
+
+-- a refusal with another number
+numbered_else : (number count more : ℕ) → number < 20 → number ≡ 20 → count < count + more
+numbered_else number count more small is = omega (arith, small, is)
+
+-- what was counted of a change by the book is what its reply tells
+refused_counted : (refusal : Refusal) (at count : ℕ) → IsUnrecorded (RefusedReply at (refusal_number refusal)) → count < count + unrecorded_by (written.Refused at refusal)
+refused_counted NoSuchPrincipal at count is = numbered_else 4 count 0 (omega arith) is
+refused_counted NotYourPrincipal at count is = numbered_else 5 count 0 (omega arith) is
+refused_counted NoSuchLabel at count is = numbered_else 6 count 0 (omega arith) is
+refused_counted NotHolder at count is = numbered_else 7 count 0 (omega arith) is
+refused_counted NoSuchObject at count is = numbered_else 8 count 0 (omega arith) is
+refused_counted NameTaken at count is = numbered_else 9 count 0 (omega arith) is
+refused_counted NotOwner at count is = numbered_else 10 count 0 (omega arith) is
+refused_counted NoGoal at count is = numbered_else 11 count 0 (omega arith) is
+refused_counted NoSuchProof at count is = numbered_else 12 count 0 (omega arith) is
+refused_counted NoBinding at count is = numbered_else 13 count 0 (omega arith) is
+refused_counted BadPort at count is = numbered_else 14 count 0 (omega arith) is
+refused_counted BadFormula at count is = numbered_else 15 count 0 (omega arith) is
+refused_counted BadProof at count is = numbered_else 16 count 0 (omega arith) is
+refused_counted Quota at count is = numbered_else 17 count 0 (omega arith) is
+refused_counted ObjectsFull at count is = numbered_else 18 count 0 (omega arith) is
+refused_counted CasesFull at count is = numbered_else 19 count 0 (omega arith) is
+refused_counted NotRecorded at count is = omega arith
+
+counted_one : (count count_now : ℕ) (reply : Reply) → count ≤ count_now → (IsUnrecorded reply → count < count_now) → AreCounted count count_now (reply ∷ [])
+counted_one count count_now reply later counted = record {
+  later = later;
+  counted = All-cons (λ (r : Reply). IsUnrecorded r → count < count_now) reply [] counted (All-nil (λ (r : Reply). IsUnrecorded r → count < count_now));
+}
+
+pub written_counted : (count count_now : ℕ) (answer : Written) → count_now ≡ count + unrecorded_by answer → AreCounted count count_now (reply_of answer ∷ [])
+written_counted count count_now (written.Done at number) is = counted_one count count_now (DoneReply at number) (omega (arith, is)) (λ none. absurd none)
+written_counted count count_now (written.Refused at refusal) is =
+    counted_one count count_now (RefusedReply at (refusal_number refusal)) (omega (arith, is)) (λ told. subst (λ (n : ℕ). count < n) (sym is) (refused_counted refusal at count told))
+written_counted count count_now written.NoMemory is = counted_one count count_now NoMemory (omega (arith, is)) (λ none. absurd none)
+
+-- a reply that tells no change not to be recorded, where nothing was counted
+pub quiet_counted : (count count_now : ℕ) (reply : Reply) → count_now ≡ count → ¬ IsUnrecorded reply → AreCounted count count_now (reply ∷ [])
+quiet_counted count count_now reply same quiet = counted_one count count_now reply (omega (arith, same)) (λ told. absurd (quiet told))
 
 -- ---- Who is admitted
 

@@ -1,12 +1,10 @@
 -- What calls of sessions over one journal make true.
-use Rattle.std.proofs.Common.{◌≡◌, ◌≤◌, ◌<◌, ◌+◌, ◌⊎◌, inl, inr, ℕ, zero, suc, List, [], ◌∷◌, ◌++◌, length, take, Bool, true, false, Option, Some, None, Result, Ok, Err, refl, sym, ap, subst, arith, ◌∙◌, append_assoc, length-append, slice_set}
+use Rattle.std.proofs.Common.{◌≡◌, ◌≤◌, ◌+◌, ◌⊎◌, inl, inr, ℕ, zero, suc, List, [], ◌∷◌, ◌++◌, length, take, true, false, Option, Some, None, Result, Ok, Err, refl, sym, ap, subst, arith, ◌∙◌, append_assoc, length-append, slice_set}
 use Rattle.std.proofs.lemmas.List.{append-nil}
 use Rattle.std.proofs.Math.Seq.{take-append_seam}
 use Rattle.std.specs.Prelude.{slice_get, unwrap_or}
 use Rattle.nal_rules.specs.Asking.{IsAsked}
 use Rattle.nal_rules.specs.Verdicts.{IsVerdict}
-use Rattle.nal_rules.specs.declared.verdicts.Verdict.{Verdict}
-use Rattle.nal_rules.specs.declared.verdicts.Verdict.TheVariants.{Allowed as AllowedVerdict, Denied as DeniedVerdict}
 use Rattle.object_table.specs.Objects.{number_of}
 use Rattle.policy_history.specs.declared.heads.Head.{Head}
 use Rattle.policy_history.specs.declared.events.Due.{Due}
@@ -24,8 +22,8 @@ use Rattle.session_wire.specs.declared.requests.Request.{Request}
 use Rattle.session_wire.specs.declared.requests.Request.TheVariants.{Hello, Call}
 use Rattle.session_wire.specs.declared.replies.Reply.{Reply}
 use Rattle.session_wire.specs.declared.replies.Reply.TheVariants.{Welcome, Allowed, Denied}
-use Rattle.session_core.specs.Answers.{HasOutcome, IsAnswer, IsCalledOn, IsGivenUp, IsJudgedCall, Outcome, answered, changed, down, found, found_reply, given_up, greeted}
-use Rattle.session_core.specs.Earned.{IsAskingOf, IsEarned, IsRefuted, IsTrueAlone, IsWelcomedIn, TellsWhatIsTrueAlone}
+use Rattle.session_core.specs.Answers.{HasOutcome, IsAnswer, IsCalledOn, IsGivenUp, Outcome, answered, changed, down, found, found_reply, given_up}
+use Rattle.session_core.specs.Earned.{IsAskingOf, IsEarned, IsRefuted, IsWelcomedIn, TellsWhatIsTrueAlone}
 use Rattle.session_core.specs.Sessions.{Point, Told1, admitted_in, behind}
 use Rattle.session_core.specs.Told.{state_at}
 use Rattle.session_core.specs.declared.lines.Asking.{Asking}

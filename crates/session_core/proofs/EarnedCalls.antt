@@ -1,8 +1,7 @@
 -- What one call makes true.
-use Rattle.std.proofs.Common.{◌≡◌, ◌≤◌, ◌<◌, ℕ, zero, suc, List, [], ◌∷◌, ◌++◌, length, map, filter, take, Bool, true, false, Option, Some, None, refl, sym, ap, subst, arith, ◌∙◌}
+use Rattle.std.proofs.Common.{◌≡◌, ◌<◌, ℕ, List, [], map, take, Some, refl, sym, ap, subst, arith, ◌∙◌}
 use Rattle.std.specs.Prelude.{slice_get}
-use Rattle.nal_rules.specs.Asking.{Asked, IsAsked, IsDecided, asks_for, lines_of}
-use Rattle.nal_rules.specs.Faults.{is_ask}
+use Rattle.nal_rules.specs.Asking.{Asked, IsAsked, asks_for}
 use Rattle.nal_rules.specs.Numbers.{cause_numbers}
 use Rattle.nal_rules.specs.Verdicts.{CaseTree, IsVerdict}
 use Rattle.nal_rules.specs.declared.verdicts.Cause.{Cause}
@@ -17,7 +16,7 @@ use Rattle.policy_history.specs.Events.{EntryTree}
 use Rattle.policy_history.specs.Judged.{IsLasting, IsRightIn, case_at, case_of_row}
 use Rattle.policy_history.proofs.ForCallers.{case_there}
 use Rattle.authority_ask.specs.Panels.{Told as Ask}
-use Rattle.guard_core.specs.Judging.{IsJudged, answers_in, told_of, verdict_of}
+use Rattle.guard_core.specs.Judging.{answers_in, told_of}
 use Rattle.session_core.specs.Standing.{Standing}
 use Rattle.session_core.specs.Told.{Turn, state_at}
 use Rattle.session_core.specs.Earned.{IsEarned, IsRefuted}

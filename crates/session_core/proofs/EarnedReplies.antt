@@ -1,5 +1,5 @@
 -- What all calls of a session make true.
-use Rattle.std.proofs.Common.{◌≡◌, ◌≤◌, ◌<◌, ◌⊎◌, inl, inr, ℕ, zero, suc, List, [], ◌∷◌, ◌++◌, length, Bool, true, false, Option, Some, None, refl, sym, ap, subst, arith, ◌∙◌, append_assoc}
+use Rattle.std.proofs.Common.{◌≡◌, ◌≤◌, ◌⊎◌, inl, inr, ℕ, zero, suc, List, [], ◌∷◌, ◌++◌, length, true, false, Option, Some, None, refl, sym, ap, subst, arith, ◌∙◌, append_assoc}
 use Rattle.std.specs.Prelude.{slice_get}
 use Rattle.nal_rules.specs.declared.verdicts.Verdict.{Verdict}
 use Rattle.nal_rules.specs.declared.verdicts.Verdict.TheVariants.{Allowed as AllowedVerdict, Denied as DeniedVerdict}
@@ -9,13 +9,13 @@ use Rattle.authority_ask.specs.Panels.{Told as Ask}
 use Rattle.session_wire.specs.declared.requests.Request.{Request}
 use Rattle.session_wire.specs.declared.requests.Request.TheVariants.{Hello, Call}
 use Rattle.session_wire.specs.declared.replies.Reply.{Reply}
-use Rattle.session_wire.specs.declared.replies.Reply.TheVariants.{Welcome, Allowed, Denied, NoMemory}
+use Rattle.session_wire.specs.declared.replies.Reply.TheVariants.{Welcome, Allowed, Denied}
 use Rattle.verdict_words.specs.declared.views.Item.{Item}
 use Rattle.session_core.specs.Answers.{greeted}
 use Rattle.session_core.specs.Standing.{Standing, beginning}
 use Rattle.session_core.specs.Told.{Answers, Calls, Changes, GivesUp, IsTold, Judges, Leads, Turn, verdict_reply}
 use Rattle.session_core.specs.Told as told
-use Rattle.session_core.specs.Earned.{IsCallOf, IsEarned, IsRefuted, IsTrue, IsWelcomed, TellsWhatIsTrue}
+use Rattle.session_core.specs.Earned.{IsCallOf, IsEarned, IsRefuted, IsWelcomed, TellsWhatIsTrue}
 use Rattle.session_core.proofs.EarnedCalls.{IsFound, earned_of, found_of, refuted_of}
 use Rattle.session_core.proofs.ToldRefusals.{IsVerdictOf, call_verdict, gives_up_silent, greeting_no_verdict, is_verdict_reply, misses_low, other_kind}
 

@@ -6,7 +6,6 @@ use Rattle.policy_history.specs.declared.heads.Head.{Head}
 use Rattle.nx_io.specs.Streams.{Gave, gained, Grows, prepended}
 use Rattle.nx_io.proofs.ForCallers.{gained-by, gave-by, grows-by, prepended-prepended}
 use Rattle.authority_ask.specs.Panels.{Told}
-use Rattle.guard_core.specs.Judging.{asks_after}
 use Rattle.session_wire.specs.declared.replies.Reply.{Reply}
 use Rattle.session_core.specs.Earned.{IsTrueAlone, IsTrueReport}
 use Rattle.session_core.specs.Served.{IsServedSo, Reported}
@@ -14,13 +13,13 @@ use Rattle.session_core.specs.declared.lines.Asking.{Asking}
 use Rattle.session_core.proofs.EarnedAlone.{tells_what_is_true_alone}
 use Rattle.session_core.proofs.EarnedReplies.{tells_what_is_true}
 use Rattle.session_core.proofs.RisingPoints.{tells_in_order}
-use Rattle.session_core.specs.Answers.{Outcome, faults_after_reply}
+use Rattle.session_core.specs.Answers.{Outcome}
 use Rattle.policy_history.specs.Events.{EntryTree}
 use Rattle.session_wire.specs.declared.requests.Request.{Request}
 use Rattle.verdict_words.specs.declared.views.Item.{Item}
 use Rattle.session_core.specs.Standing.{Standing}
 use Rattle.session_core.specs.Told.{Answers as BoardAnswers, Leads, Turn}
-use Rattle.session_core.specs.Sessions.{Answers, Point, Told1, at_start, behind, faults_after_replies}
+use Rattle.session_core.specs.Sessions.{Answers, Point, Told1, at_start, behind}
 
 -- one request more, behind those that were answered
 pub told-then : (h : Head) (first : ℕ) (point : Point) (askings : List Asking) (replies : List Reply) (asks : List Told) (last : Point) (asking : Asking) (outcome : Outcome)
@@ -42,17 +41,6 @@ told-then h first point (q ∷ qs) (r ∷ rs) asks last asking outcome told answ
 told-then h first point [] (r ∷ rs) asks last asking outcome told answers = absurd told
 told-then h first point (q ∷ qs) [] asks last asking outcome told answers = absurd told
 
--- the count of faults after one reply more
-pub faults-then : (replies : List Reply) (reply : Reply) (faults : ℕ)
-    → faults_after_replies (replies ++ reply ∷ []) faults ≡ faults_after_reply reply (faults_after_replies replies faults)
-faults-then [] reply faults = refl
-faults-then (r ∷ rs) reply faults = faults-then rs reply (faults_after_reply r faults)
-
--- how often was asked, after asks and more of them
-pub asks-then : (asks more : List Told) (count : ℕ) → asks_after (asks ++ more) count ≡ asks_after more (asks_after asks count)
-asks-then [] more count = refl
-asks-then (a ∷ asks) more count = asks-then asks more _
-
 -- a history that grew twice
 pub gained-on : {A : Type 0} (a b c : List A) → Grows a b → Grows b c → gained a c ≡ gained a b ++ gained b c
 gained-on a b c first second =
@@ -70,11 +58,6 @@ gave-on left left_then left_now given given_then given_now first second =
     let b = gained given_then given_now in
     gave-by left left_now given given_now (a ++ b) (first.taken ∙ ap (prepended a) second.taken ∙ prepended-prepended left_now a b)
     (second.grows ∙ ap (λ xs. xs ++ b) first.grows ∙ append_assoc given a b)
-
--- how often was asked, where a panel was asked twice in a row
-pub asks-on : (a b c : List Told) (m n k : ℕ) → Grows a b → Grows b c → n ≡ asks_after (gained a b) m → k ≡ asks_after (gained b c) n → k ≡ asks_after (gained a c) m
-asks-on a b c m n k first second asked more =
-    more ∙ ap (asks_after (gained b c)) asked ∙ sym (asks-then (gained a b) (gained b c) m) ∙ ap (λ asks. asks_after asks m) (sym (gained-on a b c first second))
 
 -- one request more that a session over a shared board is answered, behind those that it was
 pub leads_then : (h : Head) (es : List EntryTree) (s : ℕ) (before : Standing) (requests : List Request) (replies : List Reply) (asks : List Told) (steps : List Item)

@@ -3,6 +3,7 @@ mod Answering
 mod Alone
 mod Turns
 mod ToldLaws
+mod Downs
 mod Sittings
 mod ToldRows
 mod OneLineVerdicts

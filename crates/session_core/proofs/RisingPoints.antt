@@ -1,5 +1,5 @@
 -- The points that the replies of a session name.
-use Rattle.std.proofs.Common.{◌≡◌, ◌≤◌, ℕ, zero, suc, List, [], ◌∷◌, Option, Some, None, refl, sym, ap, arith, ◌∙◌}
+use Rattle.std.proofs.Common.{◌≡◌, ◌≤◌, ℕ, zero, suc, List, [], ◌∷◌, Option, Some, None, refl, ap, arith, ◌∙◌}
 use Rattle.std.specs.Prelude.{slice_get}
 use Rattle.nal_rules.specs.declared.verdicts.Verdict.{Verdict}
 use Rattle.nal_rules.specs.declared.verdicts.Verdict.TheVariants.{Allowed as AllowedVerdict, Denied as DeniedVerdict}
@@ -14,7 +14,7 @@ use Rattle.session_core.specs.Answers.{greeted}
 use Rattle.session_core.specs.Standing.{Standing, beginning}
 use Rattle.session_core.specs.Told.{Answers, Calls, Changes, IsTold, Judges, Leads, Turn, verdict_reply}
 use Rattle.session_core.specs.Told as told
-use Rattle.session_core.specs.Earned.{PointsRise, TellsInOrder, point_of}
+use Rattle.session_core.specs.Earned.{TellsInOrder, point_of}
 use Rattle.session_core.proofs.EarnedReplies.{answers_low}
 use Rattle.session_core.proofs.ToldRefusals.{gives_up_silent, misses_low}
 

@@ -1,5 +1,6 @@
 -- What a session is answered at a point of the journal, without a cache: one request.
-use Rattle.std.specs.Prelude.{◌≡◌, ◌+◌, ◌⊎◌, ℕ, List, [], ◌∷◌, length, Option, Some, None, Result, Ok, Err}
+use Rattle.std.specs.Prelude.{◌≡◌, ◌+◌, ◌⊎◌, ℕ, Bool, true, false, List, [], ◌∷◌, length, Option, Some, None, Result, Ok, Err}
+use Rattle.std.specs.List.{count_by}
 use Rattle.nal_rules.specs.Numbers.{cause_numbers}
 use Rattle.nal_rules.specs.Verdicts.{CaseTree}
 use Rattle.object_table.specs.Objects.{number_of}
@@ -11,7 +12,7 @@ use Rattle.policy_history.specs.Machine.{replay}
 use Rattle.policy_history.specs.Judged.{case_at}
 use Rattle.policy_history.specs.Laws.{refusal_number}
 use Rattle.policy_history.specs.Values.{decision}
-use Rattle.nx_io.specs.Streams.{gained, one_more}
+use Rattle.nx_io.specs.Streams.{gained}
 use Rattle.authority_ask.specs.Panels.{Told}
 use Rattle.guard_core.specs.declared.findings.Finding.{Finding}
 use Rattle.guard_core.specs.declared.findings.Finding.TheVariants.{Allowed as AllowedFinding, Denied as DeniedFinding}
@@ -107,12 +108,15 @@ IsFrugal None request = Unit {0}
 IsFrugal (Some p) (Hello name secret) = Unit {0}
 IsFrugal (Some p) request = ⊥
 
--- what a call came to, by the reply, by who is admitted afterwards, and by what the panel's asks and the journal's entries
--- gained
-abbrev pub outcome_of : Reply → Option ℕ → List Told → List Told → List EntryTree → List EntryTree → Outcome
-outcome_of reply who said said_now es es_now = record { reply = reply; who = who; asks = gained said said_now; added = gained es es_now }
+-- what a call came to, by the reply, by who is admitted afterwards, by what was asked, and by what the journal's entries gained
+abbrev pub outcome_of : Reply → Option ℕ → List Told → List EntryTree → List EntryTree → Outcome
+outcome_of reply who asks es es_now = record { reply = reply; who = who; asks = asks; added = gained es es_now }
 
--- the count of a panel's faults after a request: one more where an authority was down, the same otherwise
-abbrev pub faults_after_reply : Reply → ℕ → ℕ
-faults_after_reply (Down at k) faults = one_more faults
-faults_after_reply _ faults = faults
+-- whether an authority was down, by a reply
+abbrev pub is_down : Reply → Bool
+is_down (Down at k) = true
+is_down _ = false
+
+-- how many of these replies tell that an authority was down
+abbrev pub downs_told : List Reply → ℕ
+downs_told replies = count_by is_down replies

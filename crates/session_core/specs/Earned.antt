@@ -1,8 +1,8 @@
 -- What the replies of a session mean: the promise of the whole service, reply by reply.
 use Rattle.std.specs.Prelude.{◌≡◌, ◌≤◌, ◌<◌, ◌+◌, ℕ, List, [], ◌++◌, length, map, Option, Some, None, slice_get}
-use Rattle.nal_rules.specs.Asking.{Asked, IsAsked}
+use Rattle.nal_rules.specs.Asking.{Asked}
 use Rattle.nal_rules.specs.Numbers.{cause_numbers}
-use Rattle.nal_rules.specs.Verdicts.{CaseTree, IsVerdict}
+use Rattle.nal_rules.specs.Verdicts.{IsVerdict}
 use Rattle.nal_rules.specs.declared.verdicts.Cause.{Cause}
 use Rattle.nal_rules.specs.declared.verdicts.Verdict.TheVariants.{Denied as DeniedVerdict}
 use Rattle.object_table.specs.Objects.{number_of}

@@ -13,7 +13,7 @@ use Rattle.session_wire.specs.Beginnings.{IsBad, IsPart, Spells}
 use Rattle.session_core.specs.declared.lines.Asking.{Asking}
 use Rattle.session_core.specs.declared.ends.SessionEnd.{SessionEnd}
 use Rattle.session_core.specs.declared.ends.SessionEnd.TheVariants.{Closed, Torn, BadFrame, ReadFault, WriteFault, Spent, Memory}
-use Rattle.session_core.specs.Sessions.{Point, Told1, faults_after_replies}
+use Rattle.session_core.specs.Sessions.{Point, Told1}
 
 -- how many requests a session answers at most
 abbrev pub most_requests : ℕ
@@ -74,12 +74,11 @@ at_first es = record { entries = es; admitted = None ∷ [] }
 
 -- A session over a link was served, and ended so. The frames that were taken are those of its requests, which are told their
 -- replies behind the entries of the journal, one after another; what was added to the journal comes of them alone, and so do
--- the asks and the faults of the panel.
-pub record IsServed (end : SessionEnd) (h : Head) (session : ℕ) (es es_now : List EntryTree) (taken sent : List ℕ) (asks : List Told) (faults faults_now : ℕ) : Type 0 where
+-- the asks.
+pub record IsServed (end : SessionEnd) (h : Head) (session : ℕ) (es es_now : List EntryTree) (taken sent : List ℕ) (asks : List Told) : Type 0 where
   pub requests : List Request
   pub replies : List Reply
   pub last : Point
   pub ended : HasEnded end taken sent requests replies
   pub told : Told1 h session (at_first es) (askings_of requests) replies asks last
   pub entries : last.entries ≡ es_now
-  pub downs : faults_now ≡ faults_after_replies replies faults

@@ -1,14 +1,14 @@
--- The sessions that one worker served, one after another, over a shared board.
-use Rattle.std.specs.Prelude.{◌≡◌, ◌-◌, ℕ, List, [], ◌∷◌, ◌++◌, length, take, Option}
+-- What is reported of a session over a shared board.
+use Rattle.std.specs.Prelude.{◌≡◌, ◌<◌, ◌≤◌, ◌-◌, ℕ, List, length, take, All, Option}
 use Rattle.policy_history.specs.declared.heads.Head.{Head}
 use Rattle.policy_history.specs.Events.{EntryTree}
 use Rattle.authority_ask.specs.Panels.{Told as Ask}
 use Rattle.session_wire.specs.declared.requests.Request.{Request}
 use Rattle.session_wire.specs.declared.replies.Reply.{Reply}
+use Rattle.session_wire.specs.declared.replies.Reply.TheVariants.{Refused}
 use Rattle.verdict_words.specs.declared.views.Item.{Item}
 use Rattle.session_core.specs.declared.ends.SessionEnd.{SessionEnd}
 use Rattle.session_core.specs.Ends.{HasEnded}
-use Rattle.session_core.specs.Sessions.{faults_after_replies}
 use Rattle.session_core.specs.Standing.{Standing}
 use Rattle.session_core.specs.Told.{IsTold}
 
@@ -32,13 +32,21 @@ pub record IsServedSo (h : Head) (low : ℕ) (report : Reported) (asks : List As
   pub told : IsTold h report.seen report.session low requests replies asks (take (length report.trail - later) report.trail) last
   pub who_is : last.who ≡ report.who
 
--- The same, and the panel failed as often as an authority was down by the replies
-pub record IsServedOver (h : Head) (low : ℕ) (report : Reported) (asks : List Ask) (faults faults_now : ℕ) : Type 0 where
-  pub served : IsServedSo h low report asks 0
-  pub downs : faults_now ≡ faults_after_replies served.replies faults
+-- a change was told not to be recorded
+abbrev pub IsUnrecorded : Reply → Type 0
+IsUnrecorded (Refused at number) = number ≡ 20
+IsUnrecorded _ = ⊥
 
--- Each of the sessions was told over what its own pass has seen, and the asks of all stand in the order of the sessions.
-pub data Served (h : Head) (low later : ℕ) : List Reported → List Ask → Type 0 where
-  nobody : Served h low later [] []
-  next : {reports : List Reported} {said : List Ask} (report : Reported) (asks : List Ask) → Served h low later reports said → IsServedSo h low report asks later
-      → Served h low later (reports ++ report ∷ []) (said ++ asks)
+-- some of these replies told a change not to be recorded only where this is so
+abbrev pub UnrecordedOnlyWhere : Type 0 → List Reply → Type 0
+UnrecordedOnlyWhere Holds replies = All (λ (reply : Reply). IsUnrecorded reply → Holds) replies
+
+-- so many changes were told not to be recorded before, and so many now; more where one of these replies tells it
+pub record AreCounted (count count_now : ℕ) (replies : List Reply) : Type 0 where
+  pub later : count ≤ count_now
+  pub counted : UnrecordedOnlyWhere (count < count_now) replies
+
+-- The same, and each change that was told not to be recorded was counted
+pub record IsServedOver (h : Head) (low : ℕ) (report : Reported) (asks : List Ask) (count count_now : ℕ) : Type 0 where
+  pub served : IsServedSo h low report asks 0
+  pub counted : AreCounted count count_now served.replies

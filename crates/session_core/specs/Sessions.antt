@@ -5,7 +5,7 @@ use Rattle.policy_history.specs.Events.{EntryTree}
 use Rattle.authority_ask.specs.Panels.{Told}
 use Rattle.session_wire.specs.declared.replies.Reply.{Reply}
 use Rattle.session_core.specs.declared.lines.Asking.{Asking}
-use Rattle.session_core.specs.Answers.{Outcome, HasOutcome, faults_after_reply}
+use Rattle.session_core.specs.Answers.{Outcome, HasOutcome}
 
 -- how far it is: the entries of the journal, and for each session in its place the principal that is admitted, or none
 pub record Point : Type 0 where
@@ -34,11 +34,6 @@ Told1 h first point (asking ∷ askings) (reply ∷ replies) asks last =
     (outcome : Outcome) × (later : List Told) × Answers h first point asking outcome × (outcome.reply ≡ reply)
     × (asks ≡ outcome.asks ++ later) × Told1 h first (behind point asking.place outcome) askings replies later last
 Told1 h first point _ _ asks last = ⊥
-
--- how often a panel has failed after these replies: once more for each authority that was down
-abbrev pub faults_after_replies : List Reply → ℕ → ℕ
-faults_after_replies [] faults = faults
-faults_after_replies (reply ∷ replies) faults = faults_after_replies replies (faults_after_reply reply faults)
 
 -- the point behind these entries at which nobody is admitted yet in any of the 64 sessions
 abbrev pub at_start : List EntryTree → Point

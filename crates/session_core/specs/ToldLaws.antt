@@ -3,12 +3,16 @@ use Rattle.std.specs.Prelude.{◌≡◌, ◌⊎◌, ℕ, List, [], ◌++◌, Boo
 use Rattle.std.specs.List.{list_any}
 use Rattle.policy_history.specs.declared.heads.Head.{Head}
 use Rattle.policy_history.specs.Events.{EntryTree}
+use Rattle.authority_ask.specs.PanelCalls.{downs_in}
 use Rattle.authority_ask.specs.Panels.{Told as Ask}
 use Rattle.session_wire.specs.declared.requests.Request.{Request}
 use Rattle.session_wire.specs.declared.replies.Reply.{Reply}
 use Rattle.session_wire.specs.declared.replies.Reply.TheVariants.{Allowed, Done}
 use Rattle.verdict_words.specs.declared.views.Item.{Item}
 use Rattle.verdict_words.specs.declared.views.Item.TheVariants.{Ran}
+use Rattle.session_core.specs.declared.lines.Asking.{Asking}
+use Rattle.session_core.specs.Answers.{downs_told}
+use Rattle.session_core.specs.Sessions.{Point, Told1}
 use Rattle.session_core.specs.Standing.{Standing}
 use Rattle.session_core.specs.Told.{Answers, IsTold, Turn}
 
@@ -34,3 +38,15 @@ abbrev pub OnlyDoneAdds : Type 0
 OnlyDoneAdds =
     (h : Head) (es : List EntryTree) (s : ℕ) (before : Standing) (request : Request) (turn : Turn)
     → Answers h es s before request turn → (turn.added ≡ []) ⊎ ((at number : ℕ) × (turn.reply ≡ Done at number))
+
+-- authorities were down as often as the replies of a session tell it
+abbrev pub DownsAreTold : Type 0
+DownsAreTold =
+    (h : Head) (es : List EntryTree) (s low : ℕ) (requests : List Request) (replies : List Reply) (asks : List Ask) (trail : List Item) (last : Standing)
+    → IsTold h es s low requests replies asks trail last → downs_in asks ≡ downs_told replies
+
+-- and so it is of sessions over one journal, with no others
+abbrev pub DownsAreToldAlone : Type 0
+DownsAreToldAlone =
+    (h : Head) (first : ℕ) (point : Point) (askings : List Asking) (replies : List Reply) (asks : List Ask) (last : Point)
+    → Told1 h first point askings replies asks last → downs_in asks ≡ downs_told replies

@@ -1,13 +1,13 @@
 //! The answer to one request, at the end of a journal and without a cache.
 ghost use Rattle.std.specs.Prelude.{◌≡◌, ◌≢◌, ◌≤◌, ◌<◌, length, IfSome, Some};
-ghost use Rattle.nx_io.specs.Streams.{Grows, gained};
-ghost use Rattle.guard_core.specs.Judging.{asks_after};
+ghost use Rattle.nx_io.specs.Streams.{Grows};
+ghost use Rattle.authority_ask.specs.PanelCalls.{HasOnlyAsked, asked_since};
 ghost use Rattle.nal_rules.specs.Asking.{case_tree};
 ghost use Rattle.policy_history.specs.Events.{admitted, event_tree};
 ghost use Rattle.policy_history.specs.Values.{entry_trees};
 ghost use Rattle.journal_text.specs.RequestEvents.{IsChange};
-ghost use Rattle.session_core.specs.Answers.{HasOutcome, IsFrugal, faults_after_reply, found_reply, greeted, outcome_of, replied};
-ghost use Rattle.session_core.specs.Inner.Steps.{IsCallReply, IsChanged, IsDecided, IsDown, IsHello, IsJudgedReply};
+ghost use Rattle.session_core.specs.Answers.{HasOutcome, IsFrugal, found_reply, greeted, outcome_of, replied};
+ghost use Rattle.session_core.specs.Inner.Steps.{IsCallReply, IsChanged, IsDecided, IsHello, IsJudgedReply};
 
 use authority_ask::Panel;
 use guard_core::{Finding, GuardError, judge};
@@ -54,17 +54,13 @@ impl Session {
         requires number { 1 ≤ self.old.number }
         requires principal { IfSome self.old.principal (λ p. p < length journal.old.head.principals) }
         ensures outcome { HasOutcome journal.old.head (entry_trees journal.old.entries) self.old.number self.old.principal request.now
-            (outcome_of result self.new.principal (P.said panel.old) (P.said panel.new) (entry_trees journal.old.entries) (entry_trees journal.new.entries)) }
+            (outcome_of result self.new.principal (asked_since (P.history panel.old) (P.history panel.new)) (entry_trees journal.old.entries) (entry_trees journal.new.entries)) }
         ensures memory { IsFrugal self.old.principal request.now → result ≢ Reply.NoMemory }
         ensures number { self.new.number ≡ self.old.number }
         ensures principal { IfSome self.new.principal (λ p. p < length journal.new.head.principals) }
         ensures head { journal.new.head ≡ journal.old.head }
         ensures grows { Grows (entry_trees journal.old.entries) (entry_trees journal.new.entries) }
-        ensures said { Grows (P.said panel.old) (P.said panel.new) }
-        ensures asks { P.asks panel.new ≡ asks_after (gained (P.said panel.old) (P.said panel.new)) (P.asks panel.old) }
-        ensures reached { P.reached panel.new ≡ P.reached panel.old }
-        ensures later { P.faults panel.old ≤ P.faults panel.new }
-        ensures count { P.faults panel.new ≡ faults_after_reply result (P.faults panel.old) }
+        ensures asked { HasOnlyAsked (P.history panel.old) (P.history panel.new) }
     {
         match request {
             Request::Hello { name, secret } => self.open(journal, name, secret),
@@ -121,14 +117,10 @@ fn serve<P: Panel, R: Net<Listener = TcpListener, Stream = TcpStream> + Clock>(
     requires principal { principal < length journal.old.head.principals }
     requires no_hello { ¬ IsHello request.now }
     ensures outcome { HasOutcome journal.old.head (entry_trees journal.old.entries) session (Some principal) request.now
-        (outcome_of result (Some principal) (P.said panel.old) (P.said panel.new) (entry_trees journal.old.entries) (entry_trees journal.new.entries)) }
+        (outcome_of result (Some principal) (asked_since (P.history panel.old) (P.history panel.new)) (entry_trees journal.old.entries) (entry_trees journal.new.entries)) }
     ensures head { journal.new.head ≡ journal.old.head }
     ensures grows { Grows (entry_trees journal.old.entries) (entry_trees journal.new.entries) }
-    ensures said { Grows (P.said panel.old) (P.said panel.new) }
-    ensures asks { P.asks panel.new ≡ asks_after (gained (P.said panel.old) (P.said panel.new)) (P.asks panel.old) }
-    ensures reached { P.reached panel.new ≡ P.reached panel.old }
-    ensures later { P.faults panel.old ≤ P.faults panel.new }
-    ensures count { P.faults panel.new ≡ faults_after_reply result (P.faults panel.old) }
+    ensures asked { HasOnlyAsked (P.history panel.old) (P.history panel.new) }
 {
     match request {
         Request::Call { op, object, .. } => call(rt, alloc, journal, principal, op, object, panel),
@@ -148,7 +140,6 @@ fn change(
     requires change { IsChange request.now }
     ensures outcome { IsChanged journal.old.head (entry_trees journal.old.entries) (entry_trees journal.new.entries) session principal request.now result }
     ensures head { journal.new.head ≡ journal.old.head }
-    ensures up { ¬ IsDown result }
 {
     let Ok(found) = event_of(alloc, request) else {
         return Reply::NoMemory;
@@ -165,7 +156,6 @@ fn decide(journal: &mut Journal, session: u64, principal: u32, event: Event) -> 
     requires { principal < length journal.old.head.principals }
     ensures outcome { IsDecided journal.old.head (entry_trees journal.old.entries) (entry_trees journal.new.entries) session principal (event_tree event) result }
     ensures head { journal.new.head ≡ journal.old.head }
-    ensures up { ¬ IsDown result }
 {
     let at = journal.count();
     match journal.decide(session, principal, &event) {
@@ -201,12 +191,8 @@ fn call<P: Panel, R: Net<Listener = TcpListener, Stream = TcpStream> + Clock>(
     panel: &mut P,
 ) -> Reply
     requires { principal < length journal.now.head.principals }
-    ensures outcome { IsCallReply journal.now.head (entry_trees journal.now.entries) principal op.now object.now (gained (P.said panel.old) (P.said panel.new)) result }
-    ensures said { Grows (P.said panel.old) (P.said panel.new) }
-    ensures asks { P.asks panel.new ≡ asks_after (gained (P.said panel.old) (P.said panel.new)) (P.asks panel.old) }
-    ensures reached { P.reached panel.new ≡ P.reached panel.old }
-    ensures later { P.faults panel.old ≤ P.faults panel.new }
-    ensures count { P.faults panel.new ≡ faults_after_reply result (P.faults panel.old) }
+    ensures outcome { IsCallReply journal.now.head (entry_trees journal.now.entries) principal op.now object.now (asked_since (P.history panel.old) (P.history panel.new)) result }
+    ensures asked { HasOnlyAsked (P.history panel.old) (P.history panel.new) }
 {
     let at = journal.count();
     match journal.case_of(alloc, principal, op, object) {
@@ -227,12 +213,9 @@ fn judged<P: Panel, R: Net<Listener = TcpListener, Stream = TcpStream> + Clock>(
     case: &Case,
     panel: &mut P,
 ) -> Reply
-    ensures outcome { IsJudgedReply at (case_tree case.now) (gained (P.said panel.old) (P.said panel.new)) result }
-    ensures said { Grows (P.said panel.old) (P.said panel.new) }
-    ensures asks { P.asks panel.new ≡ asks_after (gained (P.said panel.old) (P.said panel.new)) (P.asks panel.old) }
-    ensures reached { P.reached panel.new ≡ P.reached panel.old }
-    ensures later { P.faults panel.old ≤ P.faults panel.new }
-    ensures count { P.faults panel.new ≡ faults_after_reply result (P.faults panel.old) }
+    ensures outcome { IsJudgedReply at (case_tree case.now)
+        (asked_since (P.history panel.old) (P.history panel.new)) result }
+    ensures asked { HasOnlyAsked (P.history panel.old) (P.history panel.new) }
 {
     match judge(rt, alloc, case, panel) {
         Ok(finding) => found_reply(at, &finding),

@@ -7,20 +7,19 @@ ghost use Rattle.nal_rules.specs.declared.verdicts.Verdict.{Verdict};
 ghost use Rattle.nal_rules.specs.declared.verdicts.Verdict.TheVariants.{Allowed as AllowedVerdict};
 ghost use Rattle.policy_history.specs.Judged.{IsLasting};
 ghost use Rattle.policy_history.specs.Values.{entry_trees};
-ghost use Rattle.guard_core.specs.Judging.{HasCount, IsJudged, asks_after, verdict_of};
+ghost use Rattle.guard_core.specs.Judging.{HasCount, IsJudged, verdict_of};
 ghost use Rattle.verdict_words.specs.declared.places.CasePlace.{CasePlace};
 ghost use Rattle.verdict_words.specs.declared.places.Held.{Held};
 ghost use Rattle.verdict_words.specs.Words.{IsPlace};
 ghost use Rattle.policy_book.specs.Matter.{IsHeldRight, IsOfProof, StandsFor};
-ghost use Rattle.nx_io.specs.Streams.{Grows, gained};
+ghost use Rattle.authority_ask.specs.PanelCalls.{HasOnlyAsked, asked_since};
 ghost use Rattle.authority_ask.specs.Panels.{Told};
 ghost use Rattle.session_wire.specs.declared.requests.Request.TheVariants.{Call};
 ghost use Rattle.policy_book.specs.Snaps.{IsSnapOf};
-ghost use Rattle.session_core.specs.Answers.{faults_after_reply};
+ghost use Rattle.session_core.specs.Served.{IsUnrecorded};
 ghost use Rattle.session_core.specs.declared.board_session.BoardSession.{BoardSession};
 ghost use Rattle.session_core.specs.Inner.Boarding.{HasKept, HasRun, IsChecked, IsLooked, IsMissed, IsReady, IsReplyOf, IsTurn, head_of, trees_of, who_of};
 ghost use Rattle.session_core.specs.Inner.Knowing.{knows_row};
-ghost use Rattle.session_core.specs.Inner.Steps.{IsDown};
 
 use crate::board_session::{BoardSession, NOT_OPEN};
 use crate::known::Room;
@@ -28,14 +27,13 @@ use authority_ask::Panel;
 use guard_core::{Finding, GuardError, judge};
 use nal_rules::{Case, Verdict, cause_numbers};
 use nal_term::Name;
-use nx_io::{Gate, Place, Sink};
-use policy_book::{BookNaming, NalMatter, Shelf, Snapped, held_of};
+use nx_io::{Gate, Place};
+use policy_book::{BookAccess, NalMatter, Snapped, held_of};
 use proof_lines::{Proof, Rule};
 use session_wire::Reply;
 use std::alloc::Global;
 use std::net::{Net, TcpListener, TcpStream};
 use std::rt::Clock;
-use std::sync::{Mutex, Wait};
 use verdict_words::{Board, CasePlace, Held, Look, Pass};
 
 /// The number of the refusal of a call of an object that is not there. `docs/FORMATS.md`, "Events and refusals", lists them.
@@ -53,32 +51,30 @@ pub struct Taken {
 impl BoardSession {
     /// Answers a call.
     pub fn call<
-        K: Sink,
-        N: BookNaming,
+        B: BookAccess,
         G: Gate,
         P: Panel,
-        R: Net<Listener = TcpListener, Stream = TcpStream> + Clock + Wait,
+        R: Net<Listener = TcpListener, Stream = TcpStream> + Clock,
     >(
         self,
         rt: &R,
         alloc: Global,
         board: &Board<NalMatter>,
-        book: &Mutex<Shelf<K, N>>,
+        book: &mut B,
         gate: &G,
         op: &Name,
         object: &Name,
         arg: u64,
         panel: &mut P,
     ) -> (BoardSession, Reply)
-        requires named { N.board ≡ Some board.now }
+        requires named { B.board book.old ≡ board.now }
         requires ready { IsReady board.now self }
         ensures ready { IsReady board.now result.0 }
-        ensures turn { IsTurn self result.0 (gained (P.said panel.old) (P.said panel.new)) (Call op.now object.now arg) result.1 }
-        ensures said { Grows (P.said panel.old) (P.said panel.new) }
-        ensures asks { P.asks panel.new ≡ asks_after (gained (P.said panel.old) (P.said panel.new)) (P.asks panel.old) }
-        ensures reached { P.reached panel.new ≡ P.reached panel.old }
-        ensures later { P.faults panel.old ≤ P.faults panel.new }
-        ensures count { P.faults panel.new ≡ faults_after_reply result.1 (P.faults panel.old) }
+        ensures turn { IsTurn self result.0 (asked_since (P.history panel.old) (P.history panel.new))
+            (Call op.now object.now arg) result.1 }
+        ensures asked { HasOnlyAsked (P.history panel.old) (P.history panel.new) }
+        ensures recorded { ¬ IsUnrecorded result.1 }
+        ensures book { (B.board book.new ≡ B.board book.old) × (B.unrecorded book.new ≡ B.unrecorded book.old) }
     {
         let Some(principal) = self.principal() else {
             let at = self.pass.at();
@@ -109,7 +105,7 @@ impl BoardSession {
         requires who { who_of self ≡ Some principal }
         ensures ready { IsReady board.now result.0 }
         ensures looked { IsLooked principal op.now object.now arg self result.0 result.1 }
-        ensures up { IfSome result.1 (λ reply. ¬ IsDown reply) }
+        ensures recorded { IfSome result.1 (λ reply. ¬ IsUnrecorded reply) }
     {
         let Some(place) = self.known.find(op, object) else {
             return (self, None);
@@ -143,19 +139,18 @@ impl BoardSession {
         }
     }
 
-    /// Takes a snapshot of the case under the lock, and judges it without. All memory for the call is taken before.
+    /// Takes a snapshot of the case from the book, and judges it. All memory for the call is taken before.
     fn snap<
-        K: Sink,
-        N: BookNaming,
+        B: BookAccess,
         G: Gate,
         P: Panel,
-        R: Net<Listener = TcpListener, Stream = TcpStream> + Clock + Wait,
+        R: Net<Listener = TcpListener, Stream = TcpStream> + Clock,
     >(
         self,
         rt: &R,
         alloc: Global,
         board: &Board<NalMatter>,
-        book: &Mutex<Shelf<K, N>>,
+        book: &mut B,
         gate: &G,
         principal: u32,
         op: &Name,
@@ -163,16 +158,14 @@ impl BoardSession {
         arg: u64,
         panel: &mut P,
     ) -> (BoardSession, Reply)
-        requires named { N.board ≡ Some board.now }
+        requires named { B.board book.old ≡ board.now }
         requires ready { IsReady board.now self }
         requires who { who_of self ≡ Some principal }
         ensures ready { IsReady board.now result.0 }
-        ensures turn { (s : BoardSession) → who_of s ≡ Some principal → IsMissed principal op.now object.now s self → IsTurn s result.0 (gained (P.said panel.old) (P.said panel.new)) (Call op.now object.now arg) result.1 }
-        ensures said { Grows (P.said panel.old) (P.said panel.new) }
-        ensures asks { P.asks panel.new ≡ asks_after (gained (P.said panel.old) (P.said panel.new)) (P.asks panel.old) }
-        ensures reached { P.reached panel.new ≡ P.reached panel.old }
-        ensures later { P.faults panel.old ≤ P.faults panel.new }
-        ensures count { P.faults panel.new ≡ faults_after_reply result.1 (P.faults panel.old) }
+        ensures turn { (s : BoardSession) → who_of s ≡ Some principal → IsMissed principal op.now object.now s self → IsTurn s result.0 (asked_since (P.history panel.old) (P.history panel.new)) (Call op.now object.now arg) result.1 }
+        ensures asked { HasOnlyAsked (P.history panel.old) (P.history panel.new) }
+        ensures recorded { ¬ IsUnrecorded result.1 }
+        ensures book { (B.board book.new ≡ B.board book.old) × (B.unrecorded book.new ≡ B.unrecorded book.old) }
     {
         let BoardSession {
             pass,
@@ -188,9 +181,7 @@ impl BoardSession {
             };
             return (session, Reply::NoMemory);
         };
-        let (pass, snapped) = book
-            .lock(rt)
-            .snap(alloc, board, pass, principal, op, object);
+        let (pass, snapped) = book.snap(alloc, pass, principal, op, object);
         let session = BoardSession {
             pass,
             admitted,
@@ -240,12 +231,9 @@ impl BoardSession {
         requires op { room.op ≡ op.now }
         requires spare { 1 ≤ self.known.spare }
         requires known { knows_row self.known.rows op.now room.object ≡ true → taken.now.place ≢ None }
-        ensures checked { IsChecked principal op.now room.object arg taken.now.object taken.now.place (case_tree taken.now.case) self result.0 (gained (P.said panel.old) (P.said panel.new)) result.1 }
-        ensures said { Grows (P.said panel.old) (P.said panel.new) }
-        ensures asks { P.asks panel.new ≡ asks_after (gained (P.said panel.old) (P.said panel.new)) (P.asks panel.old) }
-        ensures reached { P.reached panel.new ≡ P.reached panel.old }
-        ensures later { P.faults panel.old ≤ P.faults panel.new }
-        ensures count { P.faults panel.new ≡ faults_after_reply result.1 (P.faults panel.old) }
+        ensures checked { IsChecked principal op.now room.object arg taken.now.object taken.now.place (case_tree taken.now.case) self result.0 (asked_since (P.history panel.old) (P.history panel.new)) result.1 }
+        ensures asked { HasOnlyAsked (P.history panel.old) (P.history panel.new) }
+        ensures recorded { ¬ IsUnrecorded result.1 }
     {
         if asks(&taken.case) {
             let session = self.pass.session();
@@ -291,7 +279,7 @@ impl BoardSession {
         requires judged { (told : List Told) × IsJudged (case_tree taken.now.case) told finding.now }
         ensures checked { (p : ℕ) (told : List Told) → IsJudged (case_tree taken.now.case) told finding.now
             → IsChecked p op.now room.object arg taken.now.object taken.now.place (case_tree taken.now.case) self result.0 told result.1 }
-        ensures up { ¬ IsDown result.1 }
+        ensures recorded { ¬ IsUnrecorded result.1 }
     {
         few_lines(&taken.case);
         let BoardSession {
@@ -323,7 +311,9 @@ fn judged_reply(
 ) -> Reply
     requires board { pass.old.board ≡ board.now }
     requires object { taken.now.object < 4096 }
-    ensures { IsReplyOf pass.old pass.new op.now arg taken.now.object taken.now.at 0 (verdict_of finding.now) result }
+    ensures reply { IsReplyOf pass.old pass.new op.now arg taken.now.object taken.now.at 0
+        (verdict_of finding.now) result }
+    ensures recorded { ¬ IsUnrecorded result }
 {
     match finding {
         Finding::Allowed { .. } => {
@@ -358,7 +348,7 @@ fn hit(
     requires object { place.now.object < 4096 }
     requires code { 1 ≤ held.now.code }
     ensures reply { (verdict : Verdict) → StandsFor verdict held.now → IsReplyOf pass.old pass.new op.now arg place.now.object at 1 verdict result }
-    ensures up { ¬ IsDown result }
+    ensures recorded { ¬ IsUnrecorded result }
 {
     if held.code == 1 {
         let value = run(board, pass, op, place.object, arg);

@@ -1,8 +1,8 @@
 //! A session over a link and the shared board.
 ghost use Rattle.std.specs.Prelude.{◌≡◌, ◌≢◌, ◌≤◌, [], false, true, length, All, Some};
 ghost use Rattle.nx_io.specs.Links.{KeepsOrigin};
-ghost use Rattle.nx_io.specs.Streams.{Gave, Grows, MayRise, gained};
-ghost use Rattle.guard_core.specs.Judging.{asks_after};
+ghost use Rattle.nx_io.specs.Streams.{Gave, MayRise};
+ghost use Rattle.authority_ask.specs.PanelCalls.{HasOnlyAsked, asked_since};
 ghost use Rattle.policy_history.specs.Values.{entry_trees};
 ghost use Rattle.verdict_words.specs.Histories.{IsPrefix};
 ghost use Rattle.session_core.specs.Ends.{faults_after_end, is_over};
@@ -15,13 +15,12 @@ use crate::ends::SessionEnd;
 use crate::known::Known;
 use crate::sitting::{Sitting, serve_sitting};
 use authority_ask::Panel;
-use nx_io::{Gate, Link, Place, Sink};
-use policy_book::{BookNaming, NalMatter, Shelf};
+use nx_io::{Gate, Link, Place};
+use policy_book::{BookAccess, NalMatter};
 use session_wire::{FrameReader, Reply, Request};
 use std::alloc::{AllocError, Global};
 use std::net::{Net, TcpListener, TcpStream};
 use std::rt::Clock;
-use std::sync::{Mutex, Wait};
 use verdict_words::{Board, Pass};
 
 /// What is reported of a session over the shared board.
@@ -37,57 +36,44 @@ pub struct Report<L> {
 
 /// A session, with what it shares with others.
 #[derive(Drop)]
-pub struct Sharing<'a, K: Sink, N: BookNaming, G: Gate> {
+pub struct Sharing<'a, G: Gate> {
     pub session: BoardSession,
     pub board: &'a Board<NalMatter>,
-    pub book: &'a Mutex<Shelf<K, N>>,
     pub gate: &'a G,
 }
 
 impl<
     'a,
-    K: Sink,
-    N: BookNaming,
+    B: BookAccess,
     G: Gate,
     P: Panel,
-    R: Net<Listener = TcpListener, Stream = TcpStream> + Clock + Wait,
-> Sitting<R, (), P> for Sharing<'a, K, N, G> {
+    R: Net<Listener = TcpListener, Stream = TcpStream> + Clock,
+> Sitting<R, B, P> for Sharing<'a, G> {
     ghost use Rattle.session_core.specs.Inner.Boarding.{IsReady, HasGone};
-    ghost use Rattle.std.specs.Prelude.{◌≡◌, Some};
+    ghost use Rattle.std.specs.Prelude.{◌≡◌};
 
-    ghost ready = { λ s book panel. (N.board ≡ Some s.board.now) × IsReady s.board.now s.session };
+    ghost ready = { λ s book panel. (B.board book ≡ s.board.now) × IsReady s.board.now s.session };
 
-    ghost told = { λ first book_first panel_first s book panel requests replies. HasGone first.session s.session (record {
-      said = P.said panel_first;
-      asks = P.asks panel_first;
-      reached = P.reached panel_first;
-      faults = P.faults panel_first;
-    }) (record {
-      said = P.said panel;
-      asks = P.asks panel;
-      reached = P.reached panel;
-      faults = P.faults panel;
-    }) requests replies };
+    ghost told = { λ first book_first panel_first s book panel requests replies.
+        HasGone first.session s.session (P.history panel_first) (P.history panel) (B.unrecorded book_first) (B.unrecorded book) requests replies };
 
     fn answer(
         self,
         rt: &R,
         alloc: Global,
         request: &Request,
-        _book: &mut (),
+        book: &mut B,
         panel: &mut P,
     ) -> (Self, Reply) {
         let Sharing {
             session,
             board,
-            book,
             gate,
         } = self;
         let (session, reply) = session.answer(rt, alloc, board, book, gate, request, panel);
         let sharing = Sharing {
             session,
             board,
-            book,
             gate,
         };
         (sharing, reply)
@@ -106,29 +92,28 @@ impl<
 
 /// Serves one session over a link and the shared board, and closes the link. Frames are taken and answered one after another,
 /// and each reply is sent before a byte of the next frame is taken. A call on a case that the session knows looks for its
-/// verdict without the lock; the lock is held for a snapshot or a change alone. `docs/LOGIC.md`, "Sessions over a board",
-/// states each answer.
+/// verdict on the board alone; the book is reached for a snapshot or a change. `docs/LOGIC.md`, "Sessions over a board", states each
+/// answer.
 ///
 /// The ends are those of `serve_on`. The report has the number and the principal of the session, how it ended, and its link
 /// and pass.
 pub fn serve_link<
     L: Link,
     P: Panel,
-    K: Sink,
-    N: BookNaming,
+    B: BookAccess,
     G: Gate,
-    R: Net<Listener = TcpListener, Stream = TcpStream> + Clock + Wait,
+    R: Net<Listener = TcpListener, Stream = TcpStream> + Clock,
 >(
     rt: &R,
     alloc: Global,
     board: &Board<NalMatter>,
-    book: &Mutex<Shelf<K, N>>,
+    book: &mut B,
     pass: Pass<NalMatter>,
     link: L,
     panel: &mut P,
     gate: &G,
 ) -> Report<L>
-    requires named { N.board ≡ Some board.now }
+    requires named { B.board book.old ≡ board.now }
     requires board { pass.board ≡ board.now }
     requires trail { pass.trail ≡ [] }
     requires unused { All (λ entry. entry.session ≢ pass.session) pass.seen }
@@ -144,7 +129,7 @@ pub fn serve_link<
       sent = L.sent result.link;
       seen = entry_trees result.pass.seen;
       trail = result.pass.trail;
-    }) (gained (P.said panel.old) (P.said panel.new)) (P.faults panel.old) (P.faults panel.new) }
+    }) (asked_since (P.history panel.old) (P.history panel.new)) (B.unrecorded book.old) (B.unrecorded book.new) }
     ensures session { (result.session ≡ pass.session) × (result.pass.session ≡ pass.session) }
     ensures board { result.pass.board ≡ board.now }
     ensures seen { IsPrefix pass.seen result.pass.seen }
@@ -155,13 +140,11 @@ pub fn serve_link<
     ensures origin { KeepsOrigin (L.place link) (L.place result.link) (L.toward link) (L.toward result.link) }
     ensures link_later { L.faults link ≤ L.faults result.link }
     ensures link_count { MayRise (faults_after_end result.end (L.faults link)) (L.faults result.link) }
-    ensures said { Grows (P.said panel.old) (P.said panel.new) }
-    ensures asks { P.asks panel.new ≡ asks_after (gained (P.said panel.old) (P.said panel.new)) (P.asks panel.old) }
-    ensures reached { P.reached panel.new ≡ P.reached panel.old }
-    ensures later { P.faults panel.old ≤ P.faults panel.new }
+    ensures asked { HasOnlyAsked (P.history panel.old) (P.history panel.new) }
+    ensures book { B.board book.new ≡ B.board book.old }
 {
     let mut link = link;
-    let pass = book.lock(rt).meet(board, pass);
+    let pass = book.meet(pass);
     let _at = pass.at();
     let number = pass.session();
     let session = BoardSession {
@@ -185,38 +168,29 @@ pub fn serve_link<
 fn sit<
     L: Link,
     P: Panel,
-    K: Sink,
-    N: BookNaming,
+    B: BookAccess,
     G: Gate,
-    R: Net<Listener = TcpListener, Stream = TcpStream> + Clock + Wait,
+    R: Net<Listener = TcpListener, Stream = TcpStream> + Clock,
 >(
     rt: &R,
     alloc: Global,
     board: &Board<NalMatter>,
-    book: &Mutex<Shelf<K, N>>,
+    book: &mut B,
     gate: &G,
     session: BoardSession,
     link: &mut L,
     panel: &mut P,
 ) -> (BoardSession, SessionEnd)
-    requires named { N.board ≡ Some board.now }
+    requires named { B.board book.old ≡ board.now }
     requires ready { IsReady board.now session }
     requires taken { L.taken link.old ≡ [] }
     requires sent { L.sent link.old ≡ [] }
     requires over { L.over link.old ≡ false }
     requires is_open { L.closed link.old ≡ false }
     ensures ready { IsReady board.now result.0 }
-    ensures sat { HasSat (λ requests replies. HasGone session result.0 (record {
-      said = P.said panel.old;
-      asks = P.asks panel.old;
-      reached = P.reached panel.old;
-      faults = P.faults panel.old;
-    }) (record {
-      said = P.said panel.new;
-      asks = P.asks panel.new;
-      reached = P.reached panel.new;
-      faults = P.faults panel.new;
-    }) requests replies) result.1 (L.taken link.new) (L.sent link.new) }
+    ensures sat { HasSat (HasGone session result.0 (P.history panel.old) (P.history panel.new)
+        (B.unrecorded book.old) (B.unrecorded book.new)) result.1 (L.taken link.new) (L.sent link.new) }
+    ensures book { B.board book.new ≡ board.now }
     ensures bytes { Gave (L.left link.old) (L.left link.new) (L.taken link.old) (L.taken link.new) }
     ensures over { L.over link.new ≡ is_over result.1 }
     ensures is_open { L.closed link.new ≡ false }
@@ -229,18 +203,9 @@ fn sit<
             let sharing = Sharing {
                 session,
                 board,
-                book,
                 gate,
             };
-            let (sharing, end) = serve_sitting(
-                rt,
-                alloc,
-                sharing,
-                &mut reader,
-                link,
-                &mut (),
-                panel,
-            );
+            let (sharing, end) = serve_sitting(rt, alloc, sharing, &mut reader, link, book, panel);
             let Sharing { session, .. } = sharing;
             (session, end)
         }

@@ -1,23 +1,21 @@
 //! A session over the shared board: what each request is answered, with verdicts that are kept.
-ghost use Rattle.std.specs.Prelude.{◌≡◌, ◌≤◌, [], Some, None};
-ghost use Rattle.nx_io.specs.Streams.{Grows, gained};
-ghost use Rattle.guard_core.specs.Judging.{asks_after};
+ghost use Rattle.std.specs.Prelude.{◌≡◌, ◌∷◌, [], Some, None};
+ghost use Rattle.authority_ask.specs.PanelCalls.{HasOnlyAsked, asked_since};
 ghost use Rattle.session_wire.specs.declared.requests.Request.TheVariants.{Hello, Call};
-ghost use Rattle.session_core.specs.Answers.{faults_after_reply};
+ghost use Rattle.session_core.specs.Served.{AreCounted, IsUnrecorded};
 ghost use Rattle.session_core.specs.Inner.Boarding.{IsReady, IsTurn, reply_of, who_of};
-ghost use Rattle.session_core.specs.Inner.Steps.{IsDown, IsHello};
+ghost use Rattle.session_core.specs.Inner.Steps.{IsHello};
 
 use crate::known::Known;
 use authority_ask::Panel;
 use journal_text::{event_of, policy_line, refusal_number};
 use nal_term::{Name, Secret};
-use nx_io::{Gate, Sink};
-use policy_book::{BookNaming, NalMatter, Shelf, Written};
+use nx_io::Gate;
+use policy_book::{BookAccess, NalMatter, Written};
 use session_wire::{Reply, Request};
 use std::alloc::Global;
 use std::net::{Net, TcpListener, TcpStream};
 use std::rt::Clock;
-use std::sync::{Mutex, Wait};
 use verdict_words::{Board, Pass};
 
 /// The number of the refusal of a request before a hello. `docs/FORMATS.md`, "Events and refusals", lists them.
@@ -55,64 +53,59 @@ impl BoardSession {
 
     /// Answers one request.
     pub fn answer<
-        K: Sink,
-        N: BookNaming,
+        B: BookAccess,
         G: Gate,
         P: Panel,
-        R: Net<Listener = TcpListener, Stream = TcpStream> + Clock + Wait,
+        R: Net<Listener = TcpListener, Stream = TcpStream> + Clock,
     >(
         self,
         rt: &R,
         alloc: Global,
         board: &Board<NalMatter>,
-        book: &Mutex<Shelf<K, N>>,
+        book: &mut B,
         gate: &G,
         request: &Request,
         panel: &mut P,
     ) -> (BoardSession, Reply)
-        requires named { N.board ≡ Some board.now }
+        requires named { B.board book.old ≡ board.now }
         requires ready { IsReady board.now self }
         ensures ready { IsReady board.now result.0 }
-        ensures turn { IsTurn self result.0 (gained (P.said panel.old) (P.said panel.new)) request.now result.1 }
-        ensures said { Grows (P.said panel.old) (P.said panel.new) }
-        ensures asks { P.asks panel.new ≡ asks_after (gained (P.said panel.old) (P.said panel.new)) (P.asks panel.old) }
-        ensures reached { P.reached panel.new ≡ P.reached panel.old }
-        ensures later { P.faults panel.old ≤ P.faults panel.new }
-        ensures count { P.faults panel.new ≡ faults_after_reply result.1 (P.faults panel.old) }
+        ensures turn { IsTurn self result.0 (asked_since (P.history panel.old) (P.history panel.new))
+            request.now result.1 }
+        ensures asked { HasOnlyAsked (P.history panel.old) (P.history panel.new) }
+        ensures book { B.board book.new ≡ B.board book.old }
+        ensures counted { AreCounted (B.unrecorded book.old) (B.unrecorded book.new) (result.1 ∷ []) }
     {
         match request {
-            Request::Hello { name, secret } => self.open(rt, alloc, board, book, name, secret),
+            Request::Hello { name, secret } => self.open(alloc, book, name, secret),
             Request::Call { op, object, arg } => {
                 let arg = *arg;
                 self.call(rt, alloc, board, book, gate, op, object, arg, panel)
             }
-            _ => self.change(rt, alloc, board, book, request),
+            _ => self.change(alloc, book, request),
         }
     }
 
-    /// Answers a hello. The lock is held while the name is looked up.
-    pub fn open<K: Sink, N: BookNaming, R: Wait>(
+    /// Answers a hello.
+    pub fn open<B: BookAccess>(
         self,
-        rt: &R,
         alloc: Global,
-        board: &Board<NalMatter>,
-        book: &Mutex<Shelf<K, N>>,
+        book: &mut B,
         name: &Name,
         secret: &Secret,
     ) -> (BoardSession, Reply)
-        requires named { N.board ≡ Some board.now }
-        requires ready { IsReady board.now self }
-        ensures ready { IsReady board.now result.0 }
+        requires ready { IsReady (B.board book.old) self }
+        ensures ready { IsReady (B.board book.old) result.0 }
         ensures turn { IsTurn self result.0 [] (Hello name.now secret.now) result.1 }
-        ensures up { ¬ IsDown result.1 }
+        ensures recorded { ¬ IsUnrecorded result.1 }
+        ensures book { (B.board book.new ≡ B.board book.old) × (B.unrecorded book.new ≡ B.unrecorded book.old) }
     {
-        let _ = board;
         let at = self.pass.at();
         if let Some(_) = self.principal() {
             let number = ALREADY_OPEN;
             return (self, Reply::Refused { at, number });
         }
-        let found = book.lock(rt).admit(name, secret);
+        let found = book.admit(name, secret);
         let Some(number) = found else {
             let number = BAD_SECRET;
             return (self, Reply::Refused { at, number });
@@ -131,21 +124,19 @@ impl BoardSession {
         (opened, Reply::Welcome { session, at })
     }
 
-    /// Answers a request for a change. It is parsed, and its line printed, before the lock is taken.
-    pub fn change<K: Sink, N: BookNaming, R: Wait>(
+    /// Answers a request for a change. It is parsed, and its line printed, before the book is reached.
+    pub fn change<B: BookAccess>(
         self,
-        rt: &R,
         alloc: Global,
-        board: &Board<NalMatter>,
-        book: &Mutex<Shelf<K, N>>,
+        book: &mut B,
         request: &Request,
     ) -> (BoardSession, Reply)
-        requires named { N.board ≡ Some board.now }
-        requires ready { IsReady board.now self }
+        requires ready { IsReady (B.board book.old) self }
         requires no_hello { ¬ IsHello request.now }
-        ensures ready { IsReady board.now result.0 }
+        ensures ready { IsReady (B.board book.old) result.0 }
         ensures turn { IsTurn self result.0 [] request.now result.1 }
-        ensures up { ¬ IsDown result.1 }
+        ensures book { B.board book.new ≡ B.board book.old }
+        ensures counted { AreCounted (B.unrecorded book.old) (B.unrecorded book.new) (result.1 ∷ []) }
     {
         let Some(who) = &self.admitted else {
             let at = self.pass.at();
@@ -166,9 +157,7 @@ impl BoardSession {
             admitted,
             known,
         } = self;
-        let (pass, written) = book
-            .lock(rt)
-            .write(board, pass, number, event, line.as_slice());
+        let (pass, written) = book.write(pass, number, event, line.as_slice());
         let session = BoardSession {
             pass,
             admitted,

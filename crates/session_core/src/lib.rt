@@ -20,6 +20,6 @@ pub use lines::{Asking, answer_all};
 pub use reaching::reach_all;
 pub use serving::serve_on;
 pub use told_laws::{
-    only_allowed_calls_run_and_only_changes_add, told_replies_are_earned, what_was_told_stays_told,
-    worked_sessions_are_told, wrong_answers_are_never_told,
+    downs_are_told, only_allowed_calls_run_and_only_changes_add, told_replies_are_earned,
+    what_was_told_stays_told, worked_sessions_are_told, wrong_answers_are_never_told,
 };

@@ -1,10 +1,10 @@
 //! Requests of several sessions over one journal, one after another.
-ghost use Rattle.std.specs.Prelude.{◌≡◌, ◌≤◌, ◌<◌, ◌+◌, ◌^◌, IfOk, length};
+ghost use Rattle.std.specs.Prelude.{◌≡◌, ◌≤◌, ◌<◌, ◌+◌, ◌^◌, IfOk, OnErr, length};
 ghost use Rattle.std.specs.List.{All};
 ghost use Rattle.nx_io.specs.Streams.{Grows, gained};
-ghost use Rattle.guard_core.specs.Judging.{asks_after};
+ghost use Rattle.authority_ask.specs.PanelCalls.{HasOnlyAsked, asked_since};
 ghost use Rattle.policy_history.specs.Values.{entry_trees, greatest_of};
-ghost use Rattle.session_core.specs.Sessions.{Point, Told1, at_start, faults_after_replies};
+ghost use Rattle.session_core.specs.Sessions.{Point, Told1, at_start};
 
 use crate::answers::Session;
 use authority_ask::Panel;
@@ -25,8 +25,9 @@ pub struct Asking {
 }
 
 /// Answers requests of 64 sessions over one journal in their order, without a cache. The sessions are numbered from `first`
-/// on, which is above the greatest session of the journal, and in none a principal is admitted yet. The replies are in the order of the requests. An `Err` says that there was
-/// no memory for them. `docs/LOGIC.md`, "Sessions", states each answer.
+/// on, which is above the greatest session of the journal, and in none a principal is admitted yet. The replies are in the order of the
+/// requests. An `Err` says that there was no memory for the list of them: no request was answered, and nothing was asked.
+/// `docs/LOGIC.md`, "Sessions", states each answer.
 pub fn answer_all<P: Panel, R: Net<Listener = TcpListener, Stream = TcpStream> + Clock>(
     rt: &R,
     alloc: Global,
@@ -39,13 +40,10 @@ pub fn answer_all<P: Panel, R: Net<Listener = TcpListener, Stream = TcpStream> +
     requires numbers { first + 64 ≤ 2 ^ 64 }
     requires places { All (λ a. a.place < 64) askings.now }
     ensures told { IfOk result (λ replies. (last : Point) × Told1 journal.old.head first (at_start (entry_trees journal.old.entries)) askings.now replies.items
-        (gained (P.said panel.old) (P.said panel.new)) last × (last.entries ≡ entry_trees journal.new.entries)) }
+        (asked_since (P.history panel.old) (P.history panel.new)) last × (last.entries ≡ entry_trees journal.new.entries)) }
+    ensures kept { OnErr result ((journal.new ≡ journal.old) × (panel.new ≡ panel.old)) }
     ensures head { journal.new.head ≡ journal.old.head }
-    ensures said { Grows (P.said panel.old) (P.said panel.new) }
-    ensures asks { P.asks panel.new ≡ asks_after (gained (P.said panel.old) (P.said panel.new)) (P.asks panel.old) }
-    ensures reached { P.reached panel.new ≡ P.reached panel.old }
-    ensures later { P.faults panel.old ≤ P.faults panel.new }
-    ensures count { IfOk result (λ replies. P.faults panel.new ≡ faults_after_replies replies.items (P.faults panel.old)) }
+    ensures asked { HasOnlyAsked (P.history panel.old) (P.history panel.new) }
 {
     let mut admitted = [None; SESSIONS];
     let mut replies = Vec::with_capacity(alloc, askings.len())?;
@@ -57,7 +55,7 @@ pub fn answer_all<P: Panel, R: Net<Listener = TcpListener, Stream = TcpStream> +
         };
         let reply = session.answer(rt, alloc, journal, &asking.request, panel);
         admitted[place] = session.principal;
-        replies.push(reply)?;
+        replies.push_reserved(reply);
     }
     Ok(replies)
 }

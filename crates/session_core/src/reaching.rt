@@ -1,7 +1,5 @@
 //! Reaching the authorities of a policy.
-ghost use Rattle.std.specs.Prelude.{◌≡◌, ◌≤◌};
-ghost use Rattle.nx_io.specs.Streams.{faults_after_reach};
-ghost use Rattle.session_core.specs.Reaching.{reached_all};
+ghost use Rattle.session_core.specs.Reaching.{HaveReached};
 
 use authority_ask::Panel;
 use nx_io::Reach;
@@ -11,18 +9,14 @@ use std::rt::Clock;
 
 /// Makes each authority of the head the one that is asked at its port, in the order of the policy text.
 ///
-/// At `Ready` the panel has the address of each at its port. `Failed` comes where one could not be reached, which was the
-/// last that was tried: the panel's count of faults rose by one. Nobody is asked.
+/// At `Ready` each was reached. `Failed` comes where one could not be reached, which was the last that was tried. No other call is
+/// made of the panel.
 pub fn reach_all<P: Panel, R: Net<Listener = TcpListener, Stream = TcpStream> + Clock>(
     rt: &R,
     head: &Head,
     panel: &mut P,
 ) -> Reach
-    ensures said { P.said panel.new ≡ P.said panel.old }
-    ensures asks { P.asks panel.new ≡ P.asks panel.old }
-    ensures reached { result ≡ Reach.Ready → P.reached panel.new ≡ reached_all head.now.authorities (P.reached panel.old) }
-    ensures later { P.faults panel.old ≤ P.faults panel.new }
-    ensures count { P.faults panel.new ≡ faults_after_reach result (P.faults panel.old) }
+    ensures reached { HaveReached result head.now.authorities (P.history panel.old) (P.history panel.new) }
 {
     for place in 0..head.authorities.count() {
         let Some(authority) = head.authorities.get(place) else {

@@ -2,7 +2,7 @@
 ghost use Rattle.std.specs.Prelude.{◌≡◌, ◌≤◌, ◌<◌, [], false, true};
 ghost use Rattle.nx_io.specs.Links.{KeepsOrigin};
 ghost use Rattle.nx_io.specs.Streams.{Gave, Grows, MayRise, gained};
-ghost use Rattle.guard_core.specs.Judging.{asks_after};
+ghost use Rattle.authority_ask.specs.PanelCalls.{HasOnlyAsked, asked_since};
 ghost use Rattle.policy_history.specs.Values.{entry_trees, greatest_of};
 ghost use Rattle.session_core.specs.Ends.{IsServed, faults_after_end, is_over};
 
@@ -29,19 +29,13 @@ impl<P: Panel, R: Net<Listener = TcpListener, Stream = TcpStream> + Clock> Sitti
       who = first.principal;
       head = journal_first.head;
       es = entry_trees journal_first.entries;
-      said = P.said panel_first;
-      asks = P.asks panel_first;
-      reached = P.reached panel_first;
-      faults = P.faults panel_first;
+      asked = P.history panel_first;
     }) (record {
       number = s.number;
       who = s.principal;
       head = journal.head;
       es = entry_trees journal.entries;
-      said = P.said panel;
-      asks = P.asks panel;
-      reached = P.reached panel;
-      faults = P.faults panel;
+      asked = P.history panel;
     }) requests replies };
 
     fn answer(
@@ -86,7 +80,7 @@ pub fn serve_on<L: Link, P: Panel, R: Net<Listener = TcpListener, Stream = TcpSt
     requires over { L.over link.old ≡ false }
     requires closed { L.closed link.old ≡ false }
     ensures served { IsServed result journal.old.head session (entry_trees journal.old.entries) (entry_trees journal.new.entries) (L.taken link.new) (L.sent link.new)
-        (gained (P.said panel.old) (P.said panel.new)) (P.faults panel.old) (P.faults panel.new) }
+        (asked_since (P.history panel.old) (P.history panel.new)) }
     ensures bytes { Gave (L.left link.old) (L.left link.new) (L.taken link.old) (L.taken link.new) }
     ensures over { L.over link.new ≡ is_over result }
     ensures closed { L.closed link.new ≡ true }
@@ -94,10 +88,7 @@ pub fn serve_on<L: Link, P: Panel, R: Net<Listener = TcpListener, Stream = TcpSt
     ensures link_later { L.faults link.old ≤ L.faults link.new }
     ensures link_count { MayRise (faults_after_end result (L.faults link.old)) (L.faults link.new) }
     ensures head { journal.new.head ≡ journal.old.head }
-    ensures said { Grows (P.said panel.old) (P.said panel.new) }
-    ensures asks { P.asks panel.new ≡ asks_after (gained (P.said panel.old) (P.said panel.new)) (P.asks panel.old) }
-    ensures reached { P.reached panel.new ≡ P.reached panel.old }
-    ensures later { P.faults panel.old ≤ P.faults panel.new }
+    ensures asked { HasOnlyAsked (P.history panel.old) (P.history panel.new) }
 {
     let alone = Session {
         number: session,

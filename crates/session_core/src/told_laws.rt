@@ -1,6 +1,6 @@
 //! The laws of what a session over a shared board is told.
 ghost use Rattle.session_core.specs.Earned.{TellsInOrder, TellsWhatIsTrue, TellsWhatIsTrueAlone};
-ghost use Rattle.session_core.specs.ToldLaws.{OnlyAllowedRuns, OnlyDoneAdds, ToldStaysTold};
+ghost use Rattle.session_core.specs.ToldLaws.{DownsAreTold, DownsAreToldAlone, OnlyAllowedRuns, OnlyDoneAdds, ToldStaysTold};
 ghost use Rattle.session_core.specs.ToldRows.{AllowedAndKept, AllowedAndOtherSaid, AllowedAndThenDeleted, AllowedThenDenied, AskedEachTime, ChangesAreSeen, DeletedStillAllowed, DoneWithoutEntry, FirstCallHits, GreetedOnce, NotRecordedIsRefused, OtherRegionLeaves, SameRegionRaises, WrongLineAndThenCleared, WrongLineKept, YesUsedTwice};
 
 /// What is told of a call is true. Each reply that allows one is earned: at the point that it names the goal in force is derived
@@ -26,6 +26,13 @@ pub fn what_was_told_stays_told()
 pub fn only_allowed_calls_run_and_only_changes_add()
     ensures runs { OnlyAllowedRuns }
     ensures adds { OnlyDoneAdds }
+{}
+
+/// Authorities were down as often as a session is told it: where a reply is `Down`, one was, and no other ask was answered so. The
+/// call does nothing.
+pub fn downs_are_told()
+    ensures beside { DownsAreTold }
+    ensures alone { DownsAreToldAlone }
 {}
 
 /// Sessions of one principal are told so, from their hello on: what is kept, what is looked up, and what is refused. The call does

@@ -9,13 +9,14 @@ use crate::tables::number;
 use crate::talks::{Talk, link_of, talk_of};
 use authority_ask::{Ask, MemPanel};
 use nx_io::{Gate, MemSink, Place};
-use policy_book::{Book, BookNaming, NalMatter, Shelf};
+use policy_book::{Book, BookAccess, BookNaming, LockedBook, NalMatter, Shelf};
 use session_core::{SessionEnd, serve_link};
 use std::alloc::{AllocError, Global};
 use std::cell::Cell;
 use std::marker::Brand;
 use std::net::{Net, TcpListener, TcpStream};
 use std::rt::Clock;
+use std::sync::ledger::{Blank, Ledger};
 use std::sync::{Mutex, Wait};
 use verdict_words::{Board, Pass};
 
@@ -161,16 +162,24 @@ fn serve_all<R: Net<Listener = TcpListener, Stream = TcpStream> + Clock + Wait>(
     let second = book.enter(&board);
     let third = book.enter(&board);
     let passes = (first, second, third);
-    let outcome = serve_passes::<Brand, R>(rt, alloc, &board, book, passes, panel, talks);
+    let blank = Blank::new(1);
+    let outcome = serve_passes::<Brand, Brand, R>(
+        rt, alloc, &board, book, blank, passes, panel, talks,
+    );
     drop(board);
     outcome
 }
 
-fn serve_passes<N: BookNaming, R: Net<Listener = TcpListener, Stream = TcpStream> + Clock + Wait>(
+fn serve_passes<
+    N: BookNaming,
+    T: Ledger,
+    R: Net<Listener = TcpListener, Stream = TcpStream> + Clock + Wait,
+>(
     rt: &R,
     alloc: Global,
     board: &Board<NalMatter>,
     book: Book<MemSink>,
+    blank: Blank,
     passes: (Pass<NalMatter>, Pass<NalMatter>, Pass<NalMatter>),
     panel: &mut MemPanel,
     talks: &[Talk],
@@ -178,16 +187,32 @@ fn serve_passes<N: BookNaming, R: Net<Listener = TcpListener, Stream = TcpStream
     requires opened { book.is_open ≡ true }
     requires named { IsNamed N.board N.next N.start N.start_faults book }
     requires board { book.board ≡ board.now }
+    requires ledger { blank.name ≡ T.name }
+    requires parts { (blank.parts ≡ T.parts) × (T.parts ≡ 1) }
     requires first { IsNew board.now passes.0 }
     requires second { IsNew board.now passes.1 }
     requires third { IsNew board.now passes.2 }
 {
     let gate = Counter::new();
-    let shelf: Mutex<Shelf<MemSink, N>> = Mutex::new(Shelf::new(book));
+    let (tickets, mark) = blank.open::<T>();
+    let shelf: Mutex<Shelf<MemSink, N, T>> = Mutex::new(Shelf::new(book, tickets));
+    let mut locked = LockedBook::new(rt, board, &shelf, mark);
     let (first, second, third) = (talks.get(0), talks.get(1), talks.get(2));
-    let first = served(rt, alloc, board, &shelf, passes.0, &gate, panel, first);
-    let second = served(rt, alloc, board, &shelf, passes.1, &gate, panel, second);
-    let third = served(rt, alloc, board, &shelf, passes.2, &gate, panel, third);
+    let first = served(rt, alloc, board, &mut locked, passes.0, &gate, panel, first);
+    let second = served(
+        rt,
+        alloc,
+        board,
+        &mut locked,
+        passes.1,
+        &gate,
+        panel,
+        second,
+    );
+    let third = served(rt, alloc, board, &mut locked, passes.2, &gate, panel, third);
+    drop(locked);
+    let (book, tickets) = shelf.into_inner().into_parts();
+    drop(tickets);
     Outcome {
         told: first.0 & second.0 & third.0,
         ends: [first.1, second.1, third.1],
@@ -195,7 +220,7 @@ fn serve_passes<N: BookNaming, R: Net<Listener = TcpListener, Stream = TcpStream
         asking: gate.asking.get(),
         answered: gate.answered.get(),
         asks: panel.asks(),
-        entries: entries_of(shelf.into_inner().into_book()),
+        entries: entries_of(book),
     }
 }
 
@@ -209,21 +234,22 @@ fn entries_of(book: Book<MemSink>) -> u64 {
 }
 
 // Serves a session over the link of a talk: whether it is told what it should be and closes its link, and how it ends.
-fn served<N: BookNaming, R: Net<Listener = TcpListener, Stream = TcpStream> + Clock + Wait>(
+fn served<B: BookAccess, R: Net<Listener = TcpListener, Stream = TcpStream> + Clock>(
     rt: &R,
     alloc: Global,
     board: &Board<NalMatter>,
-    shelf: &Mutex<Shelf<MemSink, N>>,
+    book: &mut B,
     pass: Pass<NalMatter>,
     gate: &Counter,
     panel: &mut MemPanel,
     talk: Option<&Talk>,
 ) -> (bool, SessionEnd)
-    requires named { N.board ≡ Some board.now }
+    requires named { B.board book.old ≡ board.now }
     requires pass { IsNew board.now pass }
+    ensures named { B.board book.new ≡ B.board book.old }
 {
     match talk {
-        Some(talk) => served_to(rt, alloc, board, shelf, pass, gate, panel, talk),
+        Some(talk) => served_to(rt, alloc, board, book, pass, gate, panel, talk),
         None => {
             drop(pass);
             (false, SessionEnd::Memory)
@@ -231,22 +257,23 @@ fn served<N: BookNaming, R: Net<Listener = TcpListener, Stream = TcpStream> + Cl
     }
 }
 
-fn served_to<N: BookNaming, R: Net<Listener = TcpListener, Stream = TcpStream> + Clock + Wait>(
+fn served_to<B: BookAccess, R: Net<Listener = TcpListener, Stream = TcpStream> + Clock>(
     rt: &R,
     alloc: Global,
     board: &Board<NalMatter>,
-    shelf: &Mutex<Shelf<MemSink, N>>,
+    book: &mut B,
     pass: Pass<NalMatter>,
     gate: &Counter,
     panel: &mut MemPanel,
     talk: &Talk,
 ) -> (bool, SessionEnd)
-    requires named { N.board ≡ Some board.now }
+    requires named { B.board book.old ≡ board.now }
     requires pass { IsNew board.now pass }
+    ensures named { B.board book.new ≡ B.board book.old }
 {
     match link_of(alloc, talk, talk.asked.as_slice()) {
         Ok(link) => {
-            let report = serve_link(rt, alloc, board, shelf, pass, link, panel, gate);
+            let report = serve_link(rt, alloc, board, book, pass, link, panel, gate);
             let closed = report.link.is_closed();
             let told = report.link.sent() == talk.told.as_slice();
             let end = report.end;

@@ -5,15 +5,15 @@ use Rattle.nal_rules.specs.declared.verdicts.Verdict.{Verdict}
 use Rattle.guard_core.specs.declared.findings.Finding.{Finding}
 use Rattle.guard_core.specs.declared.findings.GuardError.TheVariants.{Down as DownError, Memory as MemoryError}
 use Rattle.verdict_words.specs.declared.places.CasePlace.{CasePlace}
-use Rattle.nx_io.specs.Streams.{Grows, gained}
 use Rattle.policy_history.specs.declared.events.Entry.{Entry}
 use Rattle.policy_history.specs.declared.heads.Head.{Head}
 use Rattle.policy_history.specs.Events.{EntryTree, name_of}
 use Rattle.policy_history.specs.Machine.{replay}
 use Rattle.policy_history.specs.States.{State}
 use Rattle.policy_history.specs.Values.{entry_trees}
-use Rattle.authority_ask.specs.Panels.{Places, Told as Ask}
-use Rattle.guard_core.specs.Judging.{IsBrokenOff, IsJudged, asks_after, verdict_of}
+use Rattle.authority_ask.specs.PanelCalls.{HasOnlyAsked, PanelHistory, asked_since}
+use Rattle.authority_ask.specs.Panels.{Told as Ask}
+use Rattle.guard_core.specs.Judging.{IsBrokenOff, IsJudged, verdict_of}
 use Rattle.session_wire.specs.declared.requests.Request.{Request}
 use Rattle.session_wire.specs.declared.requests.Request.TheVariants.{Call}
 use Rattle.session_wire.specs.declared.replies.Reply.{Reply}
@@ -29,7 +29,7 @@ use Rattle.policy_book.specs.declared.writing.Written.{Written}
 use Rattle.policy_book.specs.declared.writing.Written.TheVariants.{Done as WrittenDone, Refused as WrittenRefused, NoMemory as WrittenNoMemory}
 use Rattle.session_core.specs.declared.board_session.Admitted.{Admitted}
 use Rattle.session_core.specs.declared.board_session.BoardSession.{BoardSession}
-use Rattle.session_core.specs.Sessions.{faults_after_replies}
+use Rattle.session_core.specs.Served.{AreCounted}
 use Rattle.session_core.specs.Standing.{Standing}
 use Rattle.session_core.specs.Told.{Answers, IsPlaceIn, Keeps, Leads, Misses, Runs, Turn, verdict_reply}
 use Rattle.session_core.specs.Inner.Knowing.{KnownRow, joined_rows, knows_row, triples_of}
@@ -81,29 +81,19 @@ pub record IsTurn (s t : BoardSession) (asks : List Ask) (request : Request) (re
   pub session_is : t.pass.session ≡ s.pass.session
   pub board_is : t.pass.board ≡ s.pass.board
 
--- what a panel tells
-pub record Panelled : Type 0 where
-  pub said : List Ask
-  pub asks : ℕ
-  pub reached : Option Places
-  pub faults : ℕ
-
--- from the one state of session and panel to the other these requests were told these replies
-pub record HasGone (s t : BoardSession) (p q : Panelled) (requests : List Request) (replies : List Reply) : Type 0 where
+-- From the one state of session and panel to the other these requests were told these replies, and so many changes were told not to be recorded before and then
+pub record HasGone (s t : BoardSession) (p q : PanelHistory) (count count_now : ℕ) (requests : List Request) (replies : List Reply) : Type 0 where
   pub steps : List Item
   pub added : List EntryTree
-  pub leads : Leads (head_of s) (trees_of t) s.pass.session (standing s) requests replies (gained p.said q.said) steps added (standing t)
+  pub leads : Leads (head_of s) (trees_of t) s.pass.session (standing s) requests replies (asked_since p q) steps added (standing t)
   pub trail : t.pass.trail ≡ s.pass.trail ++ steps
   pub own_is : own_in t.pass ≡ own_in s.pass ++ added
   pub seen : IsPrefix s.pass.seen t.pass.seen
   pub knows : IsPrefix s.pass.known t.pass.known
   pub session_is : t.pass.session ≡ s.pass.session
   pub board_is : t.pass.board ≡ s.pass.board
-  pub downs : q.faults ≡ faults_after_replies replies p.faults
-  pub said_grows : Grows p.said q.said
-  pub asks_are : q.asks ≡ asks_after (gained p.said q.said) p.asks
-  pub reached_is : q.reached ≡ p.reached
-  pub later : p.faults ≤ q.faults
+  pub asked : HasOnlyAsked p q
+  pub counted : AreCounted count count_now replies
 
 -- a pass that made these steps, and then knew so much
 abbrev pub stepped_by : PassValue Entry Head → List Item → List AtomicStep → PassValue Entry Head

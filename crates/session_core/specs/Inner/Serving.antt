@@ -1,10 +1,9 @@
 -- A session over a link between two of its turns, and one turn.
 use Rattle.std.specs.Prelude.{◌≡◌, ◌<◌, ◌≤◌, ◌⊎◌, ℕ, List, [], ◌∷◌, length, Option, None, Some, IfSome}
-use Rattle.nx_io.specs.Streams.{Grows, Sends, SendsPart, gained, one_more}
+use Rattle.nx_io.specs.Streams.{Sends, SendsPart, one_more}
 use Rattle.policy_history.specs.declared.heads.Head.{Head}
 use Rattle.policy_history.specs.Events.{EntryTree}
-use Rattle.authority_ask.specs.Panels.{Places, Told}
-use Rattle.guard_core.specs.Judging.{asks_after}
+use Rattle.authority_ask.specs.PanelCalls.{HasOnlyAsked, PanelHistory, asked_since}
 use Rattle.session_wire.specs.declared.requests.Request.{Request}
 use Rattle.session_wire.specs.declared.replies.Reply.{Reply}
 use Rattle.session_wire.specs.declared.replies.Reply.TheVariants.{Bad}
@@ -12,7 +11,7 @@ use Rattle.session_wire.specs.Frames.{reply_frame}
 use Rattle.session_core.specs.declared.ends.SessionEnd.{SessionEnd}
 use Rattle.session_core.specs.declared.ends.SessionEnd.TheVariants.{BadFrame, WriteFault}
 use Rattle.session_core.specs.Ends.{askings_of, at_first}
-use Rattle.session_core.specs.Sessions.{Told1, faults_after_replies}
+use Rattle.session_core.specs.Sessions.{Told1}
 
 -- the session has a number, and who is admitted in it is a principal
 abbrev pub IsOpen : Head → ℕ → Option ℕ → Type 0
@@ -24,21 +23,14 @@ pub record Course : Type 0 where
   pub who : Option ℕ
   pub head : Head
   pub es : List EntryTree
-  pub said : List Told
-  pub asks : ℕ
-  pub reached : Option Places
-  pub faults : ℕ
+  pub asked : PanelHistory
 
 -- from the beginning b to c it was told these replies, and nothing else became of journal and panel
 pub record IsAlone (b c : Course) (requests : List Request) (replies : List Reply) : Type 0 where
-  pub told : Told1 b.head b.number (at_first b.es) (askings_of requests) replies (gained b.said c.said) (record { entries = c.es; admitted = c.who ∷ [] })
-  pub downs : c.faults ≡ faults_after_replies replies b.faults
+  pub told : Told1 b.head b.number (at_first b.es) (askings_of requests) replies (asked_since b.asked c.asked) (record { entries = c.es; admitted = c.who ∷ [] })
   pub number_is : c.number ≡ b.number
   pub head_is : c.head ≡ b.head
-  pub said_grows : Grows b.said c.said
-  pub asks_are : c.asks ≡ asks_after (gained b.said c.said) b.asks
-  pub reached_is : c.reached ≡ b.reached
-  pub later : b.faults ≤ c.faults
+  pub only_asked : HasOnlyAsked b.asked c.asked
 
 -- the reply was sent, and no end came of it; or a proper part of it was, and the link failed
 abbrev pub IsSent : Reply → Option SessionEnd → List ℕ → List ℕ → Type 0

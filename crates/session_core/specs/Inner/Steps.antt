@@ -22,11 +22,6 @@ abbrev pub IsHello : Request → Type 0
 IsHello (Hello name secret) = Unit {0}
 IsHello _ = ⊥
 
--- an authority was down
-abbrev pub IsDown : Reply → Type 0
-IsDown (Down at k) = Unit {0}
-IsDown _ = ⊥
-
 -- what the journal decides of an event was done and replied, or there was no memory
 pub data IsDecided (h : Head) (es es_now : List EntryTree) (session p : ℕ) (e : EventTree) (reply : Reply) : Type 0 where
   decided : Grows es es_now → reply ≡ (changed es session p e (decision h (replay h es) session p e)).reply

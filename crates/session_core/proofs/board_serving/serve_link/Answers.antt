@@ -1,23 +1,24 @@
-use Rattle.std.proofs.Common.{None, refl, ◌∙◌}
+use Rattle.std.proofs.Common.{None, refl, ◌∙◌, sym}
 use Rattle.verdict_words.proofs.ForCallers.{prefix_through}
-use Rattle.session_core.proofs.BoardGoing.{first_ready, knows_here, opening_here, seen_here, served_over, session_here}
+use Rattle.session_core.proofs.BoardGoing.{first_ready, opening_here, seen_here, served_over, session_here}
 use Rattle.session_core.proofs.board_serving.serve_link.Goals as goal
 
 pub sit-session-requires-clause-ready : goal.sit-session-requires-clause-ready
 sit-session-requires-clause-ready g c =
-    first_ready c.args.board.now c.deref_mut.result.now c.args.pass (record { pass = c.meet-pass.result; admitted = None; known = c.new.result }) c.meet-pass.ensures.pass c.meet-pass.ensures.met c.meet-pass.ensures.board refl c.new.ensures refl
+    first_ready c.args.board.now _ c.args.pass (record { pass = c.meet-pass.result; admitted = None; known = c.new.result }) (rw c.requires.named at c.meet-pass.ensures.met.1) refl c.new.ensures refl
 
 pub returns-clause-told : goal.returns-clause-told
 returns-clause-told g c =
     let sat = c.sit-session.ensures.sat in
-    rw (c.close.ensures.coming.taken_is, c.close.ensures.sent, c.principal-principal.ensures)
-    (served_over c.args.board.now c.deref_mut.result.now c.args.pass (record { pass = c.meet-pass.result; admitted = None; known = c.new.result }) c.meet-pass.ensures.pass c.meet-pass.ensures.met c.meet-pass.ensures.board refl c.new.ensures
-    c.sit-session.result.0 _ _ sat.requests sat.replies c.sit-session.result.1 _ _ c.session-number.result c.requires.trail c.requires.unused
-    (opening_here c.args.board.now c.deref_mut.result.now c.args.pass c.meet-pass.result c.meet-pass.ensures.pass c.meet-pass.ensures.board c.at-at.ensures.begins) c.session-number.ensures.session sat.told sat.ended)
+    let met = rw c.requires.named at c.meet-pass.ensures.met.1 in
+    rw (c.close.ensures.coming.taken_is, c.close.ensures.sent, c.principal-principal.ensures, ← c.meet-pass.ensures.unrecorded)
+    (served_over c.args.board.now _ c.args.pass (record { pass = c.meet-pass.result; admitted = None; known = c.new.result }) met refl c.new.ensures
+    c.sit-session.result.0 _ _ _ _ sat.requests sat.replies c.sit-session.result.1 _ _ c.session-number.result c.requires.trail c.requires.unused
+    (opening_here c.args.board.now _ c.args.pass c.meet-pass.result met c.at-at.ensures.begins) c.session-number.ensures.session sat.told sat.ended)
 
 pub returns-clause-session : goal.returns-clause-session
 returns-clause-session g c =
-    let here = session_here c.deref_mut.result.now c.args.pass c.meet-pass.result c.meet-pass.ensures.pass in
+    let here = session_here _ _ c.args.pass c.meet-pass.result c.meet-pass.ensures.met.1 in
     (c.session-number.ensures.session ∙ here, c.sit-session.ensures.sat.told.session_is ∙ here)
 
 pub returns-clause-board : goal.returns-clause-board
@@ -25,23 +26,17 @@ returns-clause-board g c = c.sit-session.ensures.ready.board_is
 
 pub returns-clause-seen : goal.returns-clause-seen
 returns-clause-seen g c =
-    prefix_through c.args.pass.seen c.meet-pass.result.seen c.sit-session.result.0.pass.seen (seen_here c.deref_mut.result.now c.args.pass c.meet-pass.result c.meet-pass.ensures.pass c.meet-pass.ensures.met) c.sit-session.ensures.sat.told.seen
+    prefix_through c.args.pass.seen c.meet-pass.result.seen c.sit-session.result.0.pass.seen (seen_here _ _ c.args.pass c.meet-pass.result c.meet-pass.ensures.met.1) c.sit-session.ensures.sat.told.seen
 
 pub returns-clause-known : goal.returns-clause-known
 returns-clause-known g c =
-    prefix_through c.args.pass.known c.meet-pass.result.known c.sit-session.result.0.pass.known (knows_here c.deref_mut.result.now c.args.pass c.meet-pass.result c.meet-pass.ensures.pass c.meet-pass.ensures.known) c.sit-session.ensures.sat.told.knows
+    prefix_through c.args.pass.known c.meet-pass.result.known c.sit-session.result.0.pass.known c.meet-pass.ensures.met.1.knows c.sit-session.ensures.sat.told.knows
 
-pub returns-clause-said : goal.returns-clause-said
-returns-clause-said g c = c.sit-session.ensures.sat.told.said_grows
+pub returns-clause-asked : goal.returns-clause-asked
+returns-clause-asked g c = c.sit-session.ensures.sat.told.asked
 
-pub returns-clause-asks : goal.returns-clause-asks
-returns-clause-asks g c = c.sit-session.ensures.sat.told.asks_are
-
-pub returns-clause-reached : goal.returns-clause-reached
-returns-clause-reached g c = c.sit-session.ensures.sat.told.reached_is
-
-pub returns-clause-later : goal.returns-clause-later
-returns-clause-later g c = c.sit-session.ensures.sat.told.later
+pub returns-clause-book : goal.returns-clause-book
+returns-clause-book g c = c.sit-session.ensures.book ∙ sym c.requires.named
 
 pub returns-clause-link_count : goal.returns-clause-link_count
 returns-clause-link_count g c = rw (← c.sit-session.ensures.link_count) c.close.ensures.count

@@ -1,5 +1,5 @@
 use Rattle.std.proofs.Common.{[], ◌∷◌, refl}
-use Rattle.nx_io.proofs.ForCallers.{gained-nothing}
+use Rattle.authority_ask.proofs.ForCallers.{since_nothing}
 use Rattle.policy_history.specs.Values.{entry_trees}
 use Rattle.session_core.specs.Ends.{at_first, no_memory}
 use Rattle.session_core.proofs.serving.serve_on.Goals.{in-Ok, in-Err}
@@ -17,15 +17,13 @@ returns-clause-served g c =
             ended = sat.ended;
             told = sat.told.told;
             entries = refl;
-            downs = sat.told.downs;
           })
       | in-Err w ↦ rw (c.close.ensures.coming.taken_is, c.close.ensures.sent, w.end-is, w.journal-is, w.link-is, w.panel-is) (record {
         requests = [];
         replies = [];
         last = at_first (entry_trees c.args.journal.now.entries);
         ended = no_memory refl c.requires.taken c.requires.sent refl refl;
-        told = (gained-nothing (g.P.Panel.said c.args.panel.now), refl);
+        told = (since_nothing (g.P.Panel.history c.args.panel.now), refl);
         entries = refl;
-        downs = refl;
       })
     ]

@@ -2,5 +2,9 @@ use Rattle.std.specs.Prelude.{Some}
 use Rattle.session_rows.proofs.plays.serve_all.Given as goal
 
 -- the book that was made
-abbrev pub ghosts-serve_passes : goal.ghosts-serve_passes
-ghosts-serve_passes g a = record { board = Some a.board.now; next = a.book.next; start = a.book.start; start_faults = a.book.start_faults }
+abbrev pub ghosts-serve_passes-N-BookNaming : goal.ghosts-serve_passes-N-BookNaming
+ghosts-serve_passes-N-BookNaming g a = record { board = Some a.board.now; next = a.book.next; start = a.book.start; start_faults = a.book.start_faults }
+
+-- the ledger that counts in it
+abbrev pub ghosts-serve_passes-T-Ledger : goal.ghosts-serve_passes-T-Ledger
+ghosts-serve_passes-T-Ledger g a = record { name = a.blank.name; parts = a.blank.parts }

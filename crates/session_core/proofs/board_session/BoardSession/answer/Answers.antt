@@ -1,16 +1,19 @@
-use Rattle.std.proofs.Common.{arith, refl}
-use Rattle.nx_io.proofs.ForCallers.{gained-nothing, grows-nothing}
-use Rattle.session_core.proofs.Answering.{up_count}
+use Rattle.authority_ask.proofs.ForCallers.{only_nothing, since_nothing}
+use Rattle.session_core.proofs.BoardTurns.{quiet_counted}
 use Rattle.session_core.proofs.board_session.BoardSession.answer.Goals as goal
 
 -- a change asks nobody
 pub returns-in_default : goal.returns-in_default
 returns-in_default g c = record {
-  ready = c.change.ensures.ready;
-  turn = rw gained-nothing c.change.ensures.turn;
-  said = grows-nothing (g.P.Panel.said c.args.panel.now);
-  asks = rw gained-nothing refl;
-  reached = refl;
-  later = omega arith;
-  count = up_count c.change.result.1 (g.P.Panel.faults c.args.panel.now) c.change.ensures.up;
+  ready = rw c.requires.named at c.change.ensures.ready;
+  turn = rw since_nothing c.change.ensures.turn;
+  asked = only_nothing _;
+  book = c.change.ensures.book;
+  counted = c.change.ensures.counted;
 }
+
+pub returns-in-Hello-clause-counted : goal.returns-in-Hello-clause-counted
+returns-in-Hello-clause-counted g c = quiet_counted _ _ _ c.open.ensures.book.1 c.open.ensures.recorded
+
+pub returns-in-Call-clause-counted : goal.returns-in-Call-clause-counted
+returns-in-Call-clause-counted g c = quiet_counted _ _ _ c.call.ensures.book.1 c.call.ensures.recorded

@@ -1,5 +1,4 @@
-use Rattle.std.proofs.Common.{sym, ◌∙◌}
-use Rattle.session_core.proofs.BoardTurns.{early_change, given_up_any, nobody_of, somebody_of, written_ready, written_turn}
+use Rattle.session_core.proofs.BoardTurns.{early_change, given_up_any, nobody_of, somebody_of, written_counted, written_ready, written_turn}
 use Rattle.session_core.proofs.board_session.BoardSession.change.Goals as goal
 
 pub returns-in_default-clause-turn : goal.returns-in_default-clause-turn
@@ -13,10 +12,13 @@ returns-in_default-policy_line-clause-turn g c = given_up_any c.args.self _
 
 pub returns-clause-turn : goal.returns-clause-turn
 returns-clause-turn g c =
-    rw c.written_reply.ensures (written_turn g.K.Sink.sent g.K.Sink.faults c.deref_mut.result.now c.write-pass.new.self c.args.self c.write-pass.result.0 c.in-Some.who.number c.in-Ok-Some.event _ c.args.request.now
-    (c.write-pass.ensures.board ∙ sym c.requires.ready.board_is) (somebody_of c.args.self _ c.in-Some.is) (rw c.in-Ok-Some.field-0-is at c.in-Ok-Some.ensures.event) c.write-pass.result.1 c.write-pass.ensures.answered)
+    rw c.written_reply.ensures (written_turn c.args.self c.write-pass.result.0 c.in-Some.who.number c.in-Ok-Some.event c.args.request.now (somebody_of c.args.self _ c.in-Some.is)
+    (rw c.in-Ok-Some.field-0-is at c.in-Ok-Some.ensures.event) c.write-pass.result.1 (rw (← c.requires.ready.board_is) at c.write-pass.ensures.answered))
 
 pub returns-clause-ready : goal.returns-clause-ready
 returns-clause-ready g c =
-    written_ready g.K.Sink.sent g.K.Sink.faults c.deref_mut.result.now c.write-pass.new.self c.args.self c.write-pass.result.0 c.in-Some.who.number c.in-Ok-Some.event _ c.args.request.now
-    (c.write-pass.ensures.board ∙ sym c.requires.ready.board_is) (somebody_of c.args.self _ c.in-Some.is) (rw c.in-Ok-Some.field-0-is at c.in-Ok-Some.ensures.event) c.args.board.now c.requires.ready c.write-pass.result.1 c.write-pass.ensures.answered
+    written_ready c.args.self c.write-pass.result.0 c.in-Some.who.number c.in-Ok-Some.event c.args.request.now (somebody_of c.args.self _ c.in-Some.is)
+    (rw c.in-Ok-Some.field-0-is at c.in-Ok-Some.ensures.event) _ c.requires.ready c.write-pass.result.1 (rw (← c.requires.ready.board_is) at c.write-pass.ensures.answered)
+
+pub returns-clause-counted : goal.returns-clause-counted
+returns-clause-counted g c = rw c.written_reply.ensures (written_counted _ _ c.write-pass.result.1 c.write-pass.ensures.unrecorded)

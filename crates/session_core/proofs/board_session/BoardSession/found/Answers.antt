@@ -18,4 +18,4 @@ keep-requires-clause-right c = λ place held place_is stands lasting.
 pub returns-clause-checked : goal.returns-clause-checked
 returns-clause-checked c = λ p told judged.
     found_checked p c.args.op.now c.args.room.op c.args.room.object c.args.arg c.args.taken.now.object c.args.taken.now.at c.args.taken.now.place _ c.args.self _ told c.args.finding.now _ c.keep.new.pass c.join-is_known.result
-    c.requires.op (taken_at c.args.self _ c.requires.snap.1.at_is) judged c.join-is_known.ensures.known c.join-is_known.ensures.is_known c.keep.ensures c.judged_reply-reply.ensures refl
+    c.requires.op (taken_at c.args.self _ c.requires.snap.1.at_is) judged c.join-is_known.ensures.known c.join-is_known.ensures.is_known c.keep.ensures c.judged_reply-reply.ensures.reply refl

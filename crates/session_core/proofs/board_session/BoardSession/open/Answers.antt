@@ -8,7 +8,7 @@ returns-in-Some-clause-turn g c = again_turn c.args.self c.args.name.now c.args.
 pub returns-in_default-found-clause-turn : goal.returns-in_default-found-clause-turn
 returns-in_default-found-clause-turn g c =
     unknown_turn c.args.self c.args.name.now c.args.secret.now _ (sym c.principal.ensures ∙ c.in_default.is)
-    (found_here c.args.board.now c.args.self c.args.name.now c.args.secret.now c.admit-found.result None c.requires.ready (c.admit-found.ensures.number c.args.board.now c.requires.named) c.in_default-found.is) c.at-at.ensures.length
+    (found_here _ c.args.self c.args.name.now c.args.secret.now c.admit-found.result None c.requires.ready c.admit-found.ensures.number c.in_default-found.is) c.at-at.ensures.length
 
 pub returns-in_default-copy-clause-turn : goal.returns-in_default-copy-clause-turn
 returns-in_default-copy-clause-turn g c = given_up_any c.args.self _
@@ -16,10 +16,10 @@ returns-in_default-copy-clause-turn g c = given_up_any c.args.self _
 pub returns-clause-turn : goal.returns-clause-turn
 returns-clause-turn g c =
     welcome_turn c.args.self c.args.name.now c.args.secret.now c.in-Some-found.number _ _ (record { number = c.in-Some-found.number; name = c.in-Ok.name }) (sym c.principal.ensures ∙ c.in_default.is)
-    (found_here c.args.board.now c.args.self c.args.name.now c.args.secret.now c.admit-found.result (Some c.in-Some-found.number) c.requires.ready (c.admit-found.ensures.number c.args.board.now c.requires.named) c.in-Some-found.is)
+    (found_here _ c.args.self c.args.name.now c.args.secret.now c.admit-found.result (Some c.in-Some-found.number) c.requires.ready c.admit-found.ensures.number c.in-Some-found.is)
     refl c.at-at.ensures.length c.session-session.ensures.session
 
 pub returns-clause-ready : goal.returns-clause-ready
 returns-clause-ready g c =
-    welcome_ready c.args.board.now c.args.self (record { number = c.in-Some-found.number; name = c.in-Ok.name }) c.args.name.now c.args.secret.now c.requires.ready (sym c.principal.ensures ∙ c.in_default.is)
-    (c.in-Some-found.ensures.within c.args.board.now c.requires.named) c.in-Ok.ensures (sym (c.admit-found.ensures.number c.args.board.now c.requires.named) ∙ c.in-Some-found.is)
+    welcome_ready _ c.args.self (record { number = c.in-Some-found.number; name = c.in-Ok.name }) c.args.name.now c.args.secret.now c.requires.ready (sym c.principal.ensures ∙ c.in_default.is)
+    c.in-Some-found.ensures.within c.in-Ok.ensures (sym c.admit-found.ensures.number ∙ c.in-Some-found.is)

@@ -1,54 +1,58 @@
 use Rattle.std.proofs.Common.{sym, ◌∙◌, refl}
-use Rattle.nx_io.proofs.ForCallers.{gained-nothing}
+use Rattle.authority_ask.proofs.ForCallers.{since_nothing}
 use Rattle.session_core.proofs.BoardSnaps.{checked_as, checked_ready, checked_turn, known_has_place, met_now_of, met_ready, no_object_turn, none_here, snap_board, snap_here, unasked_turn, unsnapped_turn}
 use Rattle.session_core.proofs.board_session.BoardSession.snap.Goals as goal
 
 pub returns-in_default-clause-turn : goal.returns-in_default-clause-turn
 returns-in_default-clause-turn g c = λ s who missed.
-    unsnapped_turn c.args.principal c.args.op.now c.args.object.now c.args.arg s c.args.self who missed c.reserve.new.self _ c.reserve.ensures.known (gained-nothing (g.P.Panel.said c.args.panel.now))
+    unsnapped_turn c.args.principal c.args.op.now c.args.object.now c.args.arg s c.args.self who missed c.reserve.new.self _ c.reserve.ensures.known (since_nothing (g.P.Panel.history c.args.panel.now))
 
 pub judge-requires-clause-snap : goal.judge-requires-clause-snap
 judge-requires-clause-snap g c =
-    snap_here c.deref_mut.result.now c.args.board.now c.args.self.pass c.snap-pass.result.0 c.args.principal c.args.op.now c.args.object.now c.in-Ok.room.object c.in-Case.at c.in-Case.case c.in-Case.place c.in-Case.object
-    c.snap-pass.ensures.pass c.snap-pass.ensures.board c.in-Ok.ensures.object (rw c.in-Case.is at c.snap-pass.ensures.snapped)
+    let t = c.snap-pass.ensures.snapped in
+    snap_here _ _ _ _ t.met c.args.principal c.args.op.now c.args.object.now c.in-Ok.room.object c.in-Case.at c.in-Case.case c.in-Case.place c.in-Case.object c.in-Ok.ensures.object (rw c.in-Case.is at t.snap)
 
 pub judge-requires-clause-known : goal.judge-requires-clause-known
 judge-requires-clause-known g c =
-    let met = met_now_of c.deref_mut.result.now _ c.args.self c.snap-pass.result.0 c.reserve.new.self c.snap-pass.ensures.met c.snap-pass.ensures.known c.snap-pass.ensures.pass (c.snap-pass.ensures.board ∙ sym c.requires.ready.board_is) c.reserve.ensures.known in
+    let t = c.snap-pass.ensures.snapped in
+    let met = met_now_of _ _ c.args.self c.snap-pass.result.0 c.reserve.new.self t.met (c.requires.named ∙ sym c.requires.ready.board_is) c.reserve.ensures.known in
     known_has_place c.args.board.now _ c.args.principal c.args.op.now c.in-Ok.room.object c.in-Case.at c.in-Case.case c.in-Case.place c.in-Case.object (met_ready c.args.board.now c.args.self _ c.requires.ready met) c.requires.who
-    (snap_board c.deref_mut.result.now c.args.board.now c.args.self.pass c.snap-pass.result.0 c.args.principal c.args.op.now c.args.object.now c.in-Ok.room.object c.in-Case.at c.in-Case.case c.in-Case.place c.in-Case.object
-    c.snap-pass.ensures.pass c.in-Ok.ensures.object (rw c.in-Case.is at c.snap-pass.ensures.snapped))
+    (rw c.requires.named at (snap_board _ _ _ _ t.met c.args.principal c.args.op.now c.args.object.now c.in-Ok.room.object c.in-Case.at c.in-Case.case c.in-Case.place c.in-Case.object c.in-Ok.ensures.object (rw c.in-Case.is at t.snap)))
 
 pub returns-in-Case-clause-ready : goal.returns-in-Case-clause-ready
 returns-in-Case-clause-ready g c =
-    let met = met_now_of c.deref_mut.result.now _ c.args.self c.snap-pass.result.0 c.reserve.new.self c.snap-pass.ensures.met c.snap-pass.ensures.known c.snap-pass.ensures.pass (c.snap-pass.ensures.board ∙ sym c.requires.ready.board_is) c.reserve.ensures.known in
+    let t = c.snap-pass.ensures.snapped in
+    let met = met_now_of _ _ c.args.self c.snap-pass.result.0 c.reserve.new.self t.met (c.requires.named ∙ sym c.requires.ready.board_is) c.reserve.ensures.known in
     checked_ready c.args.board.now _ _ c.args.principal c.args.op.now c.in-Ok.room.object c.args.arg c.in-Case.at c.in-Case.case c.in-Case.place c.in-Case.object _ _ (met_ready c.args.board.now c.args.self _ c.requires.ready met) c.requires.who
-    (snap_board c.deref_mut.result.now c.args.board.now c.args.self.pass c.snap-pass.result.0 c.args.principal c.args.op.now c.args.object.now c.in-Ok.room.object c.in-Case.at c.in-Case.case c.in-Case.place c.in-Case.object
-    c.snap-pass.ensures.pass c.in-Ok.ensures.object (rw c.in-Case.is at c.snap-pass.ensures.snapped)) c.judge.ensures.checked
+    (rw c.requires.named at (snap_board _ _ _ _ t.met c.args.principal c.args.op.now c.args.object.now c.in-Ok.room.object c.in-Case.at c.in-Case.case c.in-Case.place c.in-Case.object c.in-Ok.ensures.object (rw c.in-Case.is at t.snap)))
+    c.judge.ensures.checked
 
 pub returns-in-Case-clause-turn : goal.returns-in-Case-clause-turn
 returns-in-Case-clause-turn g c = λ s who missed.
-    let met = met_now_of c.deref_mut.result.now _ c.args.self c.snap-pass.result.0 c.reserve.new.self c.snap-pass.ensures.met c.snap-pass.ensures.known c.snap-pass.ensures.pass (c.snap-pass.ensures.board ∙ sym c.requires.ready.board_is) c.reserve.ensures.known in
+    let t = c.snap-pass.ensures.snapped in
+    let met = met_now_of _ _ c.args.self c.snap-pass.result.0 c.reserve.new.self t.met (c.requires.named ∙ sym c.requires.ready.board_is) c.reserve.ensures.known in
     checked_turn c.args.principal c.args.op.now c.args.object.now c.args.arg s c.args.self who missed _ met c.in-Case.object c.in-Case.at c.in-Case.case c.in-Case.place
-    (snap_here c.deref_mut.result.now c.args.board.now c.args.self.pass c.snap-pass.result.0 c.args.principal c.args.op.now c.args.object.now c.args.object.now c.in-Case.at c.in-Case.case c.in-Case.place c.in-Case.object
-    c.snap-pass.ensures.pass c.snap-pass.ensures.board refl (rw c.in-Case.is at c.snap-pass.ensures.snapped)) _ _ _
+    (snap_here _ _ _ _ t.met c.args.principal c.args.op.now c.args.object.now c.args.object.now c.in-Case.at c.in-Case.case c.in-Case.place c.in-Case.object refl (rw c.in-Case.is at t.snap)) _ _ _
     (checked_as c.in-Ok.ensures.object c.judge.ensures.checked)
 
 pub returns-in-NoObject-clause-ready : goal.returns-in-NoObject-clause-ready
 returns-in-NoObject-clause-ready g c =
-    met_ready c.args.board.now c.args.self _ c.requires.ready (met_now_of c.deref_mut.result.now _ c.args.self c.snap-pass.result.0 c.reserve.new.self c.snap-pass.ensures.met c.snap-pass.ensures.known c.snap-pass.ensures.pass (c.snap-pass.ensures.board ∙ sym c.requires.ready.board_is) c.reserve.ensures.known)
+    met_ready c.args.board.now c.args.self _ c.requires.ready
+    (met_now_of _ _ c.args.self c.snap-pass.result.0 c.reserve.new.self c.snap-pass.ensures.snapped.met (c.requires.named ∙ sym c.requires.ready.board_is) c.reserve.ensures.known)
 
 pub returns-in-NoObject-clause-turn : goal.returns-in-NoObject-clause-turn
 returns-in-NoObject-clause-turn g c = λ s who missed.
-    let met = met_now_of c.deref_mut.result.now _ c.args.self c.snap-pass.result.0 c.reserve.new.self c.snap-pass.ensures.met c.snap-pass.ensures.known c.snap-pass.ensures.pass (c.snap-pass.ensures.board ∙ sym c.requires.ready.board_is) c.reserve.ensures.known in
-    let none = none_here c.deref_mut.result.now c.args.board.now c.args.self.pass c.snap-pass.result.0 c.args.object.now c.in-NoObject.at c.snap-pass.ensures.pass c.snap-pass.ensures.board (rw c.in-NoObject.is at c.snap-pass.ensures.snapped) in
-    no_object_turn c.args.principal c.args.op.now c.args.object.now c.args.arg s c.args.self who missed _ met c.in-NoObject.at _ (gained-nothing (g.P.Panel.said c.args.panel.now)) none.0 none.1
+    let t = c.snap-pass.ensures.snapped in
+    let met = met_now_of _ _ c.args.self c.snap-pass.result.0 c.reserve.new.self t.met (c.requires.named ∙ sym c.requires.ready.board_is) c.reserve.ensures.known in
+    let none = none_here _ _ _ _ t.met c.args.object.now c.in-NoObject.at (rw c.in-NoObject.is at t.snap) in
+    no_object_turn c.args.principal c.args.op.now c.args.object.now c.args.arg s c.args.self who missed _ met c.in-NoObject.at _ (since_nothing (g.P.Panel.history c.args.panel.now)) none.0 none.1
 
 pub returns-in-NoMemory-clause-ready : goal.returns-in-NoMemory-clause-ready
 returns-in-NoMemory-clause-ready g c =
-    met_ready c.args.board.now c.args.self _ c.requires.ready (met_now_of c.deref_mut.result.now _ c.args.self c.snap-pass.result.0 c.reserve.new.self c.snap-pass.ensures.met c.snap-pass.ensures.known c.snap-pass.ensures.pass (c.snap-pass.ensures.board ∙ sym c.requires.ready.board_is) c.reserve.ensures.known)
+    met_ready c.args.board.now c.args.self _ c.requires.ready
+    (met_now_of _ _ c.args.self c.snap-pass.result.0 c.reserve.new.self c.snap-pass.ensures.snapped.met (c.requires.named ∙ sym c.requires.ready.board_is) c.reserve.ensures.known)
 
 pub returns-in-NoMemory-clause-turn : goal.returns-in-NoMemory-clause-turn
 returns-in-NoMemory-clause-turn g c = λ s who missed.
-    let met = met_now_of c.deref_mut.result.now _ c.args.self c.snap-pass.result.0 c.reserve.new.self c.snap-pass.ensures.met c.snap-pass.ensures.known c.snap-pass.ensures.pass (c.snap-pass.ensures.board ∙ sym c.requires.ready.board_is) c.reserve.ensures.known in
-    unasked_turn c.args.principal c.args.op.now c.args.object.now c.args.arg s c.args.self who missed _ met _ (gained-nothing (g.P.Panel.said c.args.panel.now))
+    let met = met_now_of _ _ c.args.self c.snap-pass.result.0 c.reserve.new.self c.snap-pass.ensures.snapped.met (c.requires.named ∙ sym c.requires.ready.board_is) c.reserve.ensures.known in
+    unasked_turn c.args.principal c.args.op.now c.args.object.now c.args.arg s c.args.self who missed _ met _ (since_nothing (g.P.Panel.history c.args.panel.now))

@@ -4,4 +4,4 @@ use Rattle.session_core.proofs.serving.SessionSittingJournal.answer.Goals as goa
 pub returns-clause-told : goal.returns-clause-told
 returns-clause-told g c = λ first book_first panel_first requests replies told.
     let e = c.answer-reply.ensures in
-    alone_more _ _ _ requests replies _ _ told e.outcome e.number e.head e.grows e.said e.asks e.reached e.later e.count
+    alone_more _ _ _ requests replies _ _ told e.outcome e.number e.head e.grows e.asked

@@ -1,7 +1,7 @@
 use Rattle.session_core.proofs.BoardGoing.{gone_more}
-use Rattle.session_core.proofs.board_serving.SharingSittingUnit.answer.Goals as goal
+use Rattle.session_core.proofs.board_serving.SharingSitting.answer.Goals as goal
 
 pub returns-clause-told : goal.returns-clause-told
 returns-clause-told g c = λ first book_first panel_first requests replies told.
     let e = c.answer-session.ensures in
-    gone_more _ _ _ _ _ _ requests replies _ _ told e.turn e.said e.asks e.reached e.later e.count
+    gone_more _ _ _ _ _ _ _ _ _ requests replies _ _ told e.turn e.asked e.counted
