@@ -34,7 +34,9 @@ use Rattle.policy_history.specs.contracts.events.Entry as Entry
 use Rattle.policy_history.specs.contracts.tables.Policy as Policy
 use Rattle.policy_history.specs.contracts.journal.Journal as Journal
 use Rattle.nx_io.specs.declared.streams.Sink as sink
+use Rattle.std.proofs.sync.ledger.Book.TheSendSync.{the_send as tickets_send}
 use Rattle.policy_book.specs.declared.naming.BookNaming as naming
+use Rattle.std.specs.declared.sync.ledger.Ledger as ledger
 use Rattle.policy_book.specs.contracts.book.Book as Book
 use Rattle.policy_book.specs.contracts.shelf.Shelf as Shelf
 use Rattle.verdict_words.proofs.seat.BookSeat.TheSendSync.{the_send as seat_send}
@@ -107,11 +109,11 @@ module _ (K : RattleType) (g : sink.Ghosts K.Denot) where
   pub book_send : IsSend K → IsSend (Book.the_row K g)
   book_send s = search (journal_send, seat_send, mark_send, crosses, declared_send, sendable) depth 30 fits 5000
 
-  pub shelf_send : (N : RattleType) (n : naming.Ghosts N.Denot) → IsSend K → IsSend (Shelf.the_row K N g n)
-  shelf_send N n s = let b = book_send s in search (book_send, crosses, declared_send, sendable) depth 30 fits 5000
+  pub shelf_send : (N T : RattleType) (n : naming.Ghosts N.Denot) (t : ledger.Ghosts T.Denot) → IsSend K → IsSend (Shelf.the_row K N T g n t)
+  shelf_send N T n t s = let b = book_send s in search (book_send, tickets_send, crosses, declared_send, sendable) depth 30 fits 5000
 
-  pub shelf_sync : (N : RattleType) (n : naming.Ghosts N.Denot) → IsSend K → IsSync (Mutex.the_row (Shelf.the_row K N g n))
-  shelf_sync N n s = search (shelf_send, crosses, sendable) depth 12
+  pub shelf_sync : (N T : RattleType) (n : naming.Ghosts N.Denot) (t : ledger.Ghosts T.Denot) → IsSend K → IsSync (Mutex.the_row (Shelf.the_row K N T g n t))
+  shelf_sync N T n t s = search (shelf_send, crosses, sendable) depth 12
 
 pub nal_board_sync : IsSync (Board.the_row NalMatter.the_row Entry.the_row Head.the_row matter)
 nal_board_sync = search (board_sync, entry_send, head_send, crosses, declared_send, sendable) depth 30 fits 5000

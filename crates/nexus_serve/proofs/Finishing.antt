@@ -8,6 +8,8 @@ use Rattle.std.proofs.lemmas.List.{append-nil}
 use Rattle.std.proofs.lemmas.Bool.{ne_eqb, eq-eqb}
 use mathlib.Core.Logic.{dite}
 use native.Mathlib.Decide.{ℕ_discrete}
+use Rattle.authority_ask.specs.PanelCalls.{PanelHistory}
+use Rattle.nx_io.specs.Streams.{Rose}
 use Rattle.policy_history.specs.declared.events.Entry.{Entry}
 use Rattle.policy_history.specs.declared.heads.Head.{Head}
 use Rattle.policy_history.specs.Values.{entry_trees, greatest_of}
@@ -22,7 +24,7 @@ use Rattle.verdict_words.specs.declared.views.Item.TheVariants.{Met}
 use Rattle.policy_book.specs.Books.{BookValue, IsMetIn, session_of}
 use Rattle.session_core.specs.ToldLaws.{ToldStaysTold}
 use Rattle.nexus_serve.specs.declared.service.ServeEnd.TheVariants.{Done, DoorFault}
-use Rattle.nexus_serve.specs.Views.{PanelView, ReportView}
+use Rattle.nexus_serve.specs.Views.{ReportView}
 use Rattle.nexus_serve.specs.Workers.{HaveWorked, SomeFailed}
 use Rattle.nexus_serve.specs.Services.{HasSeenAll, HaveOneOrder, IsServed, ServedView, Serves, SinkView, done, is_fault, sessions_of}
 use Rattle.nexus_serve.specs.Inner.Gathering.{gathered_all, joined, nothing, pass_of, rest_of, with_unused}
@@ -48,14 +50,14 @@ same_sessions board es known [] = refl
 same_sessions board es known (r ∷ rs) = ap (λ l. r.session ∷ l) (same_sessions board es known rs)
 
 -- the passes of all workers are as they were made where they were not used
-all_unused : {P : Type 0} (panel : P → PanelView) (board : Identity Entry Head) (first most : ℕ) (hired workers : List (WorkerValue P)) → AreDone panel board first most hired workers → All (IsUnused board) (unused_of workers)
+all_unused : {P : Type 0} (panel : P → PanelHistory) (board : Identity Entry Head) (first most : ℕ) (hired workers : List (WorkerValue P)) → AreDone panel board first most hired workers → All (IsUnused board) (unused_of workers)
 all_unused panel board first most [] [] stopped = All-nil (IsUnused board)
 all_unused panel board first most (j ∷ js) (w ∷ ws) (hired, stopped, others) = All-append (IsUnused board) w.passes (unused_of ws) stopped.unused (all_unused panel board (first + most) most js ws others)
 all_unused panel board first most [] (w ∷ ws) stopped = absurd stopped
 all_unused panel board first most (j ∷ js) [] stopped = absurd stopped
 
 -- a report's session is that of its pass
-all_same : {P : Type 0} (panel : P → PanelView) (board : Identity Entry Head) (first most : ℕ) (hired workers : List (WorkerValue P)) → AreDone panel board first most hired workers → All (λ (report : ReportView). report.pass.session ≡ report.session) (reports_of workers)
+all_same : {P : Type 0} (panel : P → PanelHistory) (board : Identity Entry Head) (first most : ℕ) (hired workers : List (WorkerValue P)) → AreDone panel board first most hired workers → All (λ (report : ReportView). report.pass.session ≡ report.session) (reports_of workers)
 all_same panel board first most [] [] stopped = All-nil (λ (report : ReportView). report.pass.session ≡ report.session)
 all_same panel board first most (j ∷ js) (w ∷ ws) (hired, stopped, others) = All-append (λ (report : ReportView). report.pass.session ≡ report.session) w.reports (reports_of ws) (works_same stopped.worked.works) (all_same panel board (first + most) most js ws others)
 all_same panel board first most [] (w ∷ ws) stopped = absurd stopped
@@ -68,9 +70,9 @@ all_behind P low whole front (e ∷ rest) is long each =
     let grown = length-append front (e ∷ []) in
     All-cons P e rest (each front e rest is long) (all_behind P low whole (front ++ e ∷ []) rest (is ∙ sym (append_assoc front (e ∷ []) rest)) (omega (arith, long, grown)) each)
 
-module _ {K P : Type 0} (panel : P → PanelView) (stays : ToldStaysTold) (book : BookValue K) (start : SinkView) (served : ServedView P) (most : ℕ) (hired workers : List (WorkerValue P)) (places spare : ℕ)
+module _ {K P : Type 0} (panel : P → PanelHistory) (stays : ToldStaysTold) (book : BookValue K) (start : SinkView) (served : ServedView P) (most : ℕ) (hired workers : List (WorkerValue P)) (places spare : ℕ)
     (are_done : AreDone panel book.board book.board.origin.first most hired workers) (all_numbers : book.next ≡ book.board.origin.first + length workers * most)
-    (reported : IsReported book start (with_unused (gathered_all (nothing places spare) workers)) served) (first_is : book.board.origin.first ≡ greatest_of (entry_trees book.board.origin.opening) + 1) where
+    (reported : IsReported book start (with_unused (gathered_all (nothing places spare) workers)) served) (total : ℕ) (is_counted : All (λ (worker : WorkerValue P). worker.unrecorded ≤ total) workers) (is_failed : 0 < total → book.is_broken ≡ true) (first_is : book.board.origin.first ≡ greatest_of (entry_trees book.board.origin.opening) + 1) where
   abbrev board : Identity Entry Head
   board = book.board
 
@@ -232,13 +234,21 @@ module _ {K P : Type 0} (panel : P → PanelView) (stays : ToldStaysTold) (book 
   panels : served.panels ≡ panels_of workers
   panels = reported.panels ∙ panels_gathered (nothing places spare) workers
 
-  worked : HaveWorked board.origin.setting (length board.origin.opening) 1 (is_fault served.end) (greatest_of (entry_trees board.origin.opening) + 1) most (doors_of hired) (doors_of workers) (map panel (panels_of hired)) (map panel (panels_of workers)) (map (met_report board es known) reports)
-  worked =
-      subst (λ n. HaveWorked board.origin.setting (length board.origin.opening) 1 (is_fault served.end) n most (doors_of hired) (doors_of workers) (map panel (panels_of hired)) (map panel (panels_of workers)) (map (met_report board es known) reports)) first_is
-      (subst (λ b. HaveWorked board.origin.setting (length board.origin.opening) 1 b board.origin.first most (doors_of hired) (doors_of workers) (map panel (panels_of hired)) (map panel (panels_of workers)) (map (met_report board es known) reports)) (sym fault)
-      (have_worked panel stays board es known (gathered_all (nothing places spare) workers).has_failed most board.origin.first hired workers are_done (tells_all (nothing places spare) workers) met_by))
+  -- the text has failed
+  abbrev Failed : Type 0
+  Failed = Rose start.faults reported.sink_now.faults
 
-  is_served : IsServed board.origin.setting board.origin.opening es most (doors_of hired) (doors_of workers) (map panel (panels_of hired)) (map panel (panels_of workers)) (map (met_report board es known) reports) served.end
+  counted : All (λ (worker : WorkerValue P). 0 < worker.unrecorded → Failed) workers
+  counted = All-weaker (λ (worker : WorkerValue P). worker.unrecorded ≤ total) (λ (worker : WorkerValue P). 0 < worker.unrecorded → Failed)
+      (λ worker most some. reported.failed (is_failed (omega (arith, most, some)))) workers is_counted
+
+  worked : HaveWorked board.origin.setting (length board.origin.opening) 1 Failed (is_fault served.end) (greatest_of (entry_trees board.origin.opening) + 1) most (doors_of hired) (doors_of workers) (map panel (panels_of hired)) (map panel (panels_of workers)) (map (met_report board es known) reports)
+  worked =
+      subst (λ n. HaveWorked board.origin.setting (length board.origin.opening) 1 Failed (is_fault served.end) n most (doors_of hired) (doors_of workers) (map panel (panels_of hired)) (map panel (panels_of workers)) (map (met_report board es known) reports)) first_is
+      (subst (λ b. HaveWorked board.origin.setting (length board.origin.opening) 1 Failed b board.origin.first most (doors_of hired) (doors_of workers) (map panel (panels_of hired)) (map panel (panels_of workers)) (map (met_report board es known) reports)) (sym fault)
+      (have_worked panel stays board es known Failed (gathered_all (nothing places spare) workers).has_failed most board.origin.first hired workers are_done (tells_all (nothing places spare) workers) counted met_by))
+
+  is_served : IsServed board.origin.setting board.origin.opening es Failed most (doors_of hired) (doors_of workers) (map panel (panels_of hired)) (map panel (panels_of workers)) (map (met_report board es known) reports) served.end
   is_served = record {
     legal = reported.legal;
     begins = reported.numbered.begins;
@@ -249,11 +259,11 @@ module _ {K P : Type 0} (panel : P → PanelView) (stays : ToldStaysTold) (book 
     order = order;
   }
 
-  all_served : IsServed board.origin.setting board.origin.opening es most (doors_of hired) served.doors (map panel (panels_of hired)) (map panel served.panels) served.reports served.end
+  all_served : IsServed board.origin.setting board.origin.opening es Failed most (doors_of hired) served.doors (map panel (panels_of hired)) (map panel served.panels) served.reports served.end
   all_served =
-      subst (λ ds. IsServed board.origin.setting board.origin.opening es most (doors_of hired) ds (map panel (panels_of hired)) (map panel served.panels) served.reports served.end) (sym doors)
-      (subst (λ ps. IsServed board.origin.setting board.origin.opening es most (doors_of hired) (doors_of workers) (map panel (panels_of hired)) (map panel ps) served.reports served.end) (sym panels)
-      (subst (λ rs. IsServed board.origin.setting board.origin.opening es most (doors_of hired) (doors_of workers) (map panel (panels_of hired)) (map panel (panels_of workers)) rs served.end) (sym handed) is_served))
+      subst (λ ds. IsServed board.origin.setting board.origin.opening es Failed most (doors_of hired) ds (map panel (panels_of hired)) (map panel served.panels) served.reports served.end) (sym doors)
+      (subst (λ ps. IsServed board.origin.setting board.origin.opening es Failed most (doors_of hired) (doors_of workers) (map panel (panels_of hired)) (map panel ps) served.reports served.end) (sym panels)
+      (subst (λ rs. IsServed board.origin.setting board.origin.opening es Failed most (doors_of hired) (doors_of workers) (map panel (panels_of hired)) (map panel (panels_of workers)) rs served.end) (sym handed) is_served))
 
   -- what was reported is what a service hands back
   pub finished : Serves panel most board.origin.setting board.origin.opening start (doors_of hired) (panels_of hired) served

@@ -3,13 +3,14 @@ use Rattle.std.proofs.Common.{◌≡◌, ◌⊎◌, inl, inr, ℕ, Bool, true, f
 use Rattle.std.proofs.lemmas.List.{map-append}
 use Rattle.std.proofs.lemmas.List.Elements.{All-append, All-head, All-map, All-tail, All-weaker}
 use Rattle.std.specs.Prelude.{All, map, ◌||◌}
+use Rattle.authority_ask.specs.PanelCalls.{PanelHistory}
 use Rattle.policy_history.specs.declared.events.Entry.{Entry}
 use Rattle.policy_history.specs.declared.heads.Head.{Head}
 use Rattle.verdict_words.specs.declared.views.AtomicStep.{AtomicStep}
 use Rattle.verdict_words.specs.Settling.{all_met}
 use Rattle.verdict_words.specs.Values.{Identity, PassValue}
 use Rattle.nexus_serve.specs.declared.gathered.Rest.{Rest}
-use Rattle.nexus_serve.specs.Views.{DoorView, LinkView, PanelView, ReportView, report_view}
+use Rattle.nexus_serve.specs.Views.{DoorView, LinkView, ReportView, report_view}
 use Rattle.nexus_serve.specs.Workers.{SomeFailed}
 use Rattle.nexus_serve.specs.Inner.Gathering.{GatheredValue, RestView, gathered_all, gathered_from, joined, pass_of, raw_joined, rest_of, rest_view, with_pass, with_unused}
 use Rattle.nexus_serve.specs.Inner.Joining.{met_report, reports_of, unused_of}
@@ -71,7 +72,7 @@ tells_all g [] = tt
 tells_all g (w ∷ ws) = (λ is. failed_stays (gathered_from g w) ws (or_last g.has_failed w.has_failed is), tells_all (gathered_from g w) ws)
 
 -- where it is told, a door has failed
-pub some_failed : {P : Type 0} (panel : P → PanelView) (board : Identity Entry Head) (first most : ℕ) (g : GatheredValue P) (hired workers : List (WorkerValue P)) → AreDone panel board first most hired workers
+pub some_failed : {P : Type 0} (panel : P → PanelHistory) (board : Identity Entry Head) (first most : ℕ) (g : GatheredValue P) (hired workers : List (WorkerValue P)) → AreDone panel board first most hired workers
     → (gathered_all g workers).has_failed ≡ true → (g.has_failed ≡ true) ⊎ SomeFailed (doors_of hired) (doors_of workers)
 some_failed panel board first most g [] [] done is = inl is
 some_failed panel board first most g (j ∷ js) (w ∷ ws) done is = of_rest (some_failed panel board (first + most) most (gathered_from g w) js ws done.2 is)

@@ -4,6 +4,7 @@ use Rattle.std.proofs.Math.Seq.{take-append_seam}
 use Rattle.std.proofs.lemmas.List.{map-append, length-map}
 use Rattle.nexus_serve.proofs.Lists.{all_left, all_last}
 use Rattle.std.specs.Prelude.{All, map}
+use Rattle.authority_ask.specs.PanelCalls.{PanelHistory}
 use Rattle.policy_history.specs.declared.events.Entry.{Entry}
 use Rattle.policy_history.specs.declared.heads.Head.{Head}
 use Rattle.policy_history.specs.Values.{entry_trees}
@@ -12,7 +13,7 @@ use Rattle.verdict_words.specs.Values.{Identity}
 use Rattle.verdict_words.specs.declared.views.Item.{Item}
 use Rattle.verdict_words.specs.declared.views.Item.TheVariants.{Met}
 use Rattle.session_core.specs.ToldLaws.{ToldStaysTold}
-use Rattle.nexus_serve.specs.Views.{DoorView, LinkView, PanelView, ReportView}
+use Rattle.nexus_serve.specs.Views.{DoorView, LinkView, ReportView}
 use Rattle.nexus_serve.specs.Workers.{HasComeFrom, HasWorked, IsHeard, Stops, Works, all, failed, next, no_more, nobody}
 use Rattle.nexus_serve.specs.Inner.Joining.{IsMetBy, met_report}
 
@@ -27,9 +28,9 @@ but_one trail item =
     let short : length (trail ++ item ∷ []) - 1 ≡ length trail = omega (arith, long) in
     ap (λ n. take n (trail ++ item ∷ [])) short ∙ take-append_seam trail (item ∷ [])
 
-module _ (stays : ToldStaysTold) (board : Identity Entry Head) (es : List Entry) (known : List AtomicStep) (h : Head) (low : ℕ) where
+module _ (stays : ToldStaysTold) (board : Identity Entry Head) (es : List Entry) (known : List AtomicStep) (h : Head) (low : ℕ) (Failed : Type 0) where
   -- a session, once its pass was met again
-  heard_met : (report : ReportView) (panel panel_now : PanelView) → IsMetBy es report.pass → IsHeard h low 0 report panel panel_now → IsHeard h low 1 (met_report board es known report) panel panel_now
+  heard_met : (report : ReportView) (panel panel_now : PanelHistory) → IsMetBy es report.pass → IsHeard h low 0 Failed report panel panel_now → IsHeard h low 1 Failed (met_report board es known report) panel panel_now
   heard_met report panel panel_now met heard =
       let served = heard.served in
       let trail = report.pass.trail in
@@ -37,7 +38,7 @@ module _ (stays : ToldStaysTold) (board : Identity Entry Head) (es : List Entry)
       let trees : entry_trees es ≡ entry_trees report.pass.seen ++ entry_trees more = ap entry_trees met.seen.1 ∙ map-append _ report.pass.seen more in
       let grown = stays h (entry_trees report.pass.seen) (entry_trees more) report.session low served.requests served.replies _ _ served.last served.told in
       record {
-        said = heard.said;
+        asked = heard.asked;
         served = record {
           requests = served.requests;
           replies = served.replies;
@@ -46,18 +47,16 @@ module _ (stays : ToldStaysTold) (board : Identity Entry Head) (es : List Entry)
           told = rw (but_one trail (Met (length es)), trees, ← all_of trail) grown;
           who_is = served.who_is;
         };
-        downs = heard.downs;
-        asks = heard.asks;
-        reached = heard.reached;
+        recorded = heard.recorded;
       }
 
   from_met : (report : ReportView) (link : LinkView) → HasComeFrom link report → HasComeFrom link (met_report board es known report)
   from_met report link from = record { bytes = from.bytes; place = from.place; toward = from.toward; over = from.over; closed = from.closed; faults = from.faults }
 
   -- all sessions of a worker, once their passes were met again
-  works_met : (first : ℕ) (door : DoorView) (panel : PanelView) (reports : List ReportView) (door_now : DoorView) (panel_now : PanelView)
-      → Works h low 0 first door panel reports door_now panel_now → All (λ (report : ReportView). IsMetBy es report.pass) reports
-      → Works h low 1 first door panel (map (met_report board es known) reports) door_now panel_now
+  works_met : (first : ℕ) (door : DoorView) (panel : PanelHistory) (reports : List ReportView) (door_now : DoorView) (panel_now : PanelHistory)
+      → Works h low 0 Failed first door panel reports door_now panel_now → All (λ (report : ReportView). IsMetBy es report.pass) reports
+      → Works h low 1 Failed first door panel (map (met_report board es known) reports) door_now panel_now
   works_met first door panel _ _ _ nobody met = nobody
   works_met first door panel _ _ _ (next {reports} {door_then} {panel_then} report link door_now panel_now works answered from (number, same) heard) met =
       let before = all_left (λ (report : ReportView). IsMetBy es report.pass) reports (report ∷ []) met in
@@ -68,9 +67,9 @@ module _ (stays : ToldStaysTold) (board : Identity Entry Head) (es : List Entry)
       (heard_met report panel_then panel_now last heard))
 
   -- a worker that has stopped, once the passes were met again; that its door has failed may be told of more workers than of it
-  pub worked_met : (is_told may_tell : Bool) (first most : ℕ) (door door_now : DoorView) (panel panel_now : PanelView) (reports : List ReportView)
-      → (is_told ≡ true → may_tell ≡ true) → HasWorked h low 0 is_told first most door door_now panel panel_now reports → All (λ (report : ReportView). IsMetBy es report.pass) reports
-      → HasWorked h low 1 may_tell first most door door_now panel panel_now (map (met_report board es known) reports)
+  pub worked_met : (is_told may_tell : Bool) (first most : ℕ) (door door_now : DoorView) (panel panel_now : PanelHistory) (reports : List ReportView)
+      → (is_told ≡ true → may_tell ≡ true) → HasWorked h low 0 Failed is_told first most door door_now panel panel_now reports → All (λ (report : ReportView). IsMetBy es report.pass) reports
+      → HasWorked h low 1 Failed may_tell first most door door_now panel panel_now (map (met_report board es known) reports)
   worked_met is_told may_tell first most door door_now panel panel_now reports told worked met = record {
     door_then = worked.door_then;
     works = works_met first door panel reports worked.door_then panel_now worked.works met;

@@ -4,10 +4,10 @@ use Rattle.std.proofs.Math.Nat.{mul-le-mul_right, suc-mul}
 use Rattle.std.proofs.lemmas.List.Elements.{All-cons, All-nil}
 use Rattle.std.specs.Prelude.{All, slice_index_or}
 use Rattle.policy_history.specs.declared.events.Entry.{Entry}
+use Rattle.authority_ask.specs.PanelCalls.{PanelHistory}
 use Rattle.policy_history.specs.declared.heads.Head.{Head}
 use Rattle.verdict_words.specs.declared.views.AtomicStep.{AtomicStep}
 use Rattle.verdict_words.specs.Values.{Identity, PassValue}
-use Rattle.nexus_serve.specs.Views.{PanelView}
 use Rattle.nexus_serve.specs.Inner.Desks.{AreLaid, DeskValue, IsLaid}
 use Rattle.nexus_serve.specs.Inner.Serving.{AreDone, AreHired, AreOfBoard}
 use Rattle.policy_book.specs.Books.{BookValue}
@@ -64,8 +64,8 @@ each_hired board first most (w ∷ ws) hired =
     All-cons (λ worker. IsHired board worker.first (length worker.passes) worker) w ws here (each_hired board (first + most) most ws hired.1)
 
 -- the hired are done where each of them is
-pub all_done : {P : Type 0} (panel : P → PanelView) (board : Identity Entry Head) (first most : ℕ) (hired workers : List (WorkerValue P)) → AreHired board first most hired → length workers ≡ length hired
-    → ((i : ℕ) (d : WorkerValue P) → i < length hired → IsDone panel board (slice_index_or hired i d) (slice_index_or workers i d)) → AreDone panel board first most hired workers
+pub all_done : {P : Type 0} (panel : P → PanelHistory) (board : Identity Entry Head) (first most : ℕ) (hired workers : List (WorkerValue P)) → AreHired board first most hired → length workers ≡ length hired
+    → ((i : ℕ) (d : WorkerValue P) → i < length hired → IsDone panel board (slice_index_or workers i d).unrecorded (slice_index_or hired i d) (slice_index_or workers i d)) → AreDone panel board first most hired workers
 all_done panel board first most [] [] are long each = tt
 all_done panel board first most (j ∷ js) (w ∷ ws) are long each =
     (are.0, each 0 j (omega arith), all_done panel board (first + most) most js ws are.1 (cc long) (λ i d below. each (suc i) d (omega (arith, below))))
@@ -73,8 +73,8 @@ all_done panel board first most [] (w ∷ ws) are long each = absurd (cc long)
 all_done panel board first most (j ∷ js) [] are long each = absurd (cc long)
 
 -- all passes of the done are of the board
-pub done_of_board : {P : Type 0} (panel : P → PanelView) (board : Identity Entry Head) (hired workers : List (WorkerValue P)) → length workers ≡ length hired
-    → ((i : ℕ) (d : WorkerValue P) → i < length hired → IsDone panel board (slice_index_or hired i d) (slice_index_or workers i d)) → All (AreOfBoard board) workers
+pub done_of_board : {P : Type 0} (panel : P → PanelHistory) (board : Identity Entry Head) (hired workers : List (WorkerValue P)) → length workers ≡ length hired
+    → ((i : ℕ) (d : WorkerValue P) → i < length hired → IsDone panel board (slice_index_or workers i d).unrecorded (slice_index_or hired i d) (slice_index_or workers i d)) → All (AreOfBoard board) workers
 done_of_board panel board [] [] long each = All-nil (AreOfBoard board)
 done_of_board panel board (j ∷ js) (w ∷ ws) long each =
     let here = each 0 j (omega arith) in

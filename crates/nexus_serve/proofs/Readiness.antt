@@ -6,14 +6,16 @@ use Rattle.std.proofs.lemmas.List.Elements.{All-map, All-weaker}
 use Rattle.std.specs.List.{flat_map}
 use Rattle.std.specs.Prelude.{All, map}
 use Rattle.nx_io.specs.DoorCalls.{DoorCall, DoorOrigin, address_in, listened, no_room_to_share, not_shared, share_of, shared}
-use Rattle.authority_ask.specs.Panels.{IsFresh}
+use Rattle.authority_ask.specs.PanelCalls.{PanelCall, PanelHistory, Placed, place_in, with_call}
+use Rattle.authority_ask.specs.PanelCalls as panels
 use Rattle.policy_history.specs.declared.events.Entry.{Entry}
 use Rattle.policy_history.specs.declared.heads.Head.{Head}
+use Rattle.session_core.specs.Reaching.{reached_at}
 use Rattle.nexus_serve.specs.declared.shares.Unready.{Unready}
 use Rattle.nexus_serve.specs.declared.shares.Unready.TheVariants.{Panel, Door, Memory}
-use Rattle.nexus_serve.specs.Views.{DoorView, LinkView, PanelView}
+use Rattle.nexus_serve.specs.Views.{DoorView, LinkView}
 use Rattle.nexus_serve.specs.Services.{SinkView}
-use Rattle.nexus_serve.specs.Hosting.{HasCalled, HasReached, HostedView, Hosts, IsDoorShare, IsIdle, IsPanelShare, Plan, no_room, not_heard, not_made, ready_calls, unheard, unreached, unready}
+use Rattle.nexus_serve.specs.Hosting.{HasCalled, HasCalledPanel, HostedView, Hosts, IsDoorShare, IsIdle, IsPanelShare, Plan, no_door, not_heard, not_made, panel_calls, ready_calls, unheard, unreached, unready}
 use Rattle.nexus_serve.specs.Inner.Sharing.{IsMade, IsShareOf, ReadiesDoor, SharesDoor, unready_status}
 
 -- ---- Shares of a door
@@ -72,9 +74,40 @@ readies (Err Panel) address count made more is = is
 readies (Err Door) address count made more is = inr (is.0, ap (λ cs. listened address ∷ cs) is.1)
 readies (Err Memory) address count made more is = (is.0, ap (λ cs. listened address ∷ cs) is.1)
 
+-- ---- Shares of a panel
+
+-- what was made of a panel, and then more
+pub called_then : (asked middle now : PanelHistory) (first more : List PanelCall) → HasCalledPanel first asked middle → HasCalledPanel more middle now → HasCalledPanel (first ++ more) asked now
+called_then asked middle now first more is then_is =
+    then_is ∙ ap (λ (p : PanelHistory). record p { calls = p.calls ++ more }) is ∙ ap (λ (calls : List PanelCall). record asked { calls = calls }) (append_assoc asked.calls first more)
+
+-- one share more
+pub panel_shared_more : (asked now later : PanelHistory) (n : ℕ) → HasCalledPanel (replicate n panels.shared) asked now → later ≡ with_call now panels.shared → HasCalledPanel (replicate (n + 1) panels.shared) asked later
+panel_shared_more asked now later n is more =
+    subst (λ (calls : List PanelCall). HasCalledPanel calls asked later) (replicate-append-replicate n 1 panels.shared) (called_then asked now later (replicate n panels.shared) (panels.shared ∷ []) is more)
+
+-- by a call that reaches nothing a panel has the same addresses
+pub same_places : (now later : PanelHistory) (call : PanelCall) → place_in call ≡ [] → later ≡ with_call now call → panels.share_of now ≡ panels.share_of later
+same_places now later call none is =
+    ap (λ (places : List Placed). record { origin = record { depth = now.origin.depth + 1; reached_at = now.origin.reached_at ++ places }; calls = [] })
+    (sym (flat_map-append place_in now.calls (call ∷ []) ∙ ap (λ (places : List Placed). flat_map place_in now.calls ++ (places ++ [])) none ∙ append-nil (flat_map place_in now.calls)))
+    ∙ ap panels.share_of (sym is)
+
+module _ {P : Type 0} (history : P → PanelHistory) where
+  -- so what was a share of it is one still
+  pub shares_stay : (now later : PanelHistory) (call : PanelCall) → place_in call ≡ [] → later ≡ with_call now call → (ps : List P) → All (λ (share : P). IsPanelShare now (history share)) ps
+      → All (λ (share : P). IsPanelShare later (history share)) ps
+  shares_stay now later call none is ps shares =
+      All-weaker (λ (share : P). IsPanelShare now (history share)) (λ (share : P). IsPanelShare later (history share)) (λ share one. one ∙ same_places now later call none is) ps shares
+
+module _ (h : Head) (asked reached now : PanelHistory) (reach : HasCalledPanel (map reached_at h.authorities) asked reached) (n : ℕ) where
+  -- a panel that is ready
+  pub panel_ready : HasCalledPanel (replicate n panels.shared) reached now → HasCalledPanel (panel_calls h n) asked now
+  panel_ready shares = called_then asked reached now (map reached_at h.authorities) (replicate n panels.shared) reach shares
+
 -- ---- What is made ready
 
-module _ {P X : Type 0} (panel : P → PanelView) (links : X → Option (List LinkView)) (origin : X → DoorOrigin) (calls : X → List DoorCall) where
+module _ {P X : Type 0} (panel : P → PanelHistory) (links : X → Option (List LinkView)) (origin : X → DoorOrigin) (calls : X → List DoorCall) where
   abbrev view : X → DoorView
   view x = record { links = links x; origin = origin x; calls = calls x }
 
@@ -83,13 +116,7 @@ module _ {P X : Type 0} (panel : P → PanelView) (links : X → Option (List Li
   doors_viewed door xs shares =
       All-map (IsDoorShare (view door)) view xs (All-weaker (IsShareOf origin calls door) (λ x. IsDoorShare (view door) (view x)) (λ x is. record { origin = is.origin_is; unasked = is.unasked }) xs shares)
 
-  pub panels_viewed : (asked : PanelView) (ps : List P) → All (λ (share : P). IsFresh (panel share).said (panel share).asks (panel share).faults × ((panel share).reached ≡ asked.reached)) ps
-      → All (λ (share : P). IsPanelShare asked (panel share)) ps
-  panels_viewed asked ps shares =
-      All-weaker (λ (share : P). IsFresh (panel share).said (panel share).asks (panel share).faults × ((panel share).reached ≡ asked.reached)) (λ (share : P). IsPanelShare asked (panel share))
-      (λ share is. record { fresh = is.0; reached = is.1 }) ps shares
-
-  module _ (plan : Plan) (h : Head) (d d_now : X) (asked asked_now : PanelView) (xs : List X) (ps : List P) (reached : HasReached h asked asked_now) (panels : length ps ≡ plan.workers)
+  module _ (plan : Plan) (h : Head) (d d_now : X) (asked asked_now : PanelHistory) (xs : List X) (ps : List P) (reached : HasCalledPanel (panel_calls h plan.workers) asked asked_now) (count : length ps ≡ plan.workers)
       (panel_shares : All (λ (share : P). IsPanelShare asked_now (panel share)) ps) (more : List DoorCall) (called : HasCalled more (view d) (view d_now)) where
     abbrev seen : List DoorCall → Type 0
     seen cs = HasCalled cs (view d) (view d_now)
@@ -102,24 +129,25 @@ module _ {P X : Type 0} (panel : P → PanelView) (links : X → Option (List Li
       called = subst (λ n. seen (ready_calls plan.address n)) made.0 (subst seen made.1 called);
       door_count = length-map xs view ∙ made.0;
       door_shares = doors_viewed d_now xs shares;
-      panel_count = panels;
+      panel_count = count;
       panel_shares = panel_shares;
     }
     door_made (Err Panel) made shares = absurd made
-    door_made (Err Door) (inl made) shares = record { reached = reached; failed = not_heard (length-map xs view ∙ made.0) (subst seen made.1 called) }
+    door_made (Err Door) (inl made) shares = record { all_shared = count; reached = reached; failed = not_heard (length-map xs view ∙ made.0) (subst seen made.1 called) }
     door_made (Err Door) (inr made) shares = record {
+      all_shared = count;
       reached = reached;
       failed = not_made (subst (λ n. n < plan.workers) (sym (length-map xs view)) made.0) (subst (λ n. seen (ready_calls plan.address n ++ not_shared ∷ [])) (sym (length-map xs view)) (subst seen made.1 called));
     }
-    door_made (Err Memory) made shares = record {
-      reached = reached;
-      held = no_room (subst (λ n. n < plan.workers) (sym (length-map xs view)) made.0) (subst (λ n. seen (ready_calls plan.address n ++ no_room_to_share ∷ [])) (sym (length-map xs view)) (subst seen made.1 called));
-    }
+    door_made (Err Memory) made shares =
+        no_door (subst (λ n. n < plan.workers) (sym (length-map xs view)) made.0) count
+        (subst (λ n. seen (ready_calls plan.address n ++ no_room_to_share ∷ [])) (sym (length-map xs view)) (subst seen made.1 called))
+        (subst (λ n. HasCalledPanel (panel_calls h n) asked asked_now) (sym count) reached)
 
 -- how a service ends that is not ready
-pub hosts_unready : {P : Type 0} (A : Type 0) (panel : P → PanelView) (plan : Plan) (h : Head) (opening : List Entry) (sink : SinkView) (door : DoorView) (asked : P) (hosted : HostedView P) (ps : List P) (e : Unready)
-    → IsMade {A = A} panel plan h door hosted.door (panel asked) (panel hosted.panel) hosted.served.doors ps (Err e) → hosted.status ≡ unready_status e
+pub hosts_unready : {P : Type 0} (A : Type 0) (panel : P → PanelHistory) (plan : Plan) (h : Head) (opening : List Entry) (sink : SinkView) (door : DoorView) (asked : P) (hosted : HostedView P) (e : Unready)
+    → IsMade {A = A} panel plan h door hosted.door (panel asked) (panel hosted.panel) hosted.served.doors hosted.served.panels (Err e) → hosted.status ≡ unready_status e
     → IsIdle panel sink hosted.door (panel hosted.panel) hosted.served → Hosts panel plan h opening sink door asked hosted
-hosts_unready A panel plan h opening sink door asked hosted ps Panel made is idle = unreached is idle made.door_is made.said made.asks made.faults
-hosts_unready A panel plan h opening sink door asked hosted ps Door made is idle = unheard is idle made.reached made.failed
-hosts_unready A panel plan h opening sink door asked hosted ps Memory made is idle = unready is idle made.reached made.held
+hosts_unready A panel plan h opening sink door asked hosted Panel made is idle = unreached is idle made.door_is made.no_doors made.lost
+hosts_unready A panel plan h opening sink door asked hosted Door made is idle = unheard is idle made.all_shared made.reached made.failed
+hosts_unready A panel plan h opening sink door asked hosted Memory made is idle = unready is idle made

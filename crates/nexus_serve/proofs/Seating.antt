@@ -4,9 +4,10 @@ use Rattle.std.proofs.Math.Nat.{suc-mul}
 use Rattle.std.proofs.lemmas.List.Elements.{All-head, All-tail}
 use Rattle.std.specs.Prelude.{All, slice_index_or}
 use Rattle.policy_history.specs.declared.events.Entry.{Entry}
+use Rattle.authority_ask.specs.PanelCalls.{PanelHistory}
 use Rattle.policy_history.specs.declared.heads.Head.{Head}
 use Rattle.verdict_words.specs.Values.{Identity}
-use Rattle.nexus_serve.specs.Views.{DoorView, PanelView}
+use Rattle.nexus_serve.specs.Views.{DoorView}
 use Rattle.nexus_serve.specs.Inner.Desks.{AreLaid, DeskValue, seated, seated_at}
 use Rattle.nexus_serve.specs.Inner.Gathering.{GatheredValue, IsRoomFor, nothing, wanted}
 use Rattle.nexus_serve.specs.Inner.Serving.{AreHired, doors_of, panels_of}
@@ -19,7 +20,7 @@ module _ {P : Type 0} where
   seated_hired board first most (k ∷ ks) [] panels laid = tt
   seated_hired board first most (k ∷ ks) (d ∷ ds) [] laid = tt
   seated_hired board first most (k ∷ ks) (d ∷ ds) (p ∷ ps) (here, others) =
-      let one : IsHired board first most (seated_at k d p) = record { first_is = here.first_is; numbered = here.numbered; count = here.count; unused = here.unused; room = here.room; reports = refl; failed = refl } in
+      let one : IsHired board first most (seated_at k d p) = record { first_is = here.first_is; numbered = here.numbered; count = here.count; unused = here.unused; room = here.room; reports = refl; failed = refl; has_part = omega arith; recorded = refl } in
       (one, seated_hired board (first + most) most ks ds ps others)
 
   -- where there are as many of each, all have a place
@@ -59,8 +60,8 @@ module _ {P : Type 0} where
       omega (arith, none, count, rest, more)
 
   -- and no more once they are done
-  pub done_wanted : (panel : P → PanelView) (board : Identity Entry Head) (hired workers : List (WorkerValue P)) → All (λ (worker : WorkerValue P). IsHired board worker.first (length worker.passes) worker) hired → length workers ≡ length hired
-      → ((i : ℕ) (d : WorkerValue P) → i < length hired → IsDone panel board (slice_index_or hired i d) (slice_index_or workers i d)) → wanted workers ≡ wanted hired
+  pub done_wanted : (panel : P → PanelHistory) (board : Identity Entry Head) (hired workers : List (WorkerValue P)) → All (λ (worker : WorkerValue P). IsHired board worker.first (length worker.passes) worker) hired → length workers ≡ length hired
+      → ((i : ℕ) (d : WorkerValue P) → i < length hired → IsDone panel board (slice_index_or workers i d).unrecorded (slice_index_or hired i d) (slice_index_or workers i d)) → wanted workers ≡ wanted hired
   done_wanted panel board [] [] are long each = refl
   done_wanted panel board (j ∷ js) (w ∷ ws) are long each =
       let first = All-head (λ (worker : WorkerValue P). IsHired board worker.first (length worker.passes) worker) j js are in
@@ -78,8 +79,8 @@ module _ {P : Type 0} where
       let all = hired_wanted board first most workers hired in
       rw (is) (record { empty = refl; places = omega (arith, count); spare = (let same : length workers * most ≡ n * most = ap (λ k. k * most) count in omega (arith, all, same)) })
 
-  pub room_done : (panel : P → PanelView) (board : Identity Entry Head) (hired workers : List (WorkerValue P)) (room : GatheredValue P) → All (λ (worker : WorkerValue P). IsHired board worker.first (length worker.passes) worker) hired → length workers ≡ length hired
-      → ((i : ℕ) (d : WorkerValue P) → i < length hired → IsDone panel board (slice_index_or hired i d) (slice_index_or workers i d)) → IsRoomFor hired room → IsRoomFor workers room
+  pub room_done : (panel : P → PanelHistory) (board : Identity Entry Head) (hired workers : List (WorkerValue P)) (room : GatheredValue P) → All (λ (worker : WorkerValue P). IsHired board worker.first (length worker.passes) worker) hired → length workers ≡ length hired
+      → ((i : ℕ) (d : WorkerValue P) → i < length hired → IsDone panel board (slice_index_or workers i d).unrecorded (slice_index_or hired i d) (slice_index_or workers i d)) → IsRoomFor hired room → IsRoomFor workers room
   room_done panel board hired workers room are long each is =
       let same = done_wanted panel board hired workers are long each in
       let places = is.places in

@@ -1,6 +1,6 @@
 -- The text of a policy behind the end of a service.
-use Rattle.std.proofs.Common.{◌≡◌, ◌≤◌, ℕ, Bool, true, false, List, ◌++◌, codes, refl, sym, ap, ◌∙◌, subst, arith, append_assoc}
-use Rattle.nx_io.specs.Streams.{Rose, Sends, SendsPart, one_more}
+use Rattle.std.proofs.Common.{◌≡◌, ℕ, Bool, true, false, List, ◌++◌, codes, refl, sym, ap, ◌∙◌, subst, append_assoc}
+use Rattle.nx_io.specs.Streams.{Rose, Sends, SendsPart}
 use Rattle.policy_history.specs.declared.heads.Head.{Head}
 use Rattle.policy_history.specs.Events.{EntryTree}
 use Rattle.policy_history.specs.PolicyTexts.{ended, front, line_of}
@@ -15,13 +15,12 @@ module _ (h : Head) (es : List EntryTree) (start sink sink_now : SinkView) (writ
       line_cut entry unwritten accepted (subst (λ (k : SinkView). SendsPart (start.sent ++ front h es) k.sent (line_of h entry)) (sym same) part) (subst (λ (k : SinkView). Rose start.faults k.faults) (sym same) rose)
 
   -- the last line was sent, or a part of it
-  ended_text : Sends start.sent sink.sent (front h es) → start.faults ≤ sink.faults → (b : Bool) → written ≡ b → IsEnded b sink sink_now → IsTextSent h es written start sink_now
-  ended_text sent later true is all = whole is (all ∙ ap (λ l. l ++ ended (codes "end")) sent ∙ append_assoc start.sent (front h es) (ended (codes "end")))
-  ended_text sent later false is (part, rose) =
-      let first : one_more start.faults ≤ one_more sink.faults = omega (arith, later) in
-      end_cut is (subst (λ (l : List ℕ). SendsPart l sink_now.sent (ended (codes "end"))) sent part) (omega (arith, first, rose))
+  ended_text : Sends start.sent sink.sent (front h es) → sink.faults ≡ start.faults → (b : Bool) → written ≡ b → IsEnded b sink sink_now → IsTextSent h es written start sink_now
+  ended_text sent still true is (all, same) = whole is (all ∙ ap (λ l. l ++ ended (codes "end")) sent ∙ append_assoc start.sent (front h es) (ended (codes "end"))) (same ∙ still)
+  ended_text sent still false is (part, rose) =
+      end_cut is (subst (λ (l : List ℕ). SendsPart l sink_now.sent (ended (codes "end"))) sent part) (subst (λ (n : ℕ). Rose n sink_now.faults) still rose)
 
-  pub text_sent : (is_broken : Bool) → HasText true is_broken h es start.sent sink.sent → (is_broken ≡ true → Rose start.faults sink.faults) → start.faults ≤ sink.faults
+  pub text_sent : (is_broken : Bool) → HasText true is_broken h es start.sent sink.sent → (is_broken ≡ true → Rose start.faults sink.faults) → (is_broken ≡ false → sink.faults ≡ start.faults)
       → (is_broken ≡ true → (sink_now ≡ sink) × (written ≡ false)) → (is_broken ≡ false → IsEnded written sink sink_now) → IsTextSent h es written start sink_now
-  text_sent true text rose later kept ended = broken_text text (rose refl) (kept refl).0 (kept refl).1
-  text_sent false text rose later kept ended = ended_text text later written refl (ended refl)
+  text_sent true text rose still kept ended = broken_text text (rose refl) (kept refl).0 (kept refl).1
+  text_sent false text rose still kept ended = ended_text text (still refl) written refl (ended refl)

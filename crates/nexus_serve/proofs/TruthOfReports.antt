@@ -6,12 +6,13 @@ use Rattle.policy_history.specs.declared.heads.Head.{Head}
 use Rattle.policy_history.specs.declared.events.Entry.{Entry}
 use Rattle.policy_history.specs.Events.{EntryTree}
 use Rattle.policy_history.specs.Values.{History, entry_trees}
+use Rattle.authority_ask.specs.PanelCalls.{PanelHistory}
 use Rattle.authority_ask.specs.Panels.{Told}
 use Rattle.session_core.specs.Earned.{IsTrueReport}
 use Rattle.session_core.specs.Served.{IsServedSo}
 use Rattle.session_core.proofs.ForCallers.{report_is_true}
 use Rattle.nexus_serve.specs.TrueReports.{AreTrue}
-use Rattle.nexus_serve.specs.Views.{DoorView, PanelView, ReportView, reported}
+use Rattle.nexus_serve.specs.Views.{DoorView, ReportView, reported}
 use Rattle.nexus_serve.specs.Workers.{HaveWorked, Works, nobody, next}
 use Rattle.nexus_serve.specs.Services.{HasSeenAll, IsJournal, ServedView, Serves, SinkView}
 use Rattle.nexus_serve.specs.Services as service
@@ -23,19 +24,19 @@ module _ (h : Head) (low later : ℕ) where
   abbrev IsServedReport : ReportView → Type 0
   IsServedReport report = (asks : List Told) × IsServedSo h low (reported report) asks later
 
-  works_served : {first : ℕ} {door : DoorView} {panel : PanelView} {reports : List ReportView} {door_now : DoorView} {panel_now : PanelView} → Works h low later first door panel reports door_now panel_now
+  works_served : {Failed : Type 0} {first : ℕ} {door : DoorView} {panel : PanelHistory} {reports : List ReportView} {door_now : DoorView} {panel_now : PanelHistory} → Works h low later Failed first door panel reports door_now panel_now
       → All IsServedReport reports
   works_served nobody = All-nil IsServedReport
   works_served (next {reports = before} report link door_now panel_now works answered came numbered heard) =
       let mine : IsServedReport report = (_, heard.served) in
       All-append IsServedReport before (report ∷ []) (works_served works) (All-cons IsServedReport report [] mine (All-nil IsServedReport))
 
-  have_served : (is_told : Bool) (first most : ℕ) (doors doors_now : List DoorView) (panels panels_now : List PanelView) (reports : List ReportView)
-      → HaveWorked h low later is_told first most doors doors_now panels panels_now reports → All IsServedReport reports
-  have_served is_told first most [] [] [] [] reports none = subst (All IsServedReport) (sym none) (All-nil IsServedReport)
-  have_served is_told first most (d ∷ ds) (e ∷ es) (p ∷ ps) (q ∷ qs) reports w =
-      subst (All IsServedReport) (sym w.2) (All-append IsServedReport w.0 w.1 (works_served w.3.works) (have_served is_told (first + most) most ds es ps qs w.1 w.4))
-  have_served is_told first most _ _ _ _ reports w = absurd w
+  have_served : (Failed : Type 0) (is_told : Bool) (first most : ℕ) (doors doors_now : List DoorView) (panels panels_now : List PanelHistory) (reports : List ReportView)
+      → HaveWorked h low later Failed is_told first most doors doors_now panels panels_now reports → All IsServedReport reports
+  have_served Failed is_told first most [] [] [] [] reports none = subst (All IsServedReport) (sym none) (All-nil IsServedReport)
+  have_served Failed is_told first most (d ∷ ds) (e ∷ es) (p ∷ ps) (q ∷ qs) reports w =
+      subst (All IsServedReport) (sym w.2) (All-append IsServedReport w.0 w.1 (works_served w.3.works) (have_served Failed is_told (first + most) most ds es ps qs w.1 w.4))
+  have_served Failed is_told first most _ _ _ _ reports w = absurd w
 
 -- the report is true of a journal with these entries
 abbrev IsTrueOf : Head → List EntryTree → ℕ → ReportView → Type 0
@@ -62,11 +63,11 @@ pub none_true : (h : Head) (es : List EntryTree) (low : ℕ) (reports : List Rep
 none_true h es low reports none = subst (AreTrue h es low) (sym none) (All-nil (IsTrueOf h es low))
 
 -- what is handed back of a service, over the journal that is handed back
-pub serves_true : {P : Type 0} {panel : P → PanelView} {sessions : ℕ} {h : Head} {opening : List Entry} {sink : SinkView} {doors : List DoorView} {panels : List P} {served : ServedView P} (es : List Entry)
+pub serves_true : {P : Type 0} {panel : P → PanelHistory} {sessions : ℕ} {h : Head} {opening : List Entry} {sink : SinkView} {doors : List DoorView} {panels : List P} {served : ServedView P} (es : List Entry)
     → Serves panel sessions h opening sink doors panels served → IsJournal served.journal h es → AreTrue h (entry_trees es) (length opening) served.reports
 serves_true {h = h} {opening = opening} {served = served} es (service.done es2 sink_now journal sink_is is_served text) is =
     let same = same_entries served.journal h es es2 is journal in
-    let all = have_served h (length opening) 1 _ _ _ _ _ _ _ served.reports is_served.worked in
+    let all = have_served h (length opening) 1 _ _ _ _ _ _ _ _ served.reports is_served.worked in
     subst (λ (xs : List Entry). AreTrue h (entry_trees xs) (length opening) served.reports) same (all_true h es2 (length opening) 1 served.reports all is_served.seen)
 serves_true {h = h} {opening = opening} es (service.unopened sink_now journal sink_is sends rose none doors_are panels_are written ends) is = none_true h (entry_trees es) (length opening) _ none
 serves_true {h = h} {opening = opening} es (service.no_memory journal sink_is none doors_are panels_are written ends) is = none_true h (entry_trees es) (length opening) _ none
@@ -77,7 +78,7 @@ same_head None h h2 es es2 is is2 = absurd is
 same_head (Some journal) h h2 es es2 is is2 = sym is2.0 ∙ is.0
 
 -- the same, by the head and the entries of the journal that is handed back
-handed_true : {P : Type 0} {panel : P → PanelView} {sessions : ℕ} {h : Head} {opening : List Entry} {sink : SinkView} {doors : List DoorView} {panels : List P} {served : ServedView P} (h2 : Head) (es : List Entry)
+handed_true : {P : Type 0} {panel : P → PanelHistory} {sessions : ℕ} {h : Head} {opening : List Entry} {sink : SinkView} {doors : List DoorView} {panels : List P} {served : ServedView P} (h2 : Head) (es : List Entry)
     → Serves panel sessions h opening sink doors panels served → IsJournal served.journal h2 es → AreTrue h2 (entry_trees es) (length opening) served.reports
 handed_true {h = h} {opening = opening} {served = served} h2 es (service.done es2 sink_now journal sink_is is_served text) is =
     let same = same_head served.journal h2 h es es2 is journal in
@@ -87,9 +88,9 @@ handed_true {opening = opening} h2 es (service.unopened sink_now journal sink_is
 handed_true {opening = opening} h2 es (service.no_memory journal sink_is none doors_are panels_are written ends) is = none_true h2 (entry_trees es) (length opening) _ none
 
 -- what a service at an address hands back
-pub hosts_true : {P : Type 0} {panel : P → PanelView} {plan : Plan} {h : Head} {opening : List Entry} {sink : SinkView} {door : DoorView} {asked : P} {hosted : HostedView P} (h2 : Head) (es : List Entry)
+pub hosts_true : {P : Type 0} {panel : P → PanelHistory} {plan : Plan} {h : Head} {opening : List Entry} {sink : SinkView} {door : DoorView} {asked : P} {hosted : HostedView P} (h2 : Head) (es : List Entry)
     → Hosts panel plan h opening sink door asked hosted → IsJournal hosted.served.journal h2 es → AreTrue h2 (entry_trees es) (length opening) hosted.served.reports
 hosts_true h2 es (host.served doors panels ready serves status) is = handed_true h2 es serves is
-hosts_true {opening = opening} h2 es (host.unreached status idle door_is said asks rose) is = none_true h2 (entry_trees es) (length opening) _ idle.reports
-hosts_true {opening = opening} h2 es (host.unheard status idle reached failed) is = none_true h2 (entry_trees es) (length opening) _ idle.reports
-hosts_true {opening = opening} h2 es (host.unready status idle reached held) is = none_true h2 (entry_trees es) (length opening) _ idle.reports
+hosts_true {opening = opening} h2 es (host.unreached status idle door_is none lost) is = none_true h2 (entry_trees es) (length opening) _ idle.reports
+hosts_true {opening = opening} h2 es (host.unheard status idle all_shared reached failed) is = none_true h2 (entry_trees es) (length opening) _ idle.reports
+hosts_true {opening = opening} h2 es (host.unready status idle held) is = none_true h2 (entry_trees es) (length opening) _ idle.reports

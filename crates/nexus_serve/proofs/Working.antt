@@ -1,28 +1,47 @@
 -- A worker on its way: one session more, and how it stops.
 use Rattle.std.proofs.Common.{◌≡◌, ◌<◌, ◌≤◌, ◌+◌, ℕ, Bool, true, List, [], ◌∷◌, length, refl, sym, ap, ◌∙◌, subst, arith, length-append}
-use Rattle.std.proofs.lemmas.List.Elements.{All-append, All-cons, All-tail, All-nil}
+use Rattle.std.proofs.lemmas.List.Elements.{All-append, All-cons, All-tail, All-nil, All-weaker}
 use Rattle.std.specs.Prelude.{All}
+use Rattle.authority_ask.specs.PanelCalls.{PanelHistory}
 use Rattle.nx_io.specs.Streams.{Rose, one_more}
 use Rattle.nx_io.specs.DoorCalls.{faults_in, gave, not_given}
 use Rattle.nx_io.proofs.DoorCalls.{faults_more}
 use Rattle.nx_io.specs.declared.doors.Next.TheVariants.{Link as NextLink, NoMore as NextNoMore, Failed as NextFailed}
 use Rattle.policy_history.specs.declared.events.Entry.{Entry}
 use Rattle.policy_history.specs.declared.heads.Head.{Head}
+use Rattle.session_core.specs.Served.{IsUnrecorded}
+use Rattle.session_wire.specs.declared.replies.Reply.{Reply}
 use Rattle.verdict_words.specs.Values.{Identity}
-use Rattle.nexus_serve.specs.Views.{DoorView, LinkView, PanelView, ReportView}
-use Rattle.nexus_serve.specs.Workers.{HasAnswered, Stops, Works, next, nobody, all, no_more, failed}
-use Rattle.nexus_serve.specs.Inner.Working.{AreNumbered, HasServedOne, IsDone, IsHired, IsUnused, IsWorking, WorkerValue}
+use Rattle.nexus_serve.specs.Views.{DoorView, LinkView, ReportView}
+use Rattle.nexus_serve.specs.Workers.{HasAnswered, IsHeard, Stops, Works, next, nobody, all, no_more, failed}
+use Rattle.nexus_serve.specs.Inner.Working.{AreNumbered, HasServedOne, IsDone, IsHired, IsStopped, IsUnused, IsWorking, WorkerValue}
+
+-- what follows from a fault of a text, a session that was told not to be recorded tells too
+pub heard_weaker : {h : Head} {low later : ℕ} {Failed Other : Type 0} {report : ReportView} {panel panel_now : PanelHistory} → (Failed → Other) → IsHeard h low later Failed report panel panel_now → IsHeard h low later Other report panel panel_now
+heard_weaker {Failed = Failed} {Other = Other} follows heard = record {
+  asked = heard.asked;
+  served = heard.served;
+  recorded = All-weaker (λ (reply : Reply). IsUnrecorded reply → Failed) (λ (reply : Reply). IsUnrecorded reply → Other) (λ reply only told. follows (only told)) heard.served.replies heard.recorded;
+}
+
+-- and so do all sessions of a worker
+pub works_weaker : {h : Head} {low later first : ℕ} {Failed Other : Type 0} {door : DoorView} {panel : PanelHistory} {reports : List ReportView} {door_now : DoorView} {panel_now : PanelHistory}
+    → (Failed → Other) → Works h low later Failed first door panel reports door_now panel_now → Works h low later Other first door panel reports door_now panel_now
+works_weaker follows nobody = nobody
+works_weaker follows (next report link door_now panel_now works answered from numbered heard) =
+    next report link door_now panel_now (works_weaker follows works) answered from numbered (heard_weaker follows heard)
 
 -- a door that gives links does not fail
-works_faults : {h : Head} {low later first : ℕ} {door : DoorView} {panel : PanelView} {reports : List ReportView} {door_now : DoorView} {panel_now : PanelView}
-    → Works h low later first door panel reports door_now panel_now → faults_in door_now.calls ≡ faults_in door.calls
+works_faults : {h : Head} {low later first : ℕ} {Failed : Type 0} {door : DoorView} {panel : PanelHistory} {reports : List ReportView} {door_now : DoorView} {panel_now : PanelHistory}
+    → Works h low later Failed first door panel reports door_now panel_now → faults_in door_now.calls ≡ faults_in door.calls
 works_faults nobody = refl
 works_faults (next {door_then = door_then} report link door_now panel_now works answered from numbered heard) = ap faults_in answered.calls ∙ faults_more door_then.calls gave ∙ works_faults works
 
-module _ {P : Type 0} (panel : P → PanelView) (board : Identity Entry Head) (start : WorkerValue P) where
-  -- a worker that has not begun
-  pub working_first : IsHired board start.first (length start.passes) start → IsWorking panel board start start
-  working_first hired = record {
+module _ {P : Type 0} (panel : P → PanelHistory) (board : Identity Entry Head) (start : WorkerValue P) where
+  -- a worker that has not begun, whatever it holds of the ledger
+  pub working_first : (count parts unrecorded : ℕ) → IsHired board start.first (length start.passes) start
+      → IsWorking panel board count (record start { parts = parts; unrecorded = unrecorded }) (record start { parts = parts; unrecorded = unrecorded })
+  working_first count parts unrecorded hired = record {
     works = rw (hired.reports) nobody;
     first_is = refl;
     numbered = subst (λ n. AreNumbered n start.passes) (let none = ap length hired.reports in let same : start.first ≡ start.first + length start.reports = omega (arith, none) in same) hired.numbered;
@@ -31,13 +50,26 @@ module _ {P : Type 0} (panel : P → PanelView) (board : Identity Entry Head) (s
     used = rw (hired.reports) (All-nil _);
     room = hired.room;
     failed = hired.failed;
+    parts = refl;
+    unrecorded = refl;
   }
 
-  module _ (before : WorkerValue P) (w : IsWorking panel board start before) where
+  -- a worker that has stopped, and worked with a part of its share cut off, once its share counts what its sessions were told
+  pub done_counted : (count : ℕ) (cut stopped now : WorkerValue P) → IsStopped panel board count cut stopped → cut ≡ record start { parts = cut.parts; unrecorded = cut.unrecorded } → cut.unrecorded ≡ 0
+      → now ≡ record stopped { parts = now.parts; unrecorded = now.unrecorded } → now.unrecorded ≡ stopped.unrecorded + count → IsDone panel board now.unrecorded start now
+  done_counted count cut stopped now is cut_is none now_is whole =
+      let kept = is.unrecorded in
+      let same : count ≡ now.unrecorded = omega (arith, kept, none, whole) in
+      let done = subst (λ (w : WorkerValue P). IsDone panel board count w stopped) cut_is is.done in
+      let here : IsDone panel board count start (record stopped { parts = now.parts; unrecorded = now.unrecorded }) =
+      record { fault = done.fault; worked = done.worked; numbered = done.numbered; count = done.count; unused = done.unused; used = done.used } in
+      subst (λ (n : ℕ). IsDone panel board n start now) same (subst (IsDone panel board count start) (sym now_is) here)
+
+  module _ (told : ℕ) (before : WorkerValue P) (w : IsWorking panel board told start before) where
     -- one session more
-    pub working_on : (door : DoorView) (link : LinkView) (now : WorkerValue P) → HasAnswered (NextLink link) before.door door
-        → HasServedOne panel board link (record before { door = door }) now → IsWorking panel board start now
-    working_on door link now answered one =
+    pub working_on : (told_now : ℕ) (door : DoorView) (link : LinkView) (now : WorkerValue P) → HasAnswered (NextLink link) before.door door
+        → HasServedOne panel board told told_now link (record before { door = door }) now → IsWorking panel board told_now start now
+    working_on told_now door link now answered one =
         let numbered : AreNumbered (start.first + length before.reports) (one.pass ∷ now.passes) = subst (AreNumbered (start.first + length before.reports)) one.used w.numbered in
         let more : length now.reports ≡ length before.reports + 1 = ap length one.reports ∙ length-append before.reports (one.report ∷ []) in
         let shorter = ap length one.used in
@@ -46,9 +78,10 @@ module _ {P : Type 0} (panel : P → PanelView) (board : Identity Entry Head) (s
         let spare = one.room in
         let room = w.room in
         let unused : All (IsUnused board) (one.pass ∷ now.passes) = subst (All (IsUnused board)) one.used w.unused in
+        let still : 0 < told → 0 < told_now = (let later = one.later in λ some. omega (arith, some, later)) in
         let place : start.first + length before.reports + 1 ≡ start.first + length now.reports = omega (arith, more) in
         record {
-          works = rw (one.reports, one.door) (next one.report link door (panel now.panel) w.works answered one.from (one.session ∙ numbered.0, one.pass_session) one.heard);
+          works = rw (one.reports, one.door) (next one.report link door (panel now.panel) (works_weaker still w.works) answered one.from (one.session ∙ numbered.0, one.pass_session) one.heard);
           first_is = one.first ∙ w.first_is;
           numbered = subst (λ n. AreNumbered n now.passes) place numbered.1;
           count = omega (arith, count, more, less);
@@ -56,17 +89,23 @@ module _ {P : Type 0} (panel : P → PanelView) (board : Identity Entry Head) (s
           used = rw (one.reports) (All-append (λ (report : ReportView). report.pass.board ≡ board) before.reports (one.report ∷ []) w.used (All-cons (λ (report : ReportView). report.pass.board ≡ board) one.report [] one.board_is (All-nil (λ (report : ReportView). report.pass.board ≡ board))));
           room = omega (arith, spare, room, less);
           failed = one.failed ∙ w.failed;
+          parts = one.parts ∙ w.parts;
+          unrecorded = one.unrecorded ∙ w.unrecorded;
         }
 
     done_so : (door : DoorView) (is_told : Bool) → Stops is_told (length start.passes) (length before.reports) before.door door → (is_told ≡ true → Rose (faults_in start.door.calls) (faults_in door.calls))
-        → IsDone panel board start (record before { door = door; has_failed = is_told })
+        → IsStopped panel board told start (record before { door = door; has_failed = is_told })
     done_so door is_told stops fault = record {
-      fault = fault;
-      worked = record { door_then = before.door; works = w.works; stops = stops };
-      numbered = w.numbered;
-      count = w.count;
-      unused = w.unused;
-      used = w.used;
+      done = record {
+        fault = fault;
+        worked = record { door_then = before.door; works = w.works; stops = stops };
+        numbered = w.numbered;
+        count = w.count;
+        unused = w.unused;
+        used = w.used;
+      };
+      parts = w.parts;
+      unrecorded = w.unrecorded;
     }
 
     -- its door has not failed so far
@@ -77,18 +116,18 @@ module _ {P : Type 0} (panel : P → PanelView) (board : Identity Entry Head) (s
     fewer some = let count = w.count in omega (arith, some, count)
 
     -- the door gives no more
-    pub done_no_more : (door : DoorView) → 0 < length before.passes → HasAnswered NextNoMore before.door door → IsDone panel board start (record before { door = door })
+    pub done_no_more : (door : DoorView) → 0 < length before.passes → HasAnswered NextNoMore before.door door → IsStopped panel board told start (record before { door = door })
     done_no_more door some answered = done_so door before.has_failed (no_more (fewer some) answered) unfailed
 
     -- the door has failed
-    pub done_failed : (door : DoorView) → 0 < length before.passes → HasAnswered NextFailed before.door door → IsDone panel board start (record before { door = door; has_failed = true })
+    pub done_failed : (door : DoorView) → 0 < length before.passes → HasAnswered NextFailed before.door door → IsStopped panel board told start (record before { door = door; has_failed = true })
     done_failed door some answered =
         let risen = ap faults_in answered.calls ∙ faults_more before.door.calls not_given in
         done_so door true (failed (fewer some) answered refl)
         (λ _. subst (λ n. Rose n (faults_in door.calls)) (works_faults w.works) (subst (λ n. one_more (faults_in before.door.calls) ≤ n) (sym risen) (omega arith)))
 
     -- all passes are used
-    pub done_all : before.passes ≡ [] → IsDone panel board start before
+    pub done_all : before.passes ≡ [] → IsStopped panel board told start before
     done_all none =
         let count = w.count in
         let gone : length before.passes ≡ 0 = ap length none in

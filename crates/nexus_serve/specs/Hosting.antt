@@ -1,14 +1,15 @@
 -- A service at an address: what was made ready for it, and how it ended.
-use Rattle.std.specs.Prelude.{◌≡◌, ◌<◌, ℕ, List, [], ◌∷◌, ◌++◌, length, replicate, All, Bool, true, false, Some, None}
-use Rattle.nx_io.specs.Streams.{Rose}
+use Rattle.std.specs.Prelude.{◌≡◌, ◌<◌, ℕ, List, [], ◌∷◌, ◌++◌, length, map, replicate, All, Bool, true, false, Some, None}
 use Rattle.nx_io.specs.DoorCalls.{DoorCall, listened, no_room_to_share, not_listened, not_shared, share_of, shared}
-use Rattle.authority_ask.specs.Panels.{IsFresh}
+use Rattle.nx_io.specs.declared.streams.Reach.TheVariants.{Failed}
+use Rattle.authority_ask.specs.PanelCalls.{PanelCall, PanelHistory}
+use Rattle.authority_ask.specs.PanelCalls as panels
 use Rattle.policy_history.specs.declared.events.Entry.{Entry}
 use Rattle.policy_history.specs.declared.heads.Head.{Head}
-use Rattle.session_core.specs.Reaching.{reached_all}
+use Rattle.session_core.specs.Reaching.{HaveReached, reached_at}
 use Rattle.nexus_serve.specs.declared.service.ServeEnd.{ServeEnd}
 use Rattle.nexus_serve.specs.declared.service.ServeEnd.TheVariants.{Done, DoorFault, Memory}
-use Rattle.nexus_serve.specs.Views.{DoorView, PanelView}
+use Rattle.nexus_serve.specs.Views.{DoorView}
 use Rattle.nexus_serve.specs.Services.{ServedView, Serves, SinkView}
 
 -- what is handed back behind a service at an address: the status, the door and the panel of which workers had shares, and what the service left
@@ -29,17 +30,22 @@ pub record IsDoorShare (door share : DoorView) : Type 0 where
   pub origin : share.origin ≡ share_of door.origin door.calls
   pub unasked : share.calls ≡ []
 
--- a panel of the same addresses, which was asked nothing and has not failed
-pub record IsPanelShare (panel share : PanelView) : Type 0 where
-  pub fresh : IsFresh share.said share.asks share.faults
-  pub reached : share.reached ≡ panel.reached
+-- A share of a panel, and no share of a share: it has the addresses that the panel has reached, and was asked nothing yet
+abbrev pub IsPanelShare : PanelHistory → PanelHistory → Type 0
+IsPanelShare panel share = share ≡ panels.share_of panel
 
--- each authority of the head was reached, and nobody was asked
-pub record HasReached (h : Head) (panel panel_now : PanelView) : Type 0 where
-  pub reached : panel_now.reached ≡ reached_all h.authorities panel.reached
-  pub said : panel_now.said ≡ panel.said
-  pub asks : panel_now.asks ≡ panel.asks
-  pub faults : panel_now.faults ≡ panel.faults
+-- these calls were made of the panel, and nothing else
+abbrev pub HasCalledPanel : List PanelCall → PanelHistory → PanelHistory → Type 0
+HasCalledPanel calls panel panel_now = panel_now ≡ record panel { calls = panel.calls ++ calls }
+
+-- the calls by which each authority of a head is reached, in their order, and then so many shares of the panel are made
+abbrev pub panel_calls : Head → ℕ → List PanelCall
+panel_calls h shares = map reached_at h.authorities ++ replicate shares panels.shared
+
+-- so many shares of the panel were made, and then it failed: an authority could not be reached, or the panel not be shared once more
+pub data HasFailedPanel (h : Head) (workers shares : ℕ) (panel panel_now : PanelHistory) : Type 0 where
+  not_reached : shares ≡ 0 → HaveReached Failed h.authorities panel panel_now → HasFailedPanel h workers shares panel panel_now
+  unshared : shares < workers → HasCalledPanel (panel_calls h shares ++ panels.not_shared ∷ []) panel panel_now → HasFailedPanel h workers shares panel panel_now
 
 -- these calls were made of the door, and nothing else
 abbrev pub HasCalled : List DoorCall → DoorView → DoorView → Type 0
@@ -54,10 +60,14 @@ pub data HasFailed (address : List ℕ) (workers shares : ℕ) (door door_now : 
   not_heard : shares ≡ 0 → HasCalled (not_listened address ∷ []) door door_now → HasFailed address workers shares door door_now
   not_made : shares < workers → HasCalled (ready_calls address shares ++ not_shared ∷ []) door door_now → HasFailed address workers shares door door_now
 
--- so many shares were made, and then there was no memory: nothing was asked of the door, or one share more
-pub data IsHeld (address : List ℕ) (workers shares : ℕ) (door door_now : DoorView) : Type 0 where
-  not_asked : shares ≡ 0 → door_now ≡ door → IsHeld address workers shares door door_now
-  no_room : shares < workers → HasCalled (ready_calls address shares ++ no_room_to_share ∷ []) door door_now → IsHeld address workers shares door door_now
+-- So many shares of the door and of the panel were made, and then there was no memory: for the lists of shares, so that none was made; for one
+-- share more of the panel, so that nothing was asked of the door; or for one share more of the door
+pub data IsHeld (plan : Plan) (h : Head) (doors shares : ℕ) (door door_now : DoorView) (panel panel_now : PanelHistory) : Type 0 where
+  no_lists : doors ≡ 0 → shares ≡ 0 → door_now ≡ door → HasCalledPanel (panel_calls h 0) panel panel_now → IsHeld plan h doors shares door door_now panel panel_now
+  no_panel : doors ≡ 0 → shares < plan.workers → door_now ≡ door → HasCalledPanel (panel_calls h shares ++ panels.no_room_to_share ∷ []) panel panel_now
+      → IsHeld plan h doors shares door door_now panel panel_now
+  no_door : doors < plan.workers → shares ≡ plan.workers → HasCalled (ready_calls plan.address doors ++ no_room_to_share ∷ []) door door_now
+      → HasCalledPanel (panel_calls h shares) panel panel_now → IsHeld plan h doors shares door door_now panel panel_now
 
 -- the status with which a service ends: 5 where its text was not written whole, then 7 where a door has failed, and else 0; but 6 where there was no memory
 abbrev pub status_of : Bool → ServeEnd → ℕ
@@ -68,7 +78,7 @@ status_of true DoorFault = 7
 status_of true Done = 0
 
 -- Nobody was served, and nothing was written: the shares that were made are handed back, and nothing was asked of them
-pub record IsIdle {P : Type 0} (panel : P → PanelView) (sink : SinkView) (door_now : DoorView) (asked_now : PanelView) (served : ServedView P) : Type 0 where
+pub record IsIdle {P : Type 0} (panel : P → PanelHistory) (sink : SinkView) (door_now : DoorView) (asked_now : PanelHistory) (served : ServedView P) : Type 0 where
   pub journal : served.journal ≡ None
   pub sink_is : served.sink ≡ Some sink
   pub reports : served.reports ≡ []
@@ -76,24 +86,26 @@ pub record IsIdle {P : Type 0} (panel : P → PanelView) (sink : SinkView) (door
   pub panel_shares : All (λ (share : P). IsPanelShare asked_now (panel share)) served.panels
 
 -- Everything is ready for a service: the authorities were reached, the door listens, and each worker has a share of both
-pub record AreReady {P : Type 0} (panel : P → PanelView) (plan : Plan) (h : Head) (door door_now : DoorView) (asked asked_now : PanelView) (doors : List DoorView) (panels : List P) : Type 0 where
-  pub reached : HasReached h asked asked_now
+pub record AreReady {P : Type 0} (panel : P → PanelHistory) (plan : Plan) (h : Head) (door door_now : DoorView) (asked asked_now : PanelHistory) (doors : List DoorView) (shares : List P) : Type 0 where
+  pub reached : HasCalledPanel (panel_calls h plan.workers) asked asked_now
   pub called : HasCalled (ready_calls plan.address plan.workers) door door_now
   pub door_count : length doors ≡ plan.workers
   pub door_shares : All (IsDoorShare door_now) doors
-  pub panel_count : length panels ≡ plan.workers
-  pub panel_shares : All (λ (share : P). IsPanelShare asked_now (panel share)) panels
+  pub panel_count : length shares ≡ plan.workers
+  pub panel_shares : All (λ (share : P). IsPanelShare asked_now (panel share)) shares
 
 -- `Hosts panel plan h opening sink door asked hosted`: a service by this plan, over the journal with this head and these entries, ends so. It was
 -- served; or an authority could not be reached, or the panel not shared; or the door could not listen, or not be shared; or there was no
 -- memory to make it ready. Nothing was written then.
-pub data Hosts {P : Type 0} (panel : P → PanelView) (plan : Plan) (h : Head) (opening : List Entry) (sink : SinkView) (door : DoorView) (asked : P) (hosted : HostedView P) : Type 0 where
-  served : (doors : List DoorView) (panels : List P) → AreReady panel plan h door hosted.door (panel asked) (panel hosted.panel) doors panels
-      → Serves panel plan.sessions h opening sink doors panels hosted.served → hosted.status ≡ status_of hosted.served.written hosted.served.end
+pub data Hosts {P : Type 0} (panel : P → PanelHistory) (plan : Plan) (h : Head) (opening : List Entry) (sink : SinkView) (door : DoorView) (asked : P) (hosted : HostedView P) : Type 0 where
+  served : (doors : List DoorView) (shares : List P) → AreReady panel plan h door hosted.door (panel asked) (panel hosted.panel) doors shares
+      → Serves panel plan.sessions h opening sink doors shares hosted.served → hosted.status ≡ status_of hosted.served.written hosted.served.end
       → Hosts panel plan h opening sink door asked hosted
-  unreached : hosted.status ≡ 8 → IsIdle panel sink hosted.door (panel hosted.panel) hosted.served → hosted.door ≡ door → (panel hosted.panel).said ≡ (panel asked).said → (panel hosted.panel).asks ≡ (panel asked).asks
-      → Rose (panel asked).faults (panel hosted.panel).faults → Hosts panel plan h opening sink door asked hosted
-  unheard : hosted.status ≡ 7 → IsIdle panel sink hosted.door (panel hosted.panel) hosted.served → HasReached h (panel asked) (panel hosted.panel) → HasFailed plan.address plan.workers (length hosted.served.doors) door hosted.door
+  unreached : hosted.status ≡ 8 → IsIdle panel sink hosted.door (panel hosted.panel) hosted.served → hosted.door ≡ door → hosted.served.doors ≡ []
+      → HasFailedPanel h plan.workers (length hosted.served.panels) (panel asked) (panel hosted.panel) → Hosts panel plan h opening sink door asked hosted
+  unheard : hosted.status ≡ 7 → IsIdle panel sink hosted.door (panel hosted.panel) hosted.served → length hosted.served.panels ≡ plan.workers
+      → HasCalledPanel (panel_calls h plan.workers) (panel asked) (panel hosted.panel) → HasFailed plan.address plan.workers (length hosted.served.doors) door hosted.door
       → Hosts panel plan h opening sink door asked hosted
-  unready : hosted.status ≡ 6 → IsIdle panel sink hosted.door (panel hosted.panel) hosted.served → HasReached h (panel asked) (panel hosted.panel) → IsHeld plan.address plan.workers (length hosted.served.doors) door hosted.door
+  unready : hosted.status ≡ 6 → IsIdle panel sink hosted.door (panel hosted.panel) hosted.served
+      → IsHeld plan h (length hosted.served.doors) (length hosted.served.panels) door hosted.door (panel asked) (panel hosted.panel)
       → Hosts panel plan h opening sink door asked hosted

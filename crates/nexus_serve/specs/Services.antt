@@ -1,5 +1,6 @@
 -- What a service leaves: its journal, the reports of its sessions, and the text that it wrote.
 use Rattle.std.specs.Prelude.{◌≡◌, ◌+◌, ◌⊎◌, ℕ, List, [], ◌∷◌, ◌++◌, length, map, take, drop, All, Contains, Bool, true, false, Option, Some, None, codes}
+use Rattle.authority_ask.specs.PanelCalls.{PanelHistory}
 use Rattle.nx_io.specs.Streams.{Rose, Sends, SendsPart}
 use Rattle.policy_history.specs.declared.events.Entry.{Entry}
 use Rattle.policy_history.specs.declared.heads.Head.{Head}
@@ -17,7 +18,7 @@ use Rattle.verdict_words.specs.declared.views.Item.TheVariants.{Met}
 use Rattle.policy_book.specs.Books.{session_of}
 use Rattle.nexus_serve.specs.declared.service.ServeEnd.{ServeEnd}
 use Rattle.nexus_serve.specs.declared.service.ServeEnd.TheVariants.{Done, DoorFault, Memory}
-use Rattle.nexus_serve.specs.Views.{DoorView, PanelView, ReportView}
+use Rattle.nexus_serve.specs.Views.{DoorView, ReportView}
 use Rattle.nexus_serve.specs.Workers.{HaveWorked, SomeFailed}
 
 -- what a sink tells
@@ -71,30 +72,31 @@ pub record HaveOneOrder (opening es : List Entry) (reports : List ReportView) : 
   pub within : All (λ (step : AtomicStep). (step.session ≡ 0) ⊎ Contains (sessions_of reports) step.session) order
 
 -- What workers leave behind: the journal is legal and begins with the entries that were there; the workers have worked, in sessions that are
--- numbered behind the greatest session before; each further entry was made in one of these; and each session was told over the one journal.
-pub record IsServed (h : Head) (opening es : List Entry) (sessions : ℕ) (doors doors_now : List DoorView) (panels panels_now : List PanelView) (reports : List ReportView) (end : ServeEnd) : Type 0 where
+-- numbered behind the greatest session before; each further entry was made in one of these; and each session was told over the one journal, and that
+-- a change was not recorded only where `Failed` holds.
+pub record IsServed (h : Head) (opening es : List Entry) (Failed : Type 0) (sessions : ℕ) (doors doors_now : List DoorView) (panels panels_now : List PanelHistory) (reports : List ReportView) (end : ServeEnd) : Type 0 where
   pub legal : IsLegal h (entry_trees es)
   pub begins : IsPrefix opening es
-  pub worked : HaveWorked h (length opening) 1 (is_fault end) (greatest_of (entry_trees opening) + 1) sessions doors doors_now panels panels_now reports
+  pub worked : HaveWorked h (length opening) 1 Failed (is_fault end) (greatest_of (entry_trees opening) + 1) sessions doors doors_now panels panels_now reports
   pub ends : (end ≡ Done) ⊎ ((end ≡ DoorFault) × SomeFailed doors doors_now)
   pub seen : All (HasSeenAll es) reports
   pub made : All (λ (entry : Entry). Contains (sessions_of reports) entry.session) (drop (length opening) es)
   pub order : HaveOneOrder opening es reports
 
--- What a sink was sent of the policy text: all of it; or all but for its last line, and a proper part of one more entry's line or of the last
+-- What a sink was sent of the policy text: all of it, where no write of it failed; or all but for its last line, and a proper part of one more entry's line or of the last
 -- line, since the sink failed
 pub data IsTextSent (h : Head) (es : List EntryTree) (written : Bool) (sink sink_now : SinkView) : Type 0 where
-  whole : written ≡ true → Sends sink.sent sink_now.sent (policy_text h es) → IsTextSent h es written sink sink_now
+  whole : written ≡ true → Sends sink.sent sink_now.sent (policy_text h es) → sink_now.faults ≡ sink.faults → IsTextSent h es written sink sink_now
   line_cut : (entry : EntryTree) → written ≡ false → IsAccepted h (replay h es) entry → SendsPart (sink.sent ++ front h es) sink_now.sent (line_of h entry)
       → Rose sink.faults sink_now.faults → IsTextSent h es written sink sink_now
   end_cut : written ≡ false → SendsPart (sink.sent ++ front h es) sink_now.sent (ended (codes "end")) → Rose sink.faults sink_now.faults → IsTextSent h es written sink sink_now
 
 -- `Serves panel sessions h opening sink doors panels served`: a service of so many sessions for each worker, over the journal with this head and these
--- entries, this sink, and these doors and panels, hands this back. It was served; or the front of the text could not be sent, so nobody was served; or there was no memory, and then nobody was
+-- entries, this sink, and these doors and panels, hands this back. It was served, and a change was told not to be recorded only where the sink failed; or the front of the text could not be sent, so nobody was served; or there was no memory, and then nobody was
 -- served, nothing was written, and all is handed back as it was handed in.
-pub data Serves {P : Type 0} (panel : P → PanelView) (sessions : ℕ) (h : Head) (opening : List Entry) (sink : SinkView) (doors : List DoorView) (panels : List P) (served : ServedView P) : Type 0 where
+pub data Serves {P : Type 0} (panel : P → PanelHistory) (sessions : ℕ) (h : Head) (opening : List Entry) (sink : SinkView) (doors : List DoorView) (panels : List P) (served : ServedView P) : Type 0 where
   done : (es : List Entry) (sink_now : SinkView) → IsJournal served.journal h es → served.sink ≡ Some sink_now
-      → IsServed h opening es sessions doors served.doors (map panel panels) (map panel served.panels) served.reports served.end
+      → IsServed h opening es (Rose sink.faults sink_now.faults) sessions doors served.doors (map panel panels) (map panel served.panels) served.reports served.end
       → IsTextSent h (entry_trees es) served.written sink sink_now → Serves panel sessions h opening sink doors panels served
   unopened : (sink_now : SinkView) → IsJournal served.journal h opening → served.sink ≡ Some sink_now
       → SendsPart sink.sent sink_now.sent (front h (entry_trees opening)) → Rose sink.faults sink_now.faults

@@ -1,4 +1,4 @@
--- What doors, panels, links and reports tell, as plain values.
+-- What doors, links and reports tell, as plain values.
 use Rattle.std.specs.Prelude.{ℕ, List, Bool, Option, map, option_map}
 use Rattle.nx_io.specs.DoorCalls.{DoorCall, DoorOrigin}
 use Rattle.nx_io.specs.declared.doors.Next.{Next}
@@ -6,7 +6,6 @@ use Rattle.nx_io.specs.declared.doors.Next.TheVariants.{Link as NextLink, NoMore
 use Rattle.policy_history.specs.declared.events.Entry.{Entry}
 use Rattle.policy_history.specs.declared.heads.Head.{Head}
 use Rattle.policy_history.specs.Values.{entry_trees}
-use Rattle.authority_ask.specs.Panels.{Places, Told}
 use Rattle.verdict_words.specs.Values.{PassValue}
 use Rattle.session_core.specs.declared.ends.SessionEnd.{SessionEnd}
 use Rattle.session_core.specs.declared.board_serving.Report.{Report}
@@ -28,13 +27,6 @@ pub record DoorView : Type 0 where
   pub links : Option (List LinkView)
   pub origin : DoorOrigin
   pub calls : List DoorCall
-
--- what a panel tells
-pub record PanelView : Type 0 where
-  pub said : List Told
-  pub asks : ℕ
-  pub reached : Option Places
-  pub faults : ℕ
 
 -- what is reported of a session
 pub record ReportView : Type 0 where
@@ -86,10 +78,6 @@ module _ {L D : Type 0} (view : L → LinkView) (links : D → Option (List L)) 
     origin = origin door;
     calls = calls door;
   }
-
-module _ {P : Type 0} (said : P → List Told) (asks : P → ℕ) (reached : P → Option Places) (faults : P → ℕ) where
-  abbrev pub panel_view : P → PanelView
-  panel_view panel = record { said = said panel; asks = asks panel; reached = reached panel; faults = faults panel }
 
 -- what a door answered, the link by what it tells
 abbrev pub next_view : {L : Type 0} → (L → LinkView) → Next L → Next LinkView

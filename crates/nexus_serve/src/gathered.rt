@@ -1,5 +1,5 @@
 //! What the workers leave: their doors and panels, and the reports of their sessions.
-ghost use Rattle.std.specs.Prelude.{◌≡◌, ◌<◌, ◌≤◌, ◌+◌, [], ◌++◌, length, map, IfOk};
+ghost use Rattle.std.specs.Prelude.{◌≡◌, ◌<◌, ◌≤◌, ◌+◌, [], ◌++◌, length, map, All, IfOk};
 ghost use Rattle.std.specs.Vec.{vec_capacity};
 ghost use Rattle.std.specs.VecDeque.{deque_capacity};
 ghost use Rattle.nexus_serve.specs.Inner.Gathering.{gathered_all, gathered_from, raw_joined, nothing, wanted};
@@ -12,6 +12,7 @@ use session_core::{Report, SessionEnd};
 use std::alloc::{AllocError, Global};
 use std::collections::VecDeque;
 use std::marker::Model;
+use std::sync::ledger::{Ledger, Total};
 use verdict_words::Pass;
 
 /// A report without its pass.
@@ -91,25 +92,32 @@ where
         })
     }
 
-    /// What all these workers leave, in their order. It takes no memory.
-    pub fn gather(self, workers: Vec<Worker<D, P>>) -> Gathered<D, P>
+    /// What all these workers leave, in their order. None has more changes that were not recorded than the ledger in all. It takes
+    /// no memory.
+    pub fn gather<T: Ledger>(
+        self,
+        workers: Vec<Worker<D, P, T>>,
+        total: &Total<T>,
+    ) -> Gathered<D, P>
         requires places { length workers.items ≤ self.places }
         requires room { wanted workers.items ≤ self.spare }
-        ensures { result ≡ gathered_all self workers.items }
+        ensures gathered { result ≡ gathered_all self workers.items }
+        ensures counted { All (λ worker. worker.unrecorded ≤ total.now.amount) workers.items }
     {
         let mut gathered = self;
         let mut left = VecDeque::from(workers);
         while let Some(worker) = left.pop_front() {
-            gathered.take_in(worker);
+            gathered.take_in(worker, total);
         }
         gathered
     }
 
     /// Takes in what a worker leaves.
-    fn take_in(&mut self, worker: Worker<D, P>)
+    fn take_in<T: Ledger>(&mut self, worker: Worker<D, P, T>, total: &Total<T>)
         requires place { 1 ≤ self.old.places }
         requires room { length worker.reports + length worker.passes ≤ self.old.spare }
-        ensures { self.new ≡ gathered_from self.old worker }
+        ensures gathered { self.new ≡ gathered_from self.old worker }
+        ensures counted { worker.unrecorded ≤ total.now.amount }
     {
         let Worker {
             door,
@@ -117,8 +125,11 @@ where
             passes,
             reports,
             has_failed,
+            mark,
             ..
         } = worker;
+        let mut mark = mark;
+        total.audit(&mut mark);
         self.doors.push_reserved(door);
         self.panels.push_reserved(panel);
         take_apart(reports, &mut self.rests, &mut self.passes);

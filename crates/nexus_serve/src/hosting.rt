@@ -4,7 +4,7 @@ ghost use Rattle.policy_history.specs.Values.{entry_trees, greatest_of};
 ghost use Rattle.nexus_serve.specs.Hosting.{Hosts, status_of};
 ghost use Rattle.nexus_serve.specs.Inner.Reporting.{IsHandedBack};
 ghost use Rattle.nexus_serve.specs.Inner.Sharing.{unready_status};
-ghost use Rattle.nexus_serve.specs.Views.{door_view, link_view, panel_view};
+ghost use Rattle.nexus_serve.specs.Views.{door_view, link_view};
 
 use crate::service::{ServeEnd, Served, serve};
 use crate::shares::{Unready, make_ready};
@@ -79,7 +79,7 @@ where
     requires workers { (1 ≤ workers) × (workers ≤ 64) }
     requires sessions { (1 ≤ sessions) × (sessions ≤ 65536) }
     requires numbers { greatest_of (entry_trees journal.entries) + workers * sessions ≤ 2 ^ 64 - 2 }
-    ensures hosted { Hosts (panel_view P.said P.asks P.reached P.faults) (record { address = address.now; workers = workers; sessions = sessions }) journal.head journal.entries (record { sent = K.sent sink; faults = K.faults sink }) (door_view (link_view D.Link.left D.Link.taken D.Link.sent D.Link.over D.Link.closed D.Link.place D.Link.toward D.Link.faults) D.links D.origin D.calls door) panel result }
+    ensures hosted { Hosts P.history (record { address = address.now; workers = workers; sessions = sessions }) journal.head journal.entries (record { sent = K.sent sink; faults = K.faults sink }) (door_view (link_view D.Link.left D.Link.taken D.Link.sent D.Link.over D.Link.closed D.Link.place D.Link.toward D.Link.faults) D.links D.origin D.calls door) panel result }
 {
     let mut door = door;
     let mut panel = panel;

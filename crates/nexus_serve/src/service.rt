@@ -1,10 +1,11 @@
 //! The service as a whole.
 ghost use Rattle.std.specs.Prelude.{◌≡◌, ◌<◌, ◌≤◌, ◌+◌, ◌*◌, ◌-◌, ◌^◌, ℕ, List, [], length, take, map, All, IfOk, OnOk, Some, true, false, slice_index_or};
 ghost use Rattle.std.specs.Vec.{vec_capacity};
+ghost use Rattle.nx_io.specs.Streams.{Rose};
 ghost use Rattle.policy_history.specs.PolicyTexts.{policy_text};
 ghost use Rattle.policy_history.specs.Values.{entry_trees, greatest_of};
 ghost use Rattle.policy_book.specs.Books.{IsLegalBook, IsNamed, IsNumbered, head_of, new_book, trees_of};
-ghost use Rattle.nexus_serve.specs.Views.{door_view, link_view, panel_view, report_view};
+ghost use Rattle.nexus_serve.specs.Views.{door_view, link_view, report_view};
 ghost use Rattle.nexus_serve.specs.Services.{IsJournal, IsTextSent, Serves};
 ghost use Rattle.nexus_serve.specs.TrueReports.{AreTrue};
 ghost use Rattle.policy_history.specs.declared.events.Entry.{Entry};
@@ -27,7 +28,8 @@ use std::alloc::{AllocError, Global};
 use std::marker::{Brand, Model};
 use std::net::{Net, TcpListener, TcpStream};
 use std::rt::Clock;
-use std::sync::{Mutex, Wait};
+use std::sync::ledger::{Blank, Ledger, Total};
+use std::sync::{Mutex, Wait, ledger};
 use std::thread;
 use std::thread::Threads;
 use verdict_words::Board;
@@ -79,26 +81,35 @@ impl<D: Door, P: Panel, K: Sink> Model for Served<D, P, K> {
     } };
 }
 
-/// What a service wants of memory, taken before it begins: the policy text, a desk for each worker, a list with room for all
-/// workers, and room for what they leave.
+/// How many sessions a worker serves at most, and a blank ledger in which the changes are counted that were not recorded.
 #[derive(Drop)]
-struct Prepared<D: Door, P: Panel> {
+struct Shift {
+    sessions: u64,
+    blank: Blank,
+}
+
+/// What a service wants of memory, taken before it begins: the policy text, a desk for each worker, a list with room for all
+/// workers, and room for what they leave. The ledger counts nothing yet, and each desk has a share of it.
+#[derive(Drop)]
+struct Prepared<D: Door, P: Panel, T: Ledger> {
     text: Bytes,
-    desks: Vec<Desk<D::Link>>,
-    workers: Vec<Worker<D, P>>,
+    desks: Vec<Desk<D::Link, T>>,
+    workers: Vec<Worker<D, P, T>>,
     room: Gathered<D, P>,
+    tickets: ledger::Book<T>,
 }
 
 /// Lets the workers work, each in a thread, over a book that is lent to all of them. The book is handed back when all have
-/// stopped. It takes no memory.
-fn let_work<D, P, K, G, N, R>(
+/// stopped, with how many changes were not recorded in all. It takes no memory.
+fn let_work<D, P, K, G, N, T, R>(
     rt: &R,
     alloc: Global,
     board: &Board<NalMatter>,
     book: Book<K>,
-    workers: &mut [Worker<D, P>],
+    tickets: ledger::Book<T>,
+    workers: &mut [Worker<D, P, T>],
     gate: &G,
-) -> Book<K>
+) -> (Book<K>, Total<T>)
 where
     D: Door + Send + Drop,
     D::Link: Link + Send + Drop,
@@ -106,26 +117,31 @@ where
     K: Sink + Send + Drop,
     G: Gate + Sync,
     N: BookNaming + Send + Sync,
+    T: Ledger + Send + Sync,
     R: Net<Listener = TcpListener, Stream = TcpStream> + Clock + Wait + Threads + Sync,
     requires named { N.board ≡ Some board.now }
     requires book { (book.is_open ≡ true) × IsNamed N.board N.next N.start N.start_faults book }
+    requires tickets { tickets.total ≡ 0 }
     requires hired { All (λ worker. IsHired board.now worker.first (length worker.passes) worker) workers.old }
-    ensures book { (result.is_open ≡ true) × IsNamed N.board N.next N.start N.start_faults result }
+    ensures book { (result.0.is_open ≡ true) × IsNamed N.board N.next N.start N.start_faults result.0 }
+    ensures failed { 0 < result.1.amount → result.0.is_broken ≡ true }
     ensures count { length workers.new ≡ length workers.old }
     ensures done { (i : ℕ) (d : WorkerValue P) → i < length workers.old
-        → IsDone (panel_view P.said P.asks P.reached P.faults) board.now (slice_index_or workers.old i d) (slice_index_or workers.new i d) }
+        → IsDone P.history board.now (slice_index_or workers.new i d).unrecorded
+        (slice_index_or workers.old i d) (slice_index_or workers.new i d) }
 {
-    let shelf: Mutex<Shelf<K, N>> = Mutex::new(Shelf::new(book));
+    let shelf: Mutex<Shelf<K, N, T>> = Mutex::new(Shelf::new(book, tickets));
     thread::for_each_mut(
         rt,
         workers,
         64,
-        &|_: usize, worker: &mut Worker<D, P>|
+        &|_: usize, worker: &mut Worker<D, P, T>|
             requires { (N.board ≡ Some board.now) × IsHired board.now worker.old.first (length worker.old.passes) worker.old }
-            ensures { IsDone (panel_view P.said P.asks P.reached P.faults) board.entry.now worker.old worker.new }
-        { worker.work(rt, alloc, board, &shelf, gate) },
+            ensures { IsDone P.history board.entry.now worker.new.unrecorded worker.old worker.new }
+        { worker.work_behind_lock(rt, alloc, board, &shelf, gate) },
     );
-    shelf.into_inner().into_book()
+    let (book, tickets) = shelf.into_inner().into_parts();
+    (book, tickets.close())
 }
 
 /// Writes the last line of the policy text, unless a write of it has failed. Whether the whole text was written.
@@ -133,6 +149,7 @@ fn write_end<K: Sink + Drop>(book: Book<K>) -> (Journal, K, bool)
     requires opened { book.is_open ≡ true }
     ensures journal { (result.0.head ≡ head_of book) × (result.0.entries ≡ book.entries) }
     ensures text { IsTextSent (head_of book) (trees_of book) result.2 (record { sent = book.start; faults = book.start_faults }) (record { sent = K.sent result.1; faults = K.faults result.1 }) }
+    ensures failed { book.is_broken ≡ true → Rose book.start_faults (K.faults result.1) }
     ensures legal { IsLegalBook book }
     ensures numbered { IsNumbered book }
 {
@@ -214,34 +231,37 @@ where
     close(book, doors, panels, reports, has_failed)
 }
 
-/// Gathers what the workers left, and hands it back.
-fn finish<D: Door + Drop, P: Panel + Drop, K: Sink + Drop>(
+/// Gathers what the workers left, and hands it back. Where changes were not recorded, the book is broken.
+fn finish<D: Door + Drop, P: Panel + Drop, K: Sink + Drop, T: Ledger>(
     board: &Board<NalMatter>,
     book: Book<K>,
-    workers: Vec<Worker<D, P>>,
+    total: &Total<T>,
+    workers: Vec<Worker<D, P, T>>,
     room: Gathered<D, P>,
 ) -> Served<D, P, K>
 where
     D::Link: Drop,
+    requires failed { 0 < total.now.amount → book.is_broken ≡ true }
     requires opened { book.is_open ≡ true }
     requires board { book.board ≡ board.now }
     requires first { board.now.origin.first ≡ greatest_of (entry_trees board.now.origin.opening) + 1 }
     requires room { IsRoomFor workers.items room }
     requires used { All (λ worker. AreOfBoard board.now worker) workers.items }
-    ensures served { (most : ℕ) (hired : List (WorkerValue P)) → AreDone (panel_view P.said P.asks P.reached P.faults) board.now board.now.origin.first most hired workers.items → book.next ≡ board.now.origin.first + length workers.items * most
-        → Serves (panel_view P.said P.asks P.reached P.faults) most board.now.origin.setting board.now.origin.opening (record { sent = book.start; faults = book.start_faults }) (doors_of hired) (panels_of hired) result }
+    ensures served { (most : ℕ) (hired : List (WorkerValue P)) → AreDone P.history board.now board.now.origin.first most hired workers.items → book.next ≡ board.now.origin.first + length workers.items * most
+        → Serves P.history most board.now.origin.setting board.now.origin.opening (record { sent = book.start; faults = book.start_faults }) (doors_of hired) (panels_of hired) result }
 {
     what_was_told_stays_told();
-    report(board, book, room.gather(workers))
+    report(board, book, room.gather(workers, total))
 }
 
 /// Lets hired workers work, and hands back what they leave.
-fn serve_hired<D, P, K, G, R>(
+fn serve_hired<D, P, K, G, T, R>(
     rt: &R,
     alloc: Global,
     board: &Board<NalMatter>,
     book: Book<K>,
-    workers: Vec<Worker<D, P>>,
+    tickets: ledger::Book<T>,
+    workers: Vec<Worker<D, P, T>>,
     gate: &G,
     room: Gathered<D, P>,
 ) -> Served<D, P, K>
@@ -251,25 +271,28 @@ where
     P: Panel + Send + Drop,
     K: Sink + Send + Drop,
     G: Gate + Sync,
+    T: Ledger + Send + Sync,
     R: Net<Listener = TcpListener, Stream = TcpStream> + Clock + Wait + Threads + Sync,
     requires opened { book.is_open ≡ true }
     requires board { book.board ≡ board.now }
     requires first { board.now.origin.first ≡ greatest_of (entry_trees board.now.origin.opening) + 1 }
+    requires tickets { tickets.total ≡ 0 }
     requires hired { All (λ worker. IsHired board.now worker.first (length worker.passes) worker) workers.items }
     requires room { IsRoomFor workers.items room }
     ensures served { (most : ℕ) → AreHired board.now board.now.origin.first most workers.items → book.next ≡ board.now.origin.first + length workers.items * most
-        → Serves (panel_view P.said P.asks P.reached P.faults) most board.now.origin.setting board.now.origin.opening (record { sent = book.start; faults = book.start_faults }) (doors_of workers.items) (panels_of workers.items) result }
+        → Serves P.history most board.now.origin.setting board.now.origin.opening (record { sent = book.start; faults = book.start_faults }) (doors_of workers.items) (panels_of workers.items) result }
 {
     let mut workers = workers;
-    let book = let_work::<D, P, K, G, Brand, R>(
+    let (book, total) = let_work::<D, P, K, G, Brand, T, R>(
         rt,
         alloc,
         board,
         book,
+        tickets,
         workers.as_mut_slice(),
         gate,
     );
-    finish(board, book, workers, room)
+    finish(board, book, &total, workers, room)
 }
 
 /// Hands everything back where the front of the policy text could not be sent.
@@ -332,7 +355,7 @@ fn front_of(text: &[u8]) -> &[u8]
 }
 
 /// Opens the book and serves. It takes no memory but what sessions want.
-fn serve_book<D, P, K, G, R>(
+fn serve_book<D, P, K, G, T, R>(
     rt: &R,
     alloc: Global,
     board: &Board<NalMatter>,
@@ -341,7 +364,7 @@ fn serve_book<D, P, K, G, R>(
     panels: Vec<P>,
     gate: &G,
     sessions: u64,
-    prepared: Prepared<D, P>,
+    prepared: Prepared<D, P, T>,
 ) -> Served<D, P, K>
 where
     D: Door + Send + Drop,
@@ -349,6 +372,7 @@ where
     P: Panel + Send + Drop,
     K: Sink + Send + Drop,
     G: Gate + Sync,
+    T: Ledger + Send + Sync,
     R: Net<Listener = TcpListener, Stream = TcpStream> + Clock + Wait + Threads + Sync,
     requires made { book ≡ record (new_book K.sent K.faults board.now book.sink)
         { next = board.now.origin.first + length doors.items * sessions } }
@@ -359,7 +383,8 @@ where
         × (length prepared.desks.items ≡ length doors.items) }
     requires workers { (prepared.workers.items ≡ []) × (length doors.items ≤ vec_capacity prepared.workers) }
     requires room { prepared.room ≡ nothing (length doors.items) (length doors.items * sessions) }
-    ensures served { Serves (panel_view P.said P.asks P.reached P.faults) sessions board.now.origin.setting board.now.origin.opening (record { sent = K.sent book.sink; faults = K.faults book.sink })
+    requires tickets { prepared.tickets.total ≡ 0 }
+    ensures served { Serves P.history sessions board.now.origin.setting board.now.origin.opening (record { sent = K.sent book.sink; faults = K.faults book.sink })
         (map (door_view (link_view D.Link.left D.Link.taken D.Link.sent D.Link.over D.Link.closed D.Link.place D.Link.toward D.Link.faults) D.links D.origin D.calls) doors.items) panels.items result }
 {
     let Prepared {
@@ -367,17 +392,19 @@ where
         desks,
         workers,
         room,
+        tickets,
     } = prepared;
     let mut book = book;
     match book.open(front_of(text.as_slice())) {
         Reach::Ready => {
             let workers = seat(desks, doors, panels, workers);
-            serve_hired(rt, alloc, board, book, workers, gate, room)
+            serve_hired(rt, alloc, board, book, tickets, workers, gate, room)
         }
         Reach::Failed => {
             drop(desks);
             drop(workers);
             drop(room);
+            drop(tickets);
             unopened(alloc, book, doors, panels)
         }
     }
@@ -389,7 +416,8 @@ where
 /// The sessions are numbered behind the greatest number of the journal: the first worker has the first so many numbers, and so
 /// on. A worker stops early where its door has no more links or fails, which ends no other worker. When all have stopped, the
 /// journal, the sink, the doors, the panels, and the reports of all sessions are handed back. `docs/LOGIC.md`, "The service",
-/// says what was then promised to each session; `docs/ARCHITECTURE.md`, "Workers", how it is done.
+/// says what was then promised to each session; `docs/ARCHITECTURE.md`, "Workers", how it is done. A change is told not to be
+/// recorded only where a write of the policy text has failed.
 ///
 /// All memory but what sessions want is taken before the first byte is sent. At want of it the end is `Memory`: nobody was served,
 /// nothing was written, and the journal, the sink, the doors and the panels are handed back as they were handed in.
@@ -414,10 +442,48 @@ where
     requires workers { (1 ≤ length doors.items) × (length doors.items ≤ 64) }
     requires sessions { (1 ≤ sessions) × (sessions ≤ 65536) }
     requires numbers { greatest_of (entry_trees journal.entries) + length doors.items * sessions ≤ 2 ^ 64 - 2 }
-    ensures served { Serves (panel_view P.said P.asks P.reached P.faults) sessions journal.head journal.entries (record { sent = K.sent sink; faults = K.faults sink })
+    ensures served { Serves P.history sessions journal.head journal.entries (record { sent = K.sent sink; faults = K.faults sink })
         (map (door_view (link_view D.Link.left D.Link.taken D.Link.sent D.Link.over D.Link.closed D.Link.place D.Link.toward D.Link.faults) D.links D.origin D.calls) doors.items) panels.items result }
     ensures earned { (es : List Entry) → IsJournal result.journal journal.head es → AreTrue journal.head (entry_trees es) (length journal.entries) result.reports }
 {
+    let blank = Blank::new(doors.len() as u64);
+    let shift = Shift { sessions, blank };
+    serve_counted::<D, P, K, G, Brand, R>(rt, alloc, journal, sink, doors, panels, gate, shift)
+}
+
+/// As `serve`, with a ledger that counts the changes that were not recorded.
+fn serve_counted<D, P, K, G, T, R>(
+    rt: &R,
+    alloc: Global,
+    journal: Journal,
+    sink: K,
+    doors: Vec<D>,
+    panels: Vec<P>,
+    gate: &G,
+    shift: Shift,
+) -> Served<D, P, K>
+where
+    D: Door + Send + Drop,
+    D::Link: Link + Send + Drop,
+    P: Panel + Send + Drop,
+    K: Sink + Send + Drop,
+    G: Gate + Sync,
+    T: Ledger + Send + Sync,
+    R: Net<Listener = TcpListener, Stream = TcpStream> + Clock + Wait + Threads + Sync,
+    requires pairs { length panels.items ≡ length doors.items }
+    requires workers { (1 ≤ length doors.items) × (length doors.items ≤ 64) }
+    requires sessions { (1 ≤ shift.sessions) × (shift.sessions ≤ 65536) }
+    requires numbers { greatest_of (entry_trees journal.entries) + length doors.items * shift.sessions ≤ 2 ^ 64 - 2 }
+    requires blank { (shift.blank.name ≡ T.name) × (shift.blank.parts ≡ T.parts)
+        × (length doors.items ≤ shift.blank.parts) }
+    ensures served { Serves P.history shift.sessions journal.head journal.entries
+        (record { sent = K.sent sink; faults = K.faults sink })
+        (map (door_view (link_view D.Link.left D.Link.taken D.Link.sent D.Link.over D.Link.closed D.Link.place
+        D.Link.toward D.Link.faults) D.links D.origin D.calls) doors.items) panels.items result }
+    ensures earned { (es : List Entry) → IsJournal result.journal journal.head es
+        → AreTrue journal.head (entry_trees es) (length journal.entries) result.reports }
+{
+    let Shift { sessions, blank } = shift;
     let first = journal.greatest_session() + 1;
     let Ok(text) = print_policy(alloc, &journal) else {
         return unserved(alloc, journal, sink, doors, panels);
@@ -425,7 +491,10 @@ where
     match Book::make(alloc, journal, sink) {
         Ok((board, book)) => {
             let mut book = book;
-            match prepare(alloc, &board, &mut book, text, doors.len(), first, sessions) {
+            let workers = doors.len();
+            match prepare::<D, P, K, T>(
+                alloc, &board, &mut book, text, workers, first, sessions, blank,
+            ) {
                 Ok(prepared) => serve_book(
                     rt, alloc, &board, book, doors, panels, gate, sessions, prepared,
                 ),
@@ -443,8 +512,8 @@ where
 }
 
 /// Takes the memory that a service wants, beside that for the policy text, before the book is open: desks for so many workers,
-/// which have the next passes of the book, a list for the workers, and room for what they leave.
-fn prepare<D: Door + Drop, P: Panel + Drop, K: Sink>(
+/// which have the next passes of the book, a list for the workers, and room for what they leave. The blank ledger is opened.
+fn prepare<D: Door + Drop, P: Panel + Drop, K: Sink, T: Ledger>(
     alloc: Global,
     board: &Board<NalMatter>,
     book: &mut Book<K>,
@@ -452,9 +521,11 @@ fn prepare<D: Door + Drop, P: Panel + Drop, K: Sink>(
     workers: usize,
     first: u64,
     sessions: u64,
-) -> Result<Prepared<D, P>, AllocError>
+    blank: Blank,
+) -> Result<Prepared<D, P, T>, AllocError>
 where
     D::Link: Drop,
+    requires blank { (blank.name ≡ T.name) × (blank.parts ≡ T.parts) × (workers ≤ blank.parts) }
     requires first { book.old.next ≡ first }
     requires board { book.old.board ≡ board.now }
     requires numbers { first + workers * sessions ≤ 2 ^ 64 - 1 }
@@ -463,13 +534,16 @@ where
     ensures desks { IfOk result (λ r. AreLaid board.now first sessions r.desks.items × (length r.desks.items ≡ workers)) }
     ensures workers { IfOk result (λ r. (r.workers.items ≡ []) × (workers ≤ vec_capacity r.workers)) }
     ensures room { IfOk result (λ r. r.room ≡ nothing workers (workers * sessions)) }
+    ensures tickets { IfOk result (λ r. r.tickets.total ≡ 0) }
     ensures book { OnOk result (book.new ≡ record book.old { next = book.old.next + workers * sessions }) }
     ensures kept { book.new ≡ record book.old { next = book.new.next } }
 {
+    let (tickets, mark) = blank.open::<T>();
     Ok(Prepared {
         text,
-        desks: lay_desks(alloc, board, book, workers, first, sessions)?,
+        desks: lay_desks(alloc, board, book, workers, first, sessions, mark)?,
         workers: Vec::with_capacity(alloc, workers)?,
         room: Gathered::with_room(alloc, workers, workers * sessions as usize)?,
+        tickets,
     })
 }

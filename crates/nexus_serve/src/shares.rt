@@ -2,9 +2,10 @@
 ghost use Rattle.std.specs.Prelude.{◌≡◌, ◌≢◌, ◌≤◌, ◌+◌, ◌++◌, List, ℕ, [], length, map, All, IfErr, IfOk};
 ghost use Rattle.std.specs.Vec.{vec_capacity, vec_len};
 ghost use Rattle.nx_io.specs.DoorCalls.{DoorCall};
-ghost use Rattle.authority_ask.specs.Panels.{IsFresh};
-ghost use Rattle.nexus_serve.specs.Inner.Sharing.{IsMade, IsShareOf, ReadiesDoor, SharesDoor, panel_faults_after};
-ghost use Rattle.nexus_serve.specs.Views.{door_view, link_view, panel_view};
+ghost use Rattle.authority_ask.specs.PanelCalls.{PanelCall};
+ghost use Rattle.nexus_serve.specs.Inner.Sharing.{IsMade, IsShareOf, ReadiesDoor, SharesDoor, SharesPanel};
+ghost use Rattle.nexus_serve.specs.Hosting.{HasCalledPanel, IsPanelShare};
+ghost use Rattle.nexus_serve.specs.Views.{door_view, link_view};
 
 use authority_ask::Panel;
 use nx_io::{Door, Reach, Shared};
@@ -75,14 +76,9 @@ fn share_panel<P: Panel + Drop>(
 ) -> Result<(), Unready>
     requires none { shares.old.items ≡ [] }
     requires room { count ≤ vec_capacity shares.old }
-    ensures count { IfOk result (λ _. length shares.new.items ≡ count) }
-    ensures shared { All (λ share. IsFresh (P.said share) (P.asks share) (P.faults share)
-        × (P.reached share ≡ P.reached panel.new)) shares.new.items }
-    ensures said { P.said panel.new ≡ P.said panel.old }
-    ensures asks { P.asks panel.new ≡ P.asks panel.old }
-    ensures reached { P.reached panel.new ≡ P.reached panel.old }
-    ensures faults { P.faults panel.new ≡ panel_faults_after result (P.faults panel.old) }
-    ensures other { IfErr result (λ e. e ≢ Unready.Door) }
+    ensures shared { All (λ share. IsPanelShare (P.history panel.new) (P.history share)) shares.new.items }
+    ensures calls { (more : List PanelCall) × HasCalledPanel more (P.history panel.old) (P.history panel.new)
+        × SharesPanel result count (length shares.new.items) more }
 {
     for _ in 0..count {
         match panel.share() {
@@ -138,10 +134,9 @@ where
     D::Link: Drop,
     requires none { (doors.old.items ≡ []) × (panels.old.items ≡ []) }
     requires few { workers ≤ 64 }
-    ensures made { (sessions : ℕ) → IsMade (panel_view P.said P.asks P.reached P.faults) (record { address = address.now; workers = workers; sessions = sessions }) head.now (door_view (link_view D.Link.left D.Link.taken D.Link.sent D.Link.over D.Link.closed D.Link.place D.Link.toward D.Link.faults) D.links D.origin D.calls door.old) (door_view (link_view D.Link.left D.Link.taken D.Link.sent D.Link.over D.Link.closed D.Link.place D.Link.toward D.Link.faults) D.links D.origin D.calls door.new) (panel_view P.said P.asks P.reached P.faults panel.old) (panel_view P.said P.asks P.reached P.faults panel.new) (map (door_view (link_view D.Link.left D.Link.taken D.Link.sent D.Link.over D.Link.closed D.Link.place D.Link.toward D.Link.faults) D.links D.origin D.calls) doors.new.items) panels.new.items result }
+    ensures made { (sessions : ℕ) → IsMade P.history (record { address = address.now; workers = workers; sessions = sessions }) head.now (door_view (link_view D.Link.left D.Link.taken D.Link.sent D.Link.over D.Link.closed D.Link.place D.Link.toward D.Link.faults) D.links D.origin D.calls door.old) (door_view (link_view D.Link.left D.Link.taken D.Link.sent D.Link.over D.Link.closed D.Link.place D.Link.toward D.Link.faults) D.links D.origin D.calls door.new) (P.history panel.old) (P.history panel.new) (map (door_view (link_view D.Link.left D.Link.taken D.Link.sent D.Link.over D.Link.closed D.Link.place D.Link.toward D.Link.faults) D.links D.origin D.calls) doors.new.items) panels.new.items result }
     ensures doors_shared { All (IsShareOf D.origin D.calls door.new) doors.new.items }
-    ensures panels_shared { All (λ share. IsFresh (P.said share) (P.asks share) (P.faults share)
-        × (P.reached share ≡ P.reached panel.new)) panels.new.items }
+    ensures panels_shared { All (λ share. IsPanelShare (P.history panel.new) (P.history share)) panels.new.items }
 {
     match reach_all(rt, head, panel) {
         Reach::Ready => {

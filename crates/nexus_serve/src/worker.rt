@@ -1,34 +1,36 @@
 //! A worker: it serves the links of its door, one after another.
 ghost use Rattle.std.specs.Prelude.{◌≡◌, ◌<◌, ◌≤◌, ◌+◌, [], length, All, Some, true, false};
 ghost use Rattle.nx_io.specs.Links.{IsFreshLink};
-ghost use Rattle.nexus_serve.specs.Views.{link_view, panel_view};
-ghost use Rattle.nexus_serve.specs.Inner.Working.{HasServedOne, IsDone, IsHired, IsUnused, IsWorking, WorkerValue, WorksOn};
+ghost use Rattle.nexus_serve.specs.Views.{link_view};
+ghost use Rattle.nexus_serve.specs.Inner.Working.{HasServedOne, IsDone, IsHired, IsStopped, IsUnused, IsWorking, WorkerValue, WorksOn};
 
 use authority_ask::Panel;
 use nx_io::{Door, Gate, Next, Sink};
-use policy_book::{BookNaming, NalMatter, Shelf};
+use policy_book::{BookAccess, BookNaming, LockedBook, NalMatter, Shelf};
 use session_core::{Report, serve_link};
 use std::alloc::Global;
 use std::collections::VecDeque;
 use std::marker::Model;
 use std::net::{Net, TcpListener, TcpStream};
 use std::rt::Clock;
+use std::sync::ledger::{Ledger, Share};
 use std::sync::{Mutex, Wait};
 use verdict_words::{Board, Pass};
 
 /// A worker: the number of its first session, its door and its panel, the passes that it has not used, the reports of its
-/// sessions, and whether its door has failed.
+/// sessions, whether its door has failed, and its share of the ledger that counts the changes that were not recorded.
 #[derive(Drop)]
-pub struct Worker<D: Door, P: Panel> {
+pub struct Worker<D: Door, P: Panel, T: Ledger> {
     pub first: u64,
     pub door: D,
     pub panel: P,
     pub passes: VecDeque<Pass<NalMatter>>,
     pub reports: Vec<Report<D::Link>>,
     pub has_failed: bool,
+    pub mark: Share<T>,
 }
 
-impl<D: Door, P: Panel> Model for Worker<D, P> {
+impl<D: Door, P: Panel, T: Ledger> Model for Worker<D, P, T> {
     ghost use Rattle.std.specs.Prelude.{map, ◌-◌};
     ghost use Rattle.std.specs.Vec.{vec_capacity, vec_len};
     ghost use Rattle.std.specs.Coded.{codes};
@@ -49,15 +51,17 @@ impl<D: Door, P: Panel> Model for Worker<D, P> {
       reports = map (report_view (link_view D.Link.left D.Link.taken D.Link.sent D.Link.over D.Link.closed D.Link.place D.Link.toward D.Link.faults)) w.reports.items;
       spare = vec_capacity w.reports - vec_len w.reports;
       has_failed = w.has_failed;
+      parts = w.mark.parts;
+      unrecorded = w.mark.amount;
     } };
 }
 
-impl<D: Door, P: Panel> Worker<D, P>
+impl<D: Door, P: Panel, T: Ledger> Worker<D, P, T>
 where
     D::Link: Drop,
 {
-    /// Serves the links that the door gives, with one pass each, until all passes are used, or the door gives no more.
-    pub fn work<
+    /// Works over a book behind its lock. The worker's share counts the changes that its sessions were told not to be recorded.
+    pub fn work_behind_lock<
         K: Sink,
         N: BookNaming,
         G: Gate,
@@ -67,12 +71,30 @@ where
         rt: &R,
         alloc: Global,
         board: &Board<NalMatter>,
-        book: &Mutex<Shelf<K, N>>,
+        shelf: &Mutex<Shelf<K, N, T>>,
         gate: &G,
     )
         requires named { N.board ≡ Some board.now }
         requires hired { IsHired board.now self.old.first (length self.old.passes) self.old }
-        ensures done { IsDone (panel_view P.said P.asks P.reached P.faults) board.now self.old self.new }
+        ensures done { IsDone P.history board.now self.new.unrecorded self.old self.new }
+    {
+        let mut book = LockedBook::new(rt, board, shelf, self.mark.split_off(1, 0));
+        self.work(rt, alloc, board, &mut book, gate);
+        self.mark.merge(book.into_mark());
+    }
+
+    /// Serves the links that the door gives, with one pass each, until all passes are used, or the door gives no more.
+    fn work<B: BookAccess, G: Gate, R: Net<Listener = TcpListener, Stream = TcpStream> + Clock>(
+        &mut self,
+        rt: &R,
+        alloc: Global,
+        board: &Board<NalMatter>,
+        book: &mut B,
+        gate: &G,
+    )
+        requires named { B.board book.old ≡ board.now }
+        requires working { IsWorking P.history board.now (B.unrecorded book.old) self.old self.old }
+        ensures stopped { IsStopped P.history board.now (B.unrecorded book.new) self.old self.new }
     {
         while !self.is_spent() {
             if !self.serve_next(rt, alloc, board, book, gate) {
@@ -91,24 +113,18 @@ where
 
     /// Serves the next link that the door gives. Whether it gave one.
     fn serve_next<
-        K: Sink,
-        N: BookNaming,
+        B: BookAccess,
         G: Gate,
-        R: Net<Listener = TcpListener, Stream = TcpStream> + Clock + Wait,
-    >(
-        &mut self,
-        rt: &R,
-        alloc: Global,
-        board: &Board<NalMatter>,
-        book: &Mutex<Shelf<K, N>>,
-        gate: &G,
-    ) -> bool
-        requires named { N.board ≡ Some board.now }
+        R: Net<Listener = TcpListener, Stream = TcpStream> + Clock,
+    >(&mut self, rt: &R, alloc: Global, board: &Board<NalMatter>, book: &mut B, gate: &G) -> bool
+        requires named { B.board book.old ≡ board.now }
         requires some { 0 < length self.old.passes }
         requires unused { All (IsUnused board.now) self.old.passes }
         requires room { length self.old.passes ≤ self.old.spare }
-        ensures went { (start : WorkerValue P) → IsWorking (panel_view P.said P.asks P.reached P.faults) board.now start self.old → WorksOn (panel_view P.said P.asks P.reached P.faults) board.now result start self.new }
+        ensures went { (start : WorkerValue P) → IsWorking P.history board.now (B.unrecorded book.old) start self.old
+            → WorksOn P.history board.now (B.unrecorded book.new) result start self.new }
         ensures fewer { result ≡ true → length self.new.passes + 1 ≡ length self.old.passes }
+        ensures book { B.board book.new ≡ B.board book.old }
     {
         match self.door.next(rt) {
             Next::Link(link) => {
@@ -125,25 +141,27 @@ where
 
     /// Serves a link with the next pass.
     fn serve_session<
-        K: Sink,
-        N: BookNaming,
+        B: BookAccess,
         G: Gate,
-        R: Net<Listener = TcpListener, Stream = TcpStream> + Clock + Wait,
+        R: Net<Listener = TcpListener, Stream = TcpStream> + Clock,
     >(
         &mut self,
         rt: &R,
         alloc: Global,
         board: &Board<NalMatter>,
-        book: &Mutex<Shelf<K, N>>,
+        book: &mut B,
         gate: &G,
         link: D::Link,
     )
-        requires named { N.board ≡ Some board.now }
+        requires named { B.board book.old ≡ board.now }
         requires some { 0 < length self.old.passes }
         requires unused { All (IsUnused board.now) self.old.passes }
         requires room { length self.old.passes ≤ self.old.spare }
         requires fresh { IsFreshLink (D.Link.taken link) (D.Link.sent link) (D.Link.over link) (D.Link.closed link) (D.Link.faults link) }
-        ensures served { HasServedOne (panel_view P.said P.asks P.reached P.faults) board.now (link_view D.Link.left D.Link.taken D.Link.sent D.Link.over D.Link.closed D.Link.place D.Link.toward D.Link.faults link) self.old self.new }
+        ensures served { HasServedOne P.history board.now (B.unrecorded book.old) (B.unrecorded book.new)
+            (link_view D.Link.left D.Link.taken D.Link.sent D.Link.over D.Link.closed D.Link.place D.Link.toward D.Link.faults link)
+            self.old self.new }
+        ensures book { B.board book.new ≡ B.board book.old }
     {
         let Some(pass) = self.passes.pop_front() else {
             unreachable!()

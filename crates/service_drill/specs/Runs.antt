@@ -3,14 +3,14 @@ use Rattle.std.specs.Prelude.{◌≡◌, ℕ, zero, suc, List, [], ◌∷◌, �
 use Rattle.std.specs.List.{count_by, sum_by}
 use Rattle.policy_history.specs.declared.heads.Head.{Head}
 use Rattle.policy_history.specs.Values.{History}
-use Rattle.authority_ask.specs.AskLogs.{all_told}
 use Rattle.authority_ask.specs.Memory.{Rehearsed, rehearsal}
+use Rattle.authority_ask.specs.PanelCalls.{PanelHistory}
 use Rattle.session_wire.specs.declared.replies.Reply.{Reply}
 use Rattle.session_wire.specs.declared.replies.Reply.TheVariants.{Allowed, Denied}
 use Rattle.session_wire.specs.Frames.{reply_frames}
 use Rattle.nexus_serve.specs.Services.{ServedView, Serves}
 use Rattle.nx_io.specs.DoorCalls.{new_origin, share_of}
-use Rattle.nexus_serve.specs.Views.{DoorView, LinkView, PanelView, ReportView, panel_view}
+use Rattle.nexus_serve.specs.Views.{DoorView, LinkView, ReportView}
 use Rattle.nexus_drill.specs.declared.outcomes.DrillTotals.{DrillTotals}
 use Rattle.nexus_drill.specs.Drills.{drill_principal, frames_of}
 
@@ -72,8 +72,8 @@ pub record Counts (served : ServedView Rehearsed) (totals : DrillTotals) : Type 
   pub denied : totals.denied ≡ sum_by (count_by denies) replies
 
 -- what a panel in memory tells
-abbrev pub panel_of : Rehearsed → PanelView
-panel_of = panel_view (λ (p : Rehearsed). all_told p.said) (λ p. p.asks) (λ p. None) (λ p. p.faults)
+abbrev pub panel_of : Rehearsed → PanelHistory
+panel_of panel = panel.history
 
 -- A service over the workers' doors, with one session for each of them and a sink that was sent nothing, left this
 abbrev pub ServesLoad : ℕ → ℕ → ℕ → ServedView Rehearsed → Type 0

@@ -25,9 +25,9 @@ abbrev pub AreLaid : Identity Entry Head → ℕ → ℕ → List DeskValue → 
 AreLaid board first most [] = Unit {0}
 AreLaid board first most (desk ∷ desks) = IsLaid board first most desk × AreLaid board (first + most) most desks
 
--- a worker that has not begun, at this desk, with this door and this panel
+-- a worker that has not begun, at this desk, with this door and this panel, and with one part of the ledger
 abbrev pub seated_at : {P : Type 0} → DeskValue → DoorView → P → WorkerValue P
-seated_at desk door panel = record { first = desk.first; door = door; panel = panel; passes = desk.passes; reports = []; spare = desk.spare; has_failed = false }
+seated_at desk door panel = record { first = desk.first; door = door; panel = panel; passes = desk.passes; reports = []; spare = desk.spare; has_failed = false; parts = 1; unrecorded = 0 }
 
 -- workers, each with the desk, the door and the panel of its place
 abbrev pub seated : {P : Type 0} → List DeskValue → List DoorView → List P → List (WorkerValue P)

@@ -21,6 +21,7 @@ pub record IsClosed {K P : Type 0} (book : BookValue K) (start : SinkView) (door
   pub sink_now : SinkView
   pub sink : served.sink ≡ Some sink_now
   pub text : IsTextSent (head_of book) (trees_of book) served.written start sink_now
+  pub failed : book.is_broken ≡ true → Rose start.faults sink_now.faults
   pub reports_are : served.reports ≡ reports
   pub doors_are : served.doors ≡ doors
   pub panels_are : served.panels ≡ panels
@@ -34,6 +35,7 @@ pub record IsReported {K P : Type 0} (book : BookValue K) (start : SinkView) (ga
   pub sink_now : SinkView
   pub sink : served.sink ≡ Some sink_now
   pub text : IsTextSent (head_of book) (trees_of book) served.written start sink_now
+  pub failed : book.is_broken ≡ true → Rose start.faults sink_now.faults
   pub known : List AtomicStep
   pub reports : served.reports ≡ joined gathered.rests (all_met book.board book.entries known gathered.passes)
   pub doors : served.doors ≡ gathered.doors
@@ -44,9 +46,9 @@ pub record IsReported {K P : Type 0} (book : BookValue K) (start : SinkView) (ga
   pub legal : IsLegalBook book
   pub numbered : IsNumbered book
 
--- the last line of the text was sent, or a proper part of it, since the sink failed
+-- the last line of the text was sent, where the sink did not fail, or a proper part of it, since the sink failed
 abbrev pub IsEnded : Bool → SinkView → SinkView → Type 0
-IsEnded true sink sink_now = Sends sink.sent sink_now.sent (ended (codes "end"))
+IsEnded true sink sink_now = Sends sink.sent sink_now.sent (ended (codes "end")) × (sink_now.faults ≡ sink.faults)
 IsEnded false sink sink_now = SendsPart sink.sent sink_now.sent (ended (codes "end")) × Rose sink.faults sink_now.faults
 
 -- nobody was served, and the doors and panels are handed back

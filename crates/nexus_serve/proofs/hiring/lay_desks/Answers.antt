@@ -22,6 +22,7 @@ pub loop-preserved : goal.loop-preserved
 loop-preserved g c =
     let i = c.loop.invariant in
     let e = c.in_ok-lay_desk.ensures in
+    let own = c.split_off-own.ensures in
     let items = c.in_ok-push.ensures.items in
     let long = length-append c.loop.desks.items (c.in_ok-lay_desk.field-0 ∷ []) in
     let count = i.count in
@@ -31,4 +32,6 @@ loop-preserved g c =
       first = ap (λ n. n + c.args.sessions) i.first ∙ one_more_before c.args.first c.loop.counter (c.loop.counter + 1) c.args.sessions (omega arith);
       laid = rw (items) (laid_last c.args.board.now c.args.first c.args.sessions c.loop.desks.items c.in_ok-lay_desk.field-0 i.laid (subst (λ n. IsLaid c.args.board.now n c.args.sessions c.in_ok-lay_desk.field-0) (sym place) e.laid));
       count = rw (items) (omega (arith, long, count));
+      parts = omega (arith, i.parts, own.parts_left);
+      amount = omega (arith, i.amount, own.amount_left);
     }

@@ -8,4 +8,6 @@ invariant-loop g l = record {
   first : l.first ≡ l.fn.first + l.counter * l.sessions;
   laid : AreLaid l.board l.fn.first l.sessions l.desks.items;
   count : length l.desks.items ≡ l.counter;
+  parts : l.mark.parts + l.counter ≡ l.fn.mark.parts;
+  amount : l.mark.amount ≡ 0;
 }

@@ -1,11 +1,11 @@
 use Rattle.std.proofs.Common.{◌≡◌, Err, length, map, sym, subst, ◌∙◌, ap}
 use Rattle.std.proofs.lemmas.List.{length-map}
 use Rattle.std.specs.Prelude.{option_map}
-use Rattle.nexus_serve.specs.Views.{door_view, link_view, panel_view}
+use Rattle.nexus_serve.specs.Views.{door_view, link_view}
 use Rattle.nexus_serve.specs.Services.{ServedView}
 use Rattle.nexus_serve.specs.Hosting.{Plan, served, status_of}
 use Rattle.nexus_serve.specs.Inner.Sharing.{IsMade}
-use Rattle.nexus_serve.proofs.Readiness.{doors_viewed, hosts_unready, panels_viewed}
+use Rattle.nexus_serve.proofs.Readiness.{doors_viewed, hosts_unready}
 use Rattle.nexus_serve.proofs.hosting.host.Goals as goal
 
 pub serve-served-requires-clause-pairs : goal.serve-served-requires-clause-pairs
@@ -35,20 +35,21 @@ returns-in-Err g c =
     let plan : Plan = record { address = c.args.address.now; workers = c.args.workers; sessions = c.args.sessions } in
     let viewed = link_view g.D.Link.Link.left g.D.Link.Link.taken g.D.Link.Link.sent g.D.Link.Link.over g.D.Link.Link.closed g.D.Link.Link.place g.D.Link.Link.toward g.D.Link.Link.faults in
     let door = door_view viewed g.D.Door.links g.D.Door.origin g.D.Door.calls in
-    let seen = panel_view g.P.Panel.said g.P.Panel.asks g.P.Panel.reached g.P.Panel.faults in
+    let seen = g.P.Panel.history in
     let doors = c.make_ready-ready.new.doors.items in
     let panels = c.make_ready-ready.new.panels.items in
     let links = λ (d : g.row.D.Denot). option_map (map viewed) (g.D.Door.links d) in
     let back = c.idle.ensures.back in
     let made = subst (λ h. IsMade {A = Unit {0}} seen plan h (door c.args.door) (door c.make_ready-ready.new.door) (seen c.args.panel) (seen c.make_ready-ready.new.panel) (map door doors) panels (Err c.in-Err.unready)) c.head.ensures (c.in-Err.ensures.made c.args.sessions) in
-    let as_handed = subst (λ ds. IsMade {A = Unit {0}} seen plan c.args.journal.head (door c.args.door) (door c.make_ready-ready.new.door) (seen c.args.panel) (seen c.make_ready-ready.new.panel) ds panels (Err c.in-Err.unready)) (sym back.doors_are) made in
+    let as_doors = subst (λ ds. IsMade {A = Unit {0}} seen plan c.args.journal.head (door c.args.door) (door c.make_ready-ready.new.door) (seen c.args.panel) (seen c.make_ready-ready.new.panel) ds panels (Err c.in-Err.unready)) (sym back.doors_are) made in
+    let as_handed = subst (λ ps. IsMade {A = Unit {0}} seen plan c.args.journal.head (door c.args.door) (door c.make_ready-ready.new.door) (seen c.args.panel) (seen c.make_ready-ready.new.panel) c.idle.result.doors ps (Err c.in-Err.unready)) (sym back.panels_are) as_doors in
     record {
-      hosted = hosts_unready (Unit {0}) seen plan c.args.journal.head c.args.journal.entries _ (door c.args.door) c.args.panel _ panels c.in-Err.unready as_handed c.unready_status.ensures
+      hosted = hosts_unready (Unit {0}) seen plan c.args.journal.head c.args.journal.entries _ (door c.args.door) c.args.panel _ c.in-Err.unready as_handed c.unready_status.ensures
           (record {
             journal = c.idle.ensures.journal;
             sink_is = c.idle.ensures.sink;
             reports = back.reports;
             door_shares = rw back.doors_are (doors_viewed seen links g.D.Door.origin g.D.Door.calls c.make_ready-ready.new.door doors c.in-Err.ensures.doors_shared);
-            panel_shares = rw back.panels_are (panels_viewed seen links g.D.Door.origin g.D.Door.calls (seen c.make_ready-ready.new.panel) panels c.in-Err.ensures.panels_shared);
+            panel_shares = rw back.panels_are c.in-Err.ensures.panels_shared;
           });
     }

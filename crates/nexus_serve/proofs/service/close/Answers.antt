@@ -12,6 +12,7 @@ returns g c =
         sink_now = record { sent = g.K.Sink.sent c.write_end-journal.result.1; faults = g.K.Sink.faults c.write_end-journal.result.1 };
         sink = refl;
         text = e.text;
+        failed = e.failed;
         reports_are = refl;
         doors_are = refl;
         panels_are = refl;

@@ -1,6 +1,5 @@
 use Rattle.std.proofs.Common.{All, ◌∙◌, ap, sym, subst}
 use Rattle.std.proofs.lemmas.List.Elements.{All-nil}
-use Rattle.nexus_serve.specs.Views.{panel_view}
 use Rattle.nexus_serve.specs.Services.{SinkView}
 use Rattle.nexus_serve.specs.Inner.Gathering.{gathered_all, nothing, with_unused}
 use Rattle.nexus_serve.specs.Inner.Reporting.{IsReported}
@@ -11,19 +10,19 @@ use Rattle.nexus_serve.proofs.service.finish.Goals as goal
 pub report-requires-clause-passes : goal.report-requires-clause-passes
 report-requires-clause-passes g c =
     let room = c.args.room in
-    let is = c.gather.ensures ∙ ap (λ r. gathered_all r c.args.workers.items) c.requires.room.empty in
+    let is = c.gather.ensures.gathered ∙ ap (λ r. gathered_all r c.args.workers.items) c.requires.room.empty in
     subst (λ r. All (IsOfBoard c.args.board.now) (with_unused r).passes) (sym is)
     (all_of_board c.args.board.now (nothing room.places room.spare) c.args.workers.items (All-nil (IsOfBoard c.args.board.now)) (All-nil (IsOfBoard c.args.board.now)) c.requires.used)
 
 pub returns : goal.returns
 returns g c =
     let room = c.args.room in
-    let is = c.gather.ensures ∙ ap (λ r. gathered_all r c.args.workers.items) c.requires.room.empty in
+    let is = c.gather.ensures.gathered ∙ ap (λ r. gathered_all r c.args.workers.items) c.requires.room.empty in
     let start : SinkView = record { sent = c.args.book.start; faults = c.args.book.start_faults } in
     let reported = subst (λ r. IsReported c.args.book start (with_unused r) c.report.result) is c.report.ensures.reported in
     let first = rw (← c.requires.board) at c.requires.first in
     rw (← c.requires.board)
     (record {
       served = λ most hired stopped numbers.
-          finished (panel_view g.P.Panel.said g.P.Panel.asks g.P.Panel.reached g.P.Panel.faults) c.what_was_told_stays_told.ensures c.args.book start c.report.result most hired c.args.workers.items room.places room.spare stopped numbers reported first;
+          finished g.P.Panel.history c.what_was_told_stays_told.ensures c.args.book start c.report.result most hired c.args.workers.items room.places room.spare stopped numbers reported c.args.total.now.amount c.gather.ensures.counted c.requires.failed first;
     })

@@ -8,8 +8,8 @@ use Rattle.nexus_serve.proofs.Gathering.{gathered_same}
 use Rattle.nexus_serve.proofs.gathered.Gathered.take_in.Goals as goal
 use Rattle.nexus_serve.proofs.gathered.Gathered.take_in.Goals.{then-self, else-self}
 
-pub returns : goal.returns
-returns g c =
+pub returns-clause-gathered : goal.returns-clause-gathered
+returns-clause-gathered g c =
     let reports = c.worker.inside.reports.items in
     let rests = c.take_apart.ensures.rests in
     let passes = c.take_apart.ensures.passes in

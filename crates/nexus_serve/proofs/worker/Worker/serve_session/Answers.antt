@@ -1,12 +1,14 @@
-use Rattle.std.proofs.Common.{◌≡◌, true, refl, sym, ap, ◌∙◌, arith, map, ◌∷◌, []}
+use Rattle.std.proofs.Common.{◌≡◌, ◌<◌, true, refl, sym, ap, ◌∙◌, arith, map, ◌∷◌, []}
 use Rattle.std.proofs.lemmas.List.{map-append}
 use Rattle.std.specs.Result.{is_ok}
 use Rattle.nexus_serve.specs.Views.{link_view}
+use Rattle.nexus_serve.proofs.Working.{heard_weaker}
 use Rattle.nexus_serve.proofs.worker.Worker.serve_session.Goals as goal
 
 pub returns : goal.returns
 returns g c =
     let e = c.serve_link-report.ensures in
+    let some : g.B.BookAccess.unrecorded c.args.book.now < g.B.BookAccess.unrecorded c.serve_link-report.new.book → 0 < g.B.BookAccess.unrecorded c.serve_link-report.new.book = λ more. omega (arith, more) in
     let pushed : is_ok c.push-pushed.result ≡ true = sym c.is_ok.ensures.value ∙ c.if-prove.false in
     let items = rw pushed at c.push-pushed.ensures.items in
     let len = rw pushed at c.push-pushed.ensures.len in
@@ -32,6 +34,10 @@ returns g c =
         session = e.session.0;
         pass_session = e.session.1 ∙ sym e.session.0;
         board_is = e.board;
-        heard = record { said = e.said; served = e.told.served; downs = e.told.downs; asks = e.asks; reached = e.reached };
+        later = e.told.counted.later;
+        heard = heard_weaker some (record { asked = e.asked; served = e.told.served; recorded = e.told.counted.counted });
+        parts = refl;
+        unrecorded = refl;
       };
+      book = e.book;
     })

@@ -3,7 +3,7 @@ use Rattle.policy_history.specs.Values.{entry_trees}
 use Rattle.policy_book.specs.Books.{head_of}
 use Rattle.nexus_serve.specs.Services.{SinkView, no_memory}
 use Rattle.nexus_serve.proofs.TruthOfReports.{none_true, serves_true}
-use Rattle.nexus_serve.proofs.service.serve.Goals as goal
+use Rattle.nexus_serve.proofs.service.serve_counted.Goals as goal
 
 pub returns-in-Ok-prepare : goal.returns-in-Ok-prepare
 returns-in-Ok-prepare g c =

@@ -1,0 +1,32 @@
+use Rattle.std.proofs.Common.{◌≡◌, ◌≤◌, All, length, sym, ap, ◌∙◌, subst, arith}
+use Rattle.std.proofs.lemmas.List.Elements.{All-cons}
+use Rattle.nexus_serve.specs.Inner.Gathering.{gathered_all, wanted}
+use Rattle.nexus_serve.specs.Inner.Working.{WorkerValue}
+use Rattle.nexus_serve.proofs.gathered.Gathered.gather.Goals as goal
+
+pub loop-worker-preserved : goal.loop-worker-preserved
+loop-worker-preserved g c =
+    let i = c.loop-worker.invariant in
+    let items = c.in-Some.ensures.items in
+    let left = c.pop_front.new.self.items in
+    let taken = c.take_in.ensures.gathered in
+    let long = ap length items in
+    let places = ap (λ v. v.places) taken in
+    let want = ap wanted items in
+    let spare = ap (λ v. v.spare) taken in
+    let fewer = i.places in
+    let room = i.room in
+    let Bounded = λ (worker : WorkerValue g.row.P.Denot). worker.unrecorded ≤ c.args.total.now.amount in
+    record {
+      same = ap (λ v. gathered_all v left) taken ∙ sym (ap (gathered_all c.loop-worker.gathered) items) ∙ i.same;
+      places = omega (arith, long, places, fewer);
+      room = omega (arith, want, spare, room);
+      counted = λ rest. i.counted (subst (All Bounded) (sym items) (All-cons Bounded c.in-Some.worker left c.take_in.ensures.counted rest));
+    }
+
+pub returns-clause-counted : goal.returns-clause-counted
+returns-clause-counted g c =
+    let gone = c.in_default.ensures.cases.0 in
+    let long = c.loop-worker.left.ok.0 in
+    let none : length c.loop-worker.left.items ≡ 0 = omega (arith, gone, long) in
+    c.loop-worker.invariant.counted (λ k d within. absurd (omega (arith, none, within)))
