@@ -14,7 +14,7 @@ use Rattle.answer_commands.specs.CheckRuns.{RunsCheck, no_memory as check_memory
 use Rattle.answer_commands.specs.Compacts.{RunsCompact, unwritten}
 use Rattle.answer_commands.specs.Proves.{RunsProve}
 use Rattle.answer_commands.specs.Recovers.{RunsRecover}
-use Rattle.script_command.specs.Scripts.{PanelRun, RunsScript, no_memory as script_memory}
+use Rattle.script_command.specs.Scripts.{IsIdle, PanelRun, RunsScript, no_memory as script_memory}
 use Rattle.answer_commands.specs.Trusts.{RunsTrust}
 use Rattle.answer_commands.specs.Answers.{no_memory as answer_memory}
 use Rattle.answer_commands.proofs.ForCallers.{runs_answer, runs_check}
@@ -244,11 +244,11 @@ drill_commanded {source = source} {sink = sink} {status = status} l m n are mine
 
 -- ---- Where there was no memory for the words, nothing was read or written
 
-pub memory_commanded : {words : List (List ℕ)} {source : SourceRun} {sink records : SinkRun} {panel : PanelRun} {status : ℕ} → status ≡ 6 → sink.sent ≡ [] → source.faults_now ≡ source.faults
+pub memory_commanded : {words : List (List ℕ)} {source : SourceRun} {sink records : SinkRun} {panel : PanelRun} {status : ℕ} → status ≡ 6 → IsIdle panel → sink.sent ≡ [] → source.faults_now ≡ source.faults
     → sink.faults_now ≡ sink.faults → records.sent ≡ [] → records.faults_now ≡ records.faults → RunsCommand words source sink records panel None status
-memory_commanded {source = source} {sink = sink} {panel = panel} {status = status} six none still still_too unrecorded still_there = record {
+memory_commanded {source = source} {sink = sink} {panel = panel} {status = status} six idle none still still_too unrecorded still_there = record {
   check = λ e. runs_check (check_memory six none still still_too);
-  script = λ e. runs_script (script_memory six none still still_too);
+  script = λ e. runs_script (script_memory six (inl idle) refl none still still_too);
   trust = λ e. runs_answer (λ answer is e three. apart status 6 3 six three refl) (answer_memory six none still still_too);
   prove = λ e. runs_answer (λ answer is e three. apart status 6 3 six three refl) (answer_memory six none still still_too);
   audit = λ e. runs_answer (λ answer is e three. apart status 6 3 six three refl) (answer_memory six none still still_too);

@@ -4,7 +4,7 @@ ghost use Rattle.nx_io.specs.Streams.{Gave, Grows, gained};
 ghost use Rattle.run_streams.specs.Runs.{sink_run, source_run};
 ghost use Rattle.nexus_run.specs.Commanded.{RunsCommand};
 ghost use Rattle.nexus_run.specs.Commands.{IsPlain, compact_words, core_words, drill_words, script_words};
-ghost use Rattle.script_command.specs.Scripts.{panel_run};
+ghost use Rattle.script_command.specs.Scripts.{HasMore, panel_run};
 
 use crate::commands::{Command, command_of, export_of};
 use crate::load::{drill, load};
@@ -58,14 +58,13 @@ where
     ensures sent { Grows (K.sent output.old) (K.sent output.new) }
     ensures recorded { Grows (C.sent records.old) (C.sent records.new) }
     ensures unrecorded { map (λ w. w.now) words.now ≢ compact_words → records.new ≡ records.old }
-    ensures said { Grows (P.said panel) (P.said result.panel) }
+    ensures asked { HasMore (P.history panel) (P.history result.panel) }
     ensures untouched { (result.status ≡ 4) ⊎ (result.status ≡ 6) → output.new ≡ output.old }
     ensures command { RunsCommand (map (λ w. w.now) words.now)
         (source_run (S.left input.old) (S.given input.old) (S.given input.new) (S.over input.new) (S.faults input.old) (S.faults input.new))
         (sink_run (K.sent output.old) (K.sent output.new) (K.faults output.old) (K.faults output.new))
         (sink_run (C.sent records.old) (C.sent records.new) (C.faults records.old) (C.faults records.new))
-        (panel_run (P.said panel) (P.said result.panel) (P.asks panel) (P.asks result.panel) (P.reached panel) (P.reached result.panel)
-        (P.faults panel) (P.faults result.panel))
+        (panel_run (P.history panel) (P.history result.panel))
         result.journal result.status }
     ensures core_reads_nothing { (number steps : ℕ) → map (λ w. w.now) words.now ≡ core_words number steps → input.new ≡ input.old }
     ensures drill_reads_nothing { (number workers calls : ℕ) → map (λ w. w.now) words.now ≡ drill_words number workers calls → input.new ≡ input.old }

@@ -7,14 +7,14 @@ ghost use Rattle.policy_history.specs.declared.events.Entry.{Entry};
 ghost use Rattle.policy_history.specs.Values.{entry_trees};
 ghost use Rattle.nexus_serve.specs.Services.{IsJournal};
 ghost use Rattle.nexus_serve.specs.TrueReports.{AreTrue};
-ghost use Rattle.nexus_serve.specs.Views.{door_view, link_view, panel_view, report_view};
+ghost use Rattle.nexus_serve.specs.Views.{door_view, link_view, report_view};
 ghost use Rattle.nexus_run.specs.Arguments.{words_of_call};
 ghost use Rattle.nexus_client.specs.declared.inputs.TalkInput.{TalkInput};
 ghost use Rattle.service_commands.specs.Clients.{RunsClient};
 ghost use Rattle.nexus_run.specs.Commanded.{RunsCommand};
 ghost use Rattle.nexus_run.specs.Commands.{IsCommand, IsServiceCall, IsTalkCall, compact_words, core_words, drill_words, script_words, serve_words, talk_words};
 ghost use Rattle.service_commands.specs.Services.{IsAddress, IsService, HandsBack, RunsService};
-ghost use Rattle.script_command.specs.Scripts.{panel_run};
+ghost use Rattle.script_command.specs.Scripts.{HasMore, panel_run};
 
 use crate::arguments::{Arguments, texts, words_of_call};
 use crate::program::run;
@@ -76,15 +76,14 @@ where
     ensures recorded { Grows (C.sent records.old) (C.sent records.new) }
     ensures unrecorded { words_of_call (gained (A.told arguments.old) (A.told arguments.new)) ≢ compact_words
         → records.new ≡ records.old }
-    ensures said { Grows (P.said panel) (P.said result.panel) }
+    ensures asked { HasMore (P.history panel) (P.history result.panel) }
     ensures undialed { ¬ IsServiceCall (words_of_call (gained (A.told arguments.old) (A.told arguments.new))) → result.dialed ≡ None → exit_status result.code ≢ 7 → result.door ≡ door }
     ensures untouched { ¬ IsServiceCall (words_of_call (gained (A.told arguments.old) (A.told arguments.new))) → result.dialed ≡ None → (exit_status result.code ≡ 4) ⊎ (exit_status result.code ≡ 6) → HandsBack result.output (λ k. k ≡ output) }
     ensures command { ¬ IsServiceCall (words_of_call (gained (A.told arguments.old) (A.told arguments.new))) → HandsBack result.output (λ k. RunsCommand (words_of_call (gained (A.told arguments.old) (A.told arguments.new)))
         (source_run (S.left input.old) (S.given input.old) (S.given input.new) (S.over input.new) (S.faults input.old) (S.faults input.new))
         (sink_run (K.sent output) (K.sent k) (K.faults output) (K.faults k))
         (sink_run (C.sent records.old) (C.sent records.new) (C.faults records.old) (C.faults records.new))
-        (panel_run (P.said panel) (P.said result.panel) (P.asks panel) (P.asks result.panel) (P.reached panel) (P.reached result.panel)
-        (P.faults panel) (P.faults result.panel))
+        (panel_run (P.history panel) (P.history result.panel))
         result.journal (exit_status result.code)) }
     ensures core_reads_nothing { (number steps : ℕ) → words_of_call (gained (A.told arguments.old) (A.told arguments.new)) ≡ core_words number steps → input.new ≡ input.old }
     ensures drill_reads_nothing { (number workers calls : ℕ) → words_of_call (gained (A.told arguments.old) (A.told arguments.new)) ≡ drill_words number workers calls → input.new ≡ input.old }
@@ -96,7 +95,7 @@ where
         (option_map (link_view D.Link.left D.Link.taken D.Link.sent D.Link.over D.Link.closed D.Link.place D.Link.toward D.Link.faults) result.dialed)
         (exit_status result.code)) }
     ensures serve { (address : List ℕ) (workers sessions : ℕ) → words_of_call (gained (A.told arguments.old) (A.told arguments.new)) ≡ serve_words address workers sessions → IsService address workers sessions
-        → RunsService (panel_view P.said P.asks P.reached P.faults) (record { address = address; workers = workers; sessions = sessions })
+        → RunsService P.history (record { address = address; workers = workers; sessions = sessions })
         (source_run (S.left input.old) (S.given input.old) (S.given input.new) (S.over input.new) (S.faults input.old) (S.faults input.new))
         (record { sent = K.sent output; faults = K.faults output }) (door_view (link_view D.Link.left D.Link.taken D.Link.sent D.Link.over D.Link.closed D.Link.place D.Link.toward D.Link.faults) D.links D.origin D.calls door) panel
         (record {

@@ -1,21 +1,22 @@
 -- How the ends of a run of `script` come from those of its parts.
-use Rattle.std.proofs.Common.{◌≡◌, ◌≢◌, ◌<◌, ◌≤◌, ◌+◌, ◌⊎◌, inl, inr, ℕ, List, ◌++◌, length, Option, Some, None, IsTrue, refl, sym, ap, subst, ◌∙◌, arith}
+use Rattle.std.proofs.Common.{◌≡◌, ◌≢◌, ◌<◌, ◌≤◌, ◌+◌, ◌⊎◌, inl, inr, ℕ, List, [], ◌++◌, length, Option, Some, None, IsTrue, refl, sym, ap, subst, ◌∙◌, append_assoc, arith}
+use Rattle.std.specs.Prelude.{map}
 use Rattle.std.specs.Io.KnownBytes.{IsAtEnd}
 use Rattle.std.specs.List.{All}
+use Rattle.std.proofs.lemmas.List.{append-nil}
 use Rattle.std.proofs.lemmas.List.Elements.{All-cons, All-nil}
-use Rattle.nx_io.specs.Streams.{gained, one_more, prepended}
+use Rattle.nx_io.specs.Streams.{gained, prepended}
 use Rattle.nx_io.proofs.ForCallers.{gained-by, gained-nothing}
 use Rattle.policy_history.specs.declared.heads.Head.{Head}
 use Rattle.policy_history.specs.Events.{EntryTree}
 use Rattle.policy_history.specs.Values.{History, entry_trees, greatest_of}
-use Rattle.guard_core.specs.Judging.{asks_after}
+use Rattle.authority_ask.specs.PanelCalls.{HasOnlyAsked, PanelHistory, asked, asked_since}
 use Rattle.session_wire.specs.declared.replies.Reply.{Reply}
 use Rattle.session_core.proofs.ForCallers.{alone_is_true}
-use Rattle.session_core.specs.Sessions.{Point, Told1, at_start, faults_after_replies}
+use Rattle.session_core.specs.Sessions.{Point, Told1, at_start}
 use Rattle.policy_script.specs.ScriptText.{script_text}
-use Rattle.authority_ask.specs.Panels.{Told, Places}
 use Rattle.session_core.specs.declared.lines.Asking.{Asking}
-use Rattle.session_core.specs.Reaching.{reached_all}
+use Rattle.session_core.specs.Reaching.{reached_at}
 use Rattle.policy_script.specs.ScriptForm.{AreAskings, none, next, IsScript, ScriptTree}
 use Rattle.policy_script.specs.declared.input.ScriptError.{ScriptError}
 use Rattle.policy_script.specs.declared.input.ScriptError.TheVariants.{Wrong, Memory}
@@ -26,13 +27,9 @@ use Rattle.run_streams.specs.declared.outcomes.Outcome.{Outcome}
 use Rattle.run_streams.specs.declared.outcomes.Outcome.TheVariants.{Refused}
 use Rattle.run_streams.specs.Outcomes.{output_of}
 use Rattle.run_streams.specs.Refusals.{IsRefusal, IsRefusalOf, RefusesExactly}
-use Rattle.script_command.specs.Scripts.{EndsScript, answered, cut_off, refused, refusal_cut_off, source_failed, unreached, no_memory, IsAnswered, IsCompleteScript, IsIdle, IsScriptOf, PanelRun, RunsScript, panel_run, script_form}
+use Rattle.script_command.specs.Scripts.{EndsScript, answered, cut_off, refused, refusal_cut_off, source_failed, unreached, no_memory, HasAsked, HasMore, IsAnswered, IsCompleteScript, IsIdle, IsScriptOf, PanelRun, RunsScript, panel_run, script_form}
 use Rattle.run_streams.specs.Telling.{Tells, whole, part, nothing}
 use Rattle.script_command.specs.Inner.ScriptEnds.{script_of, AreAnswered, EndsReached, replied, replied_in_part, not_replied, EndsReplies, reached_and_replied, reached_and_replied_in_part, not_reached, reached_and_not_replied, EndsAnswers, answered as was_answered, cut_off as was_cut_off, unreached as was_unreached, no_memory as had_no_memory}
-
--- a panel of which nothing was wanted
-pub idle : (said : List Told) (asks : ℕ) (reached : Option Places) (faults : ℕ) → IsIdle (panel_run said said asks asks reached reached faults faults)
-idle said asks reached faults = record { said = gained-nothing said; asks = refl; reached = refl; faults = refl }
 
 -- an input in its form that was read whole ends as its answers do
 pub answers_end : (source : SourceRun) (sink : SinkRun) (panel : PanelRun) (journal : Option History) (status : ℕ) (script : ScriptTree) → IsScriptOf source script
@@ -40,25 +37,21 @@ pub answers_end : (source : SourceRun) (sink : SinkRun) (panel : PanelRun) (jour
 answers_end source sink panel journal status script of_source still (was_answered e a f) = answered script e of_source a still f
 answers_end source sink panel journal status script of_source still (was_cut_off text e a p f) = cut_off script text e of_source a p still f
 answers_end source sink panel journal status script of_source still (was_unreached e u j s f) = unreached script e of_source u j s still f
-answers_end source sink panel journal status script of_source still (had_no_memory e s f) = no_memory e s still f
+answers_end source sink panel journal status script of_source still (had_no_memory said e a for j s f) = no_memory e (inr (script, said, of_source, a, for)) j s still f
 
 -- what was answered, and its text
-pub are_answered : (journal last : History) (askings : List Asking) (first : ℕ) (said said_now : List Told) (asks asks_now : ℕ) (reached reached_now : Option Places) (faults faults_now : ℕ)
-    (replies : List Reply) (text : List ℕ)
-    → ((point : Point) × Told1 journal.head first (at_start (entry_trees journal.entries)) askings replies (gained said said_now) point × (point.entries ≡ entry_trees last.entries))
+pub are_answered : (journal last : History) (askings : List Asking) (first : ℕ) (before now : PanelHistory) (replies : List Reply) (text : List ℕ)
+    → ((point : Point) × Told1 journal.head first (at_start (entry_trees journal.entries)) askings replies (asked_since before now) point × (point.entries ≡ entry_trees last.entries))
     → first ≡ greatest_of (entry_trees journal.entries) + 1 → last.head ≡ journal.head → text ≡ script_text replies last.head (entry_trees last.entries)
-    → asks_now ≡ asks_after (gained said said_now) asks → reached_now ≡ reached → faults_now ≡ faults_after_replies replies faults
-    → AreAnswered (script_of journal askings) last (panel_run said said_now asks asks_now reached reached_now faults faults_now) text
-are_answered journal last askings first said said_now asks asks_now reached reached_now faults faults_now replies text told number head text_is a r f = record {
+    → HasOnlyAsked before now → AreAnswered (script_of journal askings) last (panel_run before now) text
+are_answered journal last askings first before now replies text told number head text_is only = record {
   replies = replies;
   point = told.0;
-  told = subst (λ n. Told1 journal.head n (at_start (entry_trees journal.entries)) askings replies (gained said said_now) told.0) number told.1;
+  told = subst (λ n. Told1 journal.head n (at_start (entry_trees journal.entries)) askings replies (asked_since before now) told.0) number told.1;
   head = head;
   entries = told.2;
   text_is = text_is ∙ ap (λ (h : Head). script_text replies h (entry_trees last.entries)) head ∙ ap (λ (es : List EntryTree). script_text replies journal.head es) (sym told.2);
-  reached = r;
-  asks = a;
-  faults = f;
+  only_asked = only;
 }
 
 -- the text of an answered script, as the sink tells it
@@ -66,56 +59,44 @@ pub text_sent : (script : ScriptTree) (last : History) (panel : PanelRun) (befor
     → AreAnswered script last panel (gained before now)
 text_sent script last panel before now text sent a = subst (λ (bytes : List ℕ). AreAnswered script last panel bytes) (sym (gained-by before now text sent)) a
 
+-- nothing but asks was made of a panel of which each authority was reached
+has_asked : (script : ScriptTree) (before mid now : PanelHistory) → mid ≡ record before { calls = before.calls ++ map reached_at script.head.authorities } → HasOnlyAsked mid now
+    → HasAsked script (asked_since mid now) (panel_run before now)
+has_asked script before mid now all only =
+    let said = asked_since mid now in
+    only ∙ ap (λ (m : PanelHistory). record m { calls = m.calls ++ map asked said }) all
+    ∙ ap (λ calls. record before { calls = calls }) (append_assoc before.calls (map reached_at script.head.authorities) (map asked said))
+
 -- what the authorities were reached for
-with_reached : (script : ScriptTree) (last : History) (said said_now : List Told) (asks asks_now : ℕ) (reached mid now : Option Places) (faults faults_now : ℕ) (text : List ℕ)
-    → mid ≡ reached_all script.head.authorities reached → AreAnswered script last (panel_run said said_now asks asks_now mid now faults faults_now) text
-    → IsAnswered script (panel_run said said_now asks asks_now reached now faults faults_now) (Some last) text
-with_reached script last said said_now asks asks_now reached mid now faults faults_now text all a = record {
+with_reached : (script : ScriptTree) (last : History) (before mid now : PanelHistory) (text : List ℕ) → mid ≡ record before { calls = before.calls ++ map reached_at script.head.authorities }
+    → AreAnswered script last (panel_run mid now) text → IsAnswered script (panel_run before now) (Some last) text
+with_reached script last before mid now text all a = record {
+  said = asked_since mid now;
+  calls = has_asked script before mid now all a.only_asked;
   replies = a.replies;
   last = a.point;
-  reached = a.reached ∙ all;
   told = a.told;
-  truth = alone_is_true script.head (greatest_of script.entries + 1) script.entries script.askings a.replies (gained said said_now) a.point a.told;
+  truth = alone_is_true script.head (greatest_of script.entries + 1) script.entries script.askings a.replies (asked_since mid now) a.point a.told;
   handed = (a.head, sym a.entries);
   text_is = a.text_is;
-  asks = a.asks;
-  faults = a.faults;
 }
 
-pub reached_end : (script : ScriptTree) (last : History) (sink : SinkRun) (said said_now : List Told) (asks asks_now : ℕ) (reached mid now : Option Places) (faults faults_now status : ℕ)
-    → mid ≡ reached_all script.head.authorities reached → EndsReached script last sink (panel_run said said_now asks asks_now mid now faults faults_now) status
-    → EndsReplies script last sink (panel_run said said_now asks asks_now reached now faults faults_now) status
-reached_end script last sink said said_now asks asks_now reached mid now faults faults_now status all (replied e a f) =
-    reached_and_replied e (with_reached script last said said_now asks asks_now reached mid now faults faults_now sink.sent all a) f
-reached_end script last sink said said_now asks asks_now reached mid now faults faults_now status all (replied_in_part text e a p f) =
-    reached_and_replied_in_part text e (with_reached script last said said_now asks asks_now reached mid now faults faults_now text all a) p f
-reached_end script last sink said said_now asks asks_now reached mid now faults faults_now status all (not_replied e s f) = reached_and_not_replied e s f
-
-pub reach_end : (script : ScriptTree) (last : History) (sink : SinkRun) (said mid_said said_now : List Told) (asks mid_asks asks_now : ℕ) (reached mid now : Option Places)
-    (faults mid_faults faults_now status : ℕ) → mid_said ≡ said → mid_asks ≡ asks → mid_faults ≡ faults → mid ≡ reached_all script.head.authorities reached
-    → EndsReached script last sink (panel_run mid_said said_now mid_asks asks_now mid now mid_faults faults_now) status
-    → EndsReplies script last sink (panel_run said said_now asks asks_now reached now faults faults_now) status
-reach_end script last sink said mid_said said_now asks mid_asks asks_now reached mid now faults mid_faults faults_now status p q r all e =
-    let by_said = subst (λ (x : List Told). EndsReached script last sink (panel_run x said_now mid_asks asks_now mid now mid_faults faults_now) status) p e in
-    let by_asks = subst (λ (x : ℕ). EndsReached script last sink (panel_run said said_now x asks_now mid now mid_faults faults_now) status) q by_said in
-    let by_faults = subst (λ (x : ℕ). EndsReached script last sink (panel_run said said_now asks asks_now mid now x faults_now) status) r by_asks in
-    reached_end script last sink said said_now asks asks_now reached mid now faults faults_now status all by_faults
-
-pub unreached_end : (script : ScriptTree) (last : History) (before : List ℕ) (u : ℕ) (said said_now : List Told) (asks asks_now : ℕ) (reached now : Option Places) (faults faults_now : ℕ)
-    → said_now ≡ said → asks_now ≡ asks → faults_now ≡ one_more faults
-    → EndsReplies script last (record { sent = gained before before; faults = u; faults_now = u }) (panel_run said said_now asks asks_now reached now faults faults_now) 8
-unreached_end script last before u said said_now asks asks_now reached now faults faults_now p q r =
-    not_reached refl (record { said = rw p (gained-nothing said); asks = q; faults = r }) (gained-nothing before) refl
+pub reached_end : (script : ScriptTree) (last : History) (sink : SinkRun) (before mid now : PanelHistory) (status : ℕ)
+    → mid ≡ record before { calls = before.calls ++ map reached_at script.head.authorities } → EndsReached script last sink (panel_run mid now) status
+    → EndsReplies script last sink (panel_run before now) status
+reached_end script last sink before mid now status all (replied e a f) = reached_and_replied e (with_reached script last before mid now sink.sent all a) f
+reached_end script last sink before mid now status all (replied_in_part text e a p f) = reached_and_replied_in_part text e (with_reached script last before mid now text all a) p f
+reached_end script last sink before mid now status all (not_replied e only for s f) = reached_and_not_replied (asked_since mid now) e (has_asked script before mid now all only) for s f
 
 -- the journal is handed back where the replies were to be written
 pub handed_end : (script : ScriptTree) (last : History) (sink : SinkRun) (panel : PanelRun) (journal : Option History) (status : ℕ)
-    → ((status ≡ 0) ⊎ (status ≡ 5) → journal ≡ Some last) → (status ≡ 8 → journal ≡ None) → EndsReplies script last sink panel status → EndsAnswers script sink panel journal status
-handed_end script last sink panel journal status some no_journal (reached_and_replied e a f) =
+    → ((status ≡ 0) ⊎ (status ≡ 5) → journal ≡ Some last) → (status ≡ 8 → journal ≡ None) → (status ≡ 6 → journal ≡ None) → EndsReplies script last sink panel status → EndsAnswers script sink panel journal status
+handed_end script last sink panel journal status some no_journal lost (reached_and_replied e a f) =
     was_answered e (subst (λ (j : Option History). IsAnswered script panel j sink.sent) (sym (some (inl e))) a) f
-handed_end script last sink panel journal status some no_journal (reached_and_replied_in_part text e a p f) =
+handed_end script last sink panel journal status some no_journal lost (reached_and_replied_in_part text e a p f) =
     was_cut_off text e (subst (λ (j : Option History). IsAnswered script panel j text) (sym (some (inr e))) a) p f
-handed_end script last sink panel journal status some no_journal (not_reached e u s f) = was_unreached e u (no_journal e) s f
-handed_end script last sink panel journal status some no_journal (reached_and_not_replied e s f) = had_no_memory e s f
+handed_end script last sink panel journal status some no_journal lost (not_reached e u s f) = was_unreached e u (no_journal e) s f
+handed_end script last sink panel journal status some no_journal lost (reached_and_not_replied said e a for s f) = had_no_memory said e a for (lost e) s f
 
 -- each request's session has a place among the 64
 pub places : {text : List ℕ} {askings : List Asking} → AreAskings text askings → All (λ (a : Asking). a.place < 64) askings
@@ -140,7 +121,7 @@ pub refusal_ends : (source : SourceRun) (panel : PanelRun) (journal : Option His
 refusal_ends source panel journal status outcome before now u v r still i j (whole e w f) =
     refused outcome (e ∙ refusal_status script_form source.given outcome r.refusal) r i j (gained-by before now (output_of outcome) w) still f
 refusal_ends source panel journal status outcome before now u v r still i j (part e w f) = refusal_cut_off outcome e r i j (w.0, w.1, gained-by before now _ w.2) still f
-refusal_ends source panel journal status outcome before now u v r still i j (nothing e w f) = no_memory e (rw w (gained-nothing before)) still f
+refusal_ends source panel journal status outcome before now u v r still i j (nothing e w f) = no_memory e (inl i) j (rw w (gained-nothing before)) still f
 
 complete : (source : SourceRun) (sink : SinkRun) (panel : PanelRun) (journal : Option History) (status : ℕ) → EndsScript source sink panel journal status
     → IsCompleteScript source sink panel journal status
@@ -149,8 +130,8 @@ complete source sink panel journal status (cut_off script text e s a cut f g) = 
 complete source sink panel journal status (refused outcome e r i j s f g) = λ p q t form. absurd (form (refused_by script_form source.given outcome r.refusal))
 complete source sink panel journal status (refusal_cut_off outcome e r i j s f g) = λ p q t form. absurd (q (rw g (omega arith)))
 complete source sink panel journal status (source_failed e i j s f g) = λ p q r form. absurd (p (rw f (omega arith)))
-complete source sink panel journal status (unreached script e s u j n f g) = λ p q r form. absurd (r ((rw u.faults (omega arith)), u.asks))
-complete source sink panel journal status (no_memory e s f g) = λ p q r form. inl e
+complete source sink panel journal status (unreached script e s u j n f g) = λ p q r form. absurd (r (script, u))
+complete source sink panel journal status (no_memory e b j s f g) = λ p q r form. inl e
 
 refuses : (source : SourceRun) (sink : SinkRun) (panel : PanelRun) (journal : Option History) (status : ℕ) → EndsScript source sink panel journal status
     → RefusesExactly script_form source status
@@ -162,7 +143,7 @@ refuses source sink panel journal status (refusal_cut_off outcome e r i j s f g)
 refuses source sink panel journal status (source_failed e i j s f g) = λ x y z. absurd (x e)
 refuses source sink panel journal status (unreached script e s u j n f g) = λ x y z.
     ((λ h. absurd (apart status 8 3 e h refl)), λ r. absurd (not_refused script_form source.given s.form.0 (script, s.form) r))
-refuses source sink panel journal status (no_memory e s f g) = λ x y z. absurd (z e)
+refuses source sink panel journal status (no_memory e b j s f g) = λ x y z. absurd (z e)
 
 -- what ends a run of `script` is a run of `script`
 pub runs_script : {source : SourceRun} {sink : SinkRun} {panel : PanelRun} {journal : Option History} {status : ℕ} → EndsScript source sink panel journal status
@@ -172,3 +153,18 @@ runs_script {source = source} {sink = sink} {panel = panel} {journal = journal} 
   complete = complete source sink panel journal status e;
   refuses = refuses source sink panel journal status e;
 }
+
+-- ---- A panel forgets nothing
+
+pub more_nothing : {before now : PanelHistory} → now ≡ before → HasMore before now
+more_nothing {before = before} same = ([], same ∙ ap (λ calls. record before { calls = calls }) (sym (append-nil before.calls)))
+
+pub has_more : {source : SourceRun} {sink : SinkRun} {panel : PanelRun} {journal : Option History} {status : ℕ} → EndsScript source sink panel journal status → HasMore panel.before panel.now
+has_more (answered script e s a f g) = (_, a.calls)
+has_more (cut_off script text e s a cut f g) = (_, a.calls)
+has_more (refused outcome e r i j s f g) = more_nothing i
+has_more (refusal_cut_off outcome e r i j s f g) = more_nothing i
+has_more (source_failed e i j s f g) = more_nothing i
+has_more (unreached script e s u j n f g) = (_, u.3)
+has_more (no_memory e (inl i) j s f g) = more_nothing i
+has_more (no_memory e (inr a) j s f g) = (_, a.3)

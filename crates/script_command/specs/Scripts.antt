@@ -1,16 +1,17 @@
 -- How a run of `script` ends: the status, what the source gave, what authorities were asked, the journal that is handed
 -- back, and what was written.
-use Rattle.std.specs.Prelude.{◌≡◌, ◌+◌, ◌⊎◌, ℕ, List, [], Option, Some, None}
-use Rattle.nx_io.specs.Streams.{Rose, gained, one_more}
+use Rattle.std.specs.Prelude.{◌≡◌, ◌+◌, ◌++◌, ◌⊎◌, ℕ, List, [], map, Option, Some, None}
+use Rattle.nx_io.specs.declared.streams.Reach.TheVariants.{Failed}
+use Rattle.nx_io.specs.Streams.{Rose, one_more}
 use Rattle.policy_history.specs.declared.heads.Head.{Head}
 use Rattle.policy_history.specs.Events.{EntryTree}
 use Rattle.policy_history.specs.Values.{History, entry_trees, greatest_of}
-use Rattle.authority_ask.specs.Panels.{Places, Told}
-use Rattle.guard_core.specs.Judging.{asks_after}
+use Rattle.authority_ask.specs.PanelCalls.{PanelCall, PanelHistory, asked}
+use Rattle.authority_ask.specs.Panels.{Told}
 use Rattle.session_wire.specs.declared.replies.Reply.{Reply}
 use Rattle.session_core.specs.Earned.{IsTrueAlone}
-use Rattle.session_core.specs.Reaching.{reached_all}
-use Rattle.session_core.specs.Sessions.{Point, Told1, at_start, faults_after_replies}
+use Rattle.session_core.specs.Reaching.{HaveReached, reached_at}
+use Rattle.session_core.specs.Sessions.{Point, Told1, at_start}
 use Rattle.policy_script.specs.ScriptForm.{IsScript, IsWrongScript, ScriptTree}
 use Rattle.policy_script.specs.ScriptText.{script_text}
 use Rattle.run_streams.specs.Runs.{IsProperPart, IsReadWhole, SinkRun, SourceRun}
@@ -18,46 +19,41 @@ use Rattle.run_streams.specs.declared.outcomes.Outcome.{Outcome}
 use Rattle.run_streams.specs.Outcomes.{output_of}
 use Rattle.run_streams.specs.Refusals.{Form, IsRefusalOf, IsRefusedInput, RefusesExactly, form_of}
 
--- a panel in a run: what it was asked, and its counts and addresses, before and after
+-- a panel in a run: its calls before and after
 pub record PanelRun : Type 0 where
-  pub said : List Told
-  pub asks : ℕ
-  pub asks_now : ℕ
-  pub reached : Option Places
-  pub reached_now : Option Places
-  pub faults : ℕ
-  pub faults_now : ℕ
+  pub before : PanelHistory
+  pub now : PanelHistory
 
 -- what a panel did in a run, by what it tells before and after
-abbrev pub panel_run : List Told → List Told → ℕ → ℕ → Option Places → Option Places → ℕ → ℕ → PanelRun
-panel_run said said_now asks asks_now reached reached_now faults faults_now = record {
-  said = gained said said_now;
-  asks = asks;
-  asks_now = asks_now;
-  reached = reached;
-  reached_now = reached_now;
-  faults = faults;
-  faults_now = faults_now;
-}
+abbrev pub panel_run : PanelHistory → PanelHistory → PanelRun
+panel_run before now = record { before = before; now = now }
+
+-- the calls before begin those after: nothing that a panel told is gone
+abbrev pub HasMore : PanelHistory → PanelHistory → Type 0
+HasMore before now = (more : List PanelCall) × (now ≡ record before { calls = before.calls ++ more })
+
+-- Each authority of the script was reached, in the order of the policy text, and only then was this asked, in this order. No other call was
+-- made of the panel.
+abbrev pub HasAsked : ScriptTree → List Told → PanelRun → Type 0
+HasAsked script said panel = panel.now ≡ record panel.before { calls = panel.before.calls ++ (map reached_at script.head.authorities ++ map asked said) }
 
 -- the journal that is handed back has this head and these entries
 abbrev pub IsHanded : Option History → Head → List EntryTree → Type 0
 IsHanded None h es = ⊥
 IsHanded (Some journal) h es = (journal.head ≡ h) × (entry_trees journal.entries ≡ es)
 
--- The script was answered, and this is its text: each authority was reached; the requests, in sessions that are numbered
--- behind the greatest session of the policy, got these replies, with the answers that authorities gave in this run; the journal
--- that they left is handed back; and the text is the lines of the replies, and then the policy's. What calls were told is true.
+-- The script was answered, and this is its text: each authority was reached, and then this was asked; the requests, in sessions that are
+-- numbered behind the greatest session of the policy, got these replies, with the answers of these asks; the journal that they left is
+-- handed back; and the text is the lines of the replies, and then the policy's. What calls were told is true.
 pub record IsAnswered (script : ScriptTree) (panel : PanelRun) (journal : Option History) (text : List ℕ) : Type 0 where
+  pub said : List Told
+  pub calls : HasAsked script said panel
   pub replies : List Reply
   pub last : Point
-  pub reached : panel.reached_now ≡ reached_all script.head.authorities panel.reached
-  pub told : Told1 script.head (greatest_of script.entries + 1) (at_start script.entries) script.askings replies panel.said last
-  pub truth : IsTrueAlone script.head (greatest_of script.entries + 1) last.entries script.askings replies panel.said
+  pub told : Told1 script.head (greatest_of script.entries + 1) (at_start script.entries) script.askings replies said last
+  pub truth : IsTrueAlone script.head (greatest_of script.entries + 1) last.entries script.askings replies said
   pub handed : IsHanded journal script.head last.entries
   pub text_is : text ≡ script_text replies script.head last.entries
-  pub asks : panel.asks_now ≡ asks_after panel.said panel.asks
-  pub faults : panel.faults_now ≡ faults_after_replies replies panel.faults
 
 -- the form of a script's inputs
 abbrev pub script_form : Form
@@ -68,18 +64,24 @@ pub record IsScriptOf (source : SourceRun) (script : ScriptTree) : Type 0 where
   pub form : IsScript source.given script
   pub whole : IsReadWhole source
 
--- nobody was asked, and no authority was reached
-pub record IsIdle (panel : PanelRun) : Type 0 where
-  pub said : panel.said ≡ []
-  pub asks : panel.asks_now ≡ panel.asks
-  pub reached : panel.reached_now ≡ panel.reached
-  pub faults : panel.faults_now ≡ panel.faults
+-- no call was made of the panel
+abbrev pub IsIdle : PanelRun → Type 0
+IsIdle panel = panel.now ≡ panel.before
 
--- an authority could not be reached: the panel failed, and nobody was asked
-pub record IsUnreached (panel : PanelRun) : Type 0 where
-  pub said : panel.said ≡ []
-  pub asks : panel.asks_now ≡ panel.asks
-  pub faults : panel.faults_now ≡ one_more panel.faults
+-- An authority of the script could not be reached. Those before it were, and no other call was made of the panel.
+abbrev pub IsUnreached : ScriptTree → PanelRun → Type 0
+IsUnreached script panel = HaveReached Failed script.head.authorities panel.before panel.now
+
+-- what was asked for a script: nothing, or exactly what its requests ask, each of which was told its reply
+abbrev pub AreAskedFor : ScriptTree → List Told → Type 0
+AreAskedFor script said =
+    (said ≡ []) ⊎ ((replies : List Reply) × (last : Point) × Told1 script.head (greatest_of script.entries + 1) (at_start script.entries) script.askings replies said last)
+
+-- There was no memory. No call was made of the panel; or each authority of the script of the input was reached, and then nothing was asked, or
+-- what its requests ask.
+abbrev pub IsBrokenOff : SourceRun → PanelRun → Type 0
+IsBrokenOff source panel =
+    IsIdle panel ⊎ ((script : ScriptTree) × (said : List Told) × IsScriptOf source script × HasAsked script said panel × AreAskedFor script said)
 
 -- `script` ends with this status: its text is written, or a proper part of it, since the sink failed; a refusal is written, or a
 -- proper part of it; the source failed; an authority could not be reached; or there was no memory. A failure of the source or
@@ -95,15 +97,15 @@ pub data EndsScript (source : SourceRun) (sink : SinkRun) (panel : PanelRun) (jo
       → source.faults_now ≡ source.faults → sink.faults_now ≡ one_more sink.faults → EndsScript source sink panel journal status
   source_failed : status ≡ 4 → IsIdle panel → journal ≡ None → sink.sent ≡ []
       → source.faults_now ≡ one_more source.faults → sink.faults_now ≡ sink.faults → EndsScript source sink panel journal status
-  unreached : (script : ScriptTree) → status ≡ 8 → IsScriptOf source script → IsUnreached panel → journal ≡ None → sink.sent ≡ []
+  unreached : (script : ScriptTree) → status ≡ 8 → IsScriptOf source script → IsUnreached script panel → journal ≡ None → sink.sent ≡ []
       → source.faults_now ≡ source.faults → sink.faults_now ≡ sink.faults → EndsScript source sink panel journal status
-  no_memory : status ≡ 6 → sink.sent ≡ [] → source.faults_now ≡ source.faults → sink.faults_now ≡ sink.faults → EndsScript source sink panel journal status
+  no_memory : status ≡ 6 → IsBrokenOff source panel → journal ≡ None → sink.sent ≡ [] → source.faults_now ≡ source.faults → sink.faults_now ≡ sink.faults → EndsScript source sink panel journal status
 
--- Where neither the source nor the sink failed, and the panel did not before it was asked, an input that is not refused is
--- answered whole, or there was no memory.
+-- Where neither the source nor the sink failed, and no authority failed to be reached, an input that is not refused is answered whole, or
+-- there was no memory.
 abbrev pub IsCompleteScript : SourceRun → SinkRun → PanelRun → Option History → ℕ → Type 0
 IsCompleteScript source sink panel journal status =
-    ¬ Rose source.faults source.faults_now → ¬ Rose sink.faults sink.faults_now → ¬ (Rose panel.faults panel.faults_now × (panel.asks_now ≡ panel.asks))
+    ¬ Rose source.faults source.faults_now → ¬ Rose sink.faults sink.faults_now → ¬ ((script : ScriptTree) × IsUnreached script panel)
     → ¬ IsRefusedInput script_form source.given
     → (status ≡ 6) ⊎ ((status ≡ 0) × (script : ScriptTree) × IsScriptOf source script × IsAnswered script panel journal sink.sent)
 

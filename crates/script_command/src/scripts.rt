@@ -44,13 +44,11 @@ where
     R: Net<Listener = TcpListener, Stream = TcpStream> + Clock,
     ensures gave { Gave (S.left input.old) (S.left input.new) (S.given input.old) (S.given input.new) }
     ensures sent { Grows (K.sent output.old) (K.sent output.new) }
-    ensures said { Grows (P.said panel) (P.said result.panel) }
     ensures untouched { (result.status ≡ 4) ⊎ (result.status ≡ 6) → output.new ≡ output.old }
     ensures ends { EndsScript
         (source_run (S.left input.old) (S.given input.old) (S.given input.new) (S.over input.new) (S.faults input.old) (S.faults input.new))
         (sink_run (K.sent output.old) (K.sent output.new) (K.faults output.old) (K.faults output.new))
-        (panel_run (P.said panel) (P.said result.panel) (P.asks panel) (P.asks result.panel) (P.reached panel) (P.reached result.panel)
-        (P.faults panel) (P.faults result.panel))
+        (panel_run (P.history panel) (P.history result.panel))
         result.journal result.status }
 {
     match read_input(alloc, input) {
@@ -117,12 +115,10 @@ where
     requires below { AreBelow most_session (entry_trees journal.entries) }
     requires places { All (λ a. a.place < 64) askings.now }
     ensures sent { Grows (K.sent output.old) (K.sent output.new) }
-    ensures said { Grows (P.said panel) (P.said result.panel) }
     ensures untouched { (result.status ≡ 4) ⊎ (result.status ≡ 6) → output.new ≡ output.old }
     ensures ends { EndsAnswers (script_of journal askings.now)
         (sink_run (K.sent output.old) (K.sent output.new) (K.faults output.old) (K.faults output.new))
-        (panel_run (P.said panel) (P.said result.panel) (P.asks panel) (P.asks result.panel) (P.reached panel) (P.reached result.panel)
-        (P.faults panel) (P.faults result.panel))
+        (panel_run (P.history panel) (P.history result.panel))
         result.journal result.status }
 {
     let mut journal = journal;
@@ -140,6 +136,7 @@ where
 fn handed(status: u8, journal: Journal) -> Option<Journal>
     ensures written { (status ≡ 0) ⊎ (status ≡ 5) → result ≡ Some journal }
     ensures unreached { status ≡ 8 → result ≡ None }
+    ensures memory { status ≡ 6 → result ≡ None }
 {
     if status == 0 || status == 5 {
         Some(journal)
@@ -163,12 +160,10 @@ where
     requires below { AreBelow most_session (entry_trees journal.old.entries) }
     requires places { All (λ a. a.place < 64) askings.now }
     ensures sent { Grows (K.sent output.old) (K.sent output.new) }
-    ensures said { Grows (P.said panel.old) (P.said panel.new) }
     ensures untouched { (result ≡ 4) ⊎ (result ≡ 6) → output.new ≡ output.old }
     ensures ends { EndsReplies (script_of journal.old askings.now) journal.new
         (sink_run (K.sent output.old) (K.sent output.new) (K.faults output.old) (K.faults output.new))
-        (panel_run (P.said panel.old) (P.said panel.new) (P.asks panel.old) (P.asks panel.new) (P.reached panel.old) (P.reached panel.new)
-        (P.faults panel.old) (P.faults panel.new))
+        (panel_run (P.history panel.old) (P.history panel.new))
         result }
 {
     match reach_all(rt, journal.head(), panel) {
@@ -191,12 +186,10 @@ where
     requires below { AreBelow most_session (entry_trees journal.old.entries) }
     requires places { All (λ a. a.place < 64) askings.now }
     ensures sent { Grows (K.sent output.old) (K.sent output.new) }
-    ensures said { Grows (P.said panel.old) (P.said panel.new) }
     ensures untouched { (result ≡ 4) ⊎ (result ≡ 6) → output.new ≡ output.old }
     ensures ends { EndsReached (script_of journal.old askings.now) journal.new
         (sink_run (K.sent output.old) (K.sent output.new) (K.faults output.old) (K.faults output.new))
-        (panel_run (P.said panel.old) (P.said panel.new) (P.asks panel.old) (P.asks panel.new) (P.reached panel.old) (P.reached panel.new)
-        (P.faults panel.old) (P.faults panel.new))
+        (panel_run (P.history panel.old) (P.history panel.new))
         result }
 {
     let first = journal.greatest_session() + 1;

@@ -1,10 +1,11 @@
 -- How the ends of a run of `serve` come from those of its parts.
+use Rattle.std.specs.Prelude.{◌-◌, ◌^◌, map, min, take}
 use Rattle.std.proofs.Common.{◌≡◌, ◌≢◌, ◌≤◌, ◌==◌, ◌⊎◌, ◌+◌, ◌++◌, cond, inl, inr, ℕ, Bool, true, false, List, [], ◌∷◌, length, Option, Some, IsTrue, refl, sym, ap, subst, ◌∙◌, arith}
 use Rattle.std.proofs.lemmas.Bool.Decides.{Decides-eqb}
 use Rattle.std.proofs.lemmas.List.Sums.{sum_by-append, sum_by-cons}
 use Rattle.std.specs.Io.KnownBytes.{IsAtEnd}
 use Rattle.std.specs.List.{count_by}
-use Rattle.nx_io.specs.DoorCalls.{DoorCall, faults_in, is_fault, not_listened, not_shared}
+use Rattle.nx_io.specs.DoorCalls.{faults_in, is_fault, not_listened, not_shared}
 use Rattle.nx_io.specs.Streams.{Rose, prepended}
 use Rattle.policy_history.specs.declared.events.Entry.{Entry}
 use Rattle.policy_history.specs.declared.heads.Head.{Head}
@@ -15,9 +16,12 @@ use Rattle.journal_text.specs.PolicyText.{formless, refusal}
 use Rattle.journal_text.specs.declared.policy_reader.PolicyError.TheVariants.{Bad as BadLine, Refused as RefusedLine}
 use Rattle.nexus_serve.specs.declared.service.ServeEnd.{ServeEnd}
 use Rattle.nexus_serve.specs.declared.service.ServeEnd.TheVariants.{Done, DoorFault, Memory}
-use Rattle.nexus_serve.specs.Views.{DoorView, PanelView}
+use Rattle.authority_ask.specs.PanelCalls.{PanelHistory}
+use Rattle.authority_ask.specs.PanelCalls as panels
+use Rattle.session_core.specs.Reaching.{reached_at}
+use Rattle.nexus_serve.specs.Views.{DoorView}
 use Rattle.nexus_serve.specs.Services.{IsTextSent, Serves, SinkView, whole as text_whole, line_cut, end_cut, done, unopened, no_memory as nothing_served}
-use Rattle.nexus_serve.specs.Hosting.{AreReady, HasFailed, Hosts, Plan, not_heard, not_made, ready_calls, served, status_of, unheard, unreached, unready}
+use Rattle.nexus_serve.specs.Hosting.{AreReady, HasFailed, HasFailedPanel, Hosts, Plan, not_heard, not_made, not_reached, panel_calls, ready_calls, served, status_of, unheard, unreached, unready, unshared}
 use Rattle.run_streams.specs.Runs.{SourceRun, most_bytes}
 use Rattle.run_streams.proofs.ForCallers.{read_whole, not_refused, refusal_status, refused_by, apart}
 use Rattle.run_streams.specs.declared.outcomes.Outcome.{Outcome}
@@ -30,18 +34,30 @@ use Rattle.service_commands.specs.Inner.ServiceEnds.{IsWrongText}
 use Rattle.service_commands.specs.Services.{EndedView, EndsService, IsCompleteService, IsPolicy, IsPolicyOf, IsServedWhole, IsUnbegun, IsWrongPolicy, RunsService, hosted, hosted_of, in_policy, most_session, no_memory, policy_form, refusal_cut_off, refused, source_failed}
 
 -- a count over more calls rose where one of these failed
-more_faults : (calls more : List DoorCall) (last : DoorCall) → is_fault last ≡ true → Rose (faults_in calls) (faults_in (calls ++ (more ++ last ∷ [])))
-more_faults calls more last is =
-    let one : count_by is_fault (last ∷ []) ≡ 1 = sum_by-cons (λ c. cond (is_fault c) 1 0) last [] ∙ ap (λ b. cond b 1 0 + 0) is in
-    let rest : count_by is_fault (more ++ last ∷ []) ≡ count_by is_fault more + count_by is_fault (last ∷ []) = sum_by-append (λ c. cond (is_fault c) 1 0) more (last ∷ []) in
-    let all : count_by is_fault (calls ++ (more ++ last ∷ [])) ≡ count_by is_fault calls + count_by is_fault (more ++ last ∷ []) = sum_by-append (λ c. cond (is_fault c) 1 0) calls (more ++ last ∷ []) in
+more_faults : {Call : Type 0} (fails : Call → Bool) (calls more : List Call) (last : Call) → fails last ≡ true
+    → Rose (min (count_by fails calls) (2 ^ 64 - 1)) (min (count_by fails (calls ++ (more ++ last ∷ []))) (2 ^ 64 - 1))
+more_faults fails calls more last is =
+    let one : count_by fails (last ∷ []) ≡ 1 = sum_by-cons (λ c. cond (fails c) 1 0) last [] ∙ ap (λ b. cond b 1 0 + 0) is in
+    let rest : count_by fails (more ++ last ∷ []) ≡ count_by fails more + count_by fails (last ∷ []) = sum_by-append (λ c. cond (fails c) 1 0) more (last ∷ []) in
+    let all : count_by fails (calls ++ (more ++ last ∷ [])) ≡ count_by fails calls + count_by fails (more ++ last ∷ []) = sum_by-append (λ c. cond (fails c) 1 0) calls (more ++ last ∷ []) in
     omega (arith, all, rest, one)
 
 -- a door that could not be made ready has failed
-failed_rose : {address : List ℕ} {workers shares : ℕ} {door door_now : DoorView} → HasFailed address workers shares door door_now → Rose (faults_in door.calls) (faults_in door_now.calls)
-failed_rose {address = address} {door = door} (not_heard none called) = subst (λ (d : DoorView). Rose (faults_in door.calls) (faults_in d.calls)) (sym called) (more_faults door.calls [] (not_listened address) refl)
-failed_rose {address = address} {shares = shares} {door = door} (not_made few called) =
-    subst (λ (d : DoorView). Rose (faults_in door.calls) (faults_in d.calls)) (sym called) (more_faults door.calls (ready_calls address shares) not_shared refl)
+door_rose : {address : List ℕ} {workers shares : ℕ} {door door_now : DoorView} → HasFailed address workers shares door door_now → Rose (faults_in door.calls) (faults_in door_now.calls)
+door_rose {address = address} {door = door} (not_heard none called) =
+    subst (λ (d : DoorView). Rose (faults_in door.calls) (faults_in d.calls)) (sym called) (more_faults is_fault door.calls [] (not_listened address) refl)
+door_rose {address = address} {shares = shares} {door = door} (not_made few called) =
+    subst (λ (d : DoorView). Rose (faults_in door.calls) (faults_in d.calls)) (sym called) (more_faults is_fault door.calls (ready_calls address shares) not_shared refl)
+
+-- and so has a panel
+panel_rose : {head : Head} {workers shares : ℕ} {asked asked_now : PanelHistory} → HasFailedPanel head workers shares asked asked_now
+    → Rose (panels.faults_in asked.calls) (panels.faults_in asked_now.calls)
+panel_rose {head = head} {asked = asked} (not_reached none (count, a, is, called)) =
+    subst (λ (p : PanelHistory). Rose (panels.faults_in asked.calls) (panels.faults_in p.calls)) (sym called)
+    (more_faults panels.is_fault asked.calls (map reached_at (take count head.authorities)) (panels.not_reached a.port a.address) refl)
+panel_rose {head = head} {shares = shares} {asked = asked} (unshared few called) =
+    subst (λ (p : PanelHistory). Rose (panels.faults_in asked.calls) (panels.faults_in p.calls)) (sym called)
+    (more_faults panels.is_fault asked.calls (panel_calls head shares) panels.not_shared refl)
 
 -- ---- The input
 
@@ -90,7 +106,7 @@ never_three false Memory e = apart (status_of false Memory) 6 3 refl e refl
 
 -- ---- The run
 
-module _ {P : Type 0} (panel : P → PanelView) (plan : Plan) (source : SourceRun) (sink : SinkView) (door : DoorView) (asked : P) (ended : EndedView P) where
+module _ {P : Type 0} (panel : P → PanelHistory) (plan : Plan) (source : SourceRun) (sink : SinkView) (door : DoorView) (asked : P) (ended : EndedView P) where
   -- a refusal that was told
   pub policy_refusal_ends : (outcome : Outcome) (sink_now : SinkView) → IsRefusalOf (policy_form (most_session plan)) source outcome → source.faults_now ≡ source.faults → IsUnbegun door asked ended
       → ended.output ≡ Some sink_now → Tells outcome sink.sent sink_now.sent sink.faults sink_now.faults ended.status → EndsService panel plan source sink door asked ended
@@ -121,7 +137,7 @@ module _ {P : Type 0} (panel : P → PanelView) (plan : Plan) (source : SourceRu
     had_no_memory is = status ∙ ap (status_of written) is ∙ memory_status written
 
     is_written : (h : Head) (es : List EntryTree) (sink_now : SinkView) → ended.output ≡ Some sink_now → IsTextSent h es written sink sink_now → written ≡ true
-    is_written h es sink_now output (text_whole is sent) = is
+    is_written h es sink_now output (text_whole is sent still) = is
     is_written h es sink_now output (line_cut entry un accepted cut rose) = absurd (unfailed sink_now output rose)
     is_written h es sink_now output (end_cut un cut rose) = absurd (unfailed sink_now output rose)
 
@@ -130,13 +146,13 @@ module _ {P : Type 0} (panel : P → PanelView) (plan : Plan) (source : SourceRu
     complete_serves (unopened sink_now journal output cut rose reports ds ps un e) = absurd (unfailed sink_now output rose)
     complete_serves (nothing_served journal output reports ds ps un e) = inl (had_no_memory e)
 
-  complete_hosts : ((sink_now : SinkView) → ended.output ≡ Some sink_now → Rose sink.faults sink_now.faults → ⊥) → (Rose (faults_in door.calls) (faults_in ended.door.calls) → ⊥) → (Rose (panel asked).faults (panel ended.panel).faults → ⊥)
+  complete_hosts : ((sink_now : SinkView) → ended.output ≡ Some sink_now → Rose sink.faults sink_now.faults → ⊥) → (Rose (faults_in door.calls) (faults_in ended.door.calls) → ⊥) → (Rose (panels.faults_in (panel asked).calls) (panels.faults_in (panel ended.panel).calls) → ⊥)
       → (head : Head) (opening : List Entry) (written : Bool) (end : ServeEnd) → IsPolicyOf source (most_session plan) head (entry_trees opening)
       → Hosts panel plan head opening sink door asked (hosted_of ended written end) → (ended.status ≡ 6) ⊎ IsServedWhole panel plan source sink door asked ended
   complete_hosts sunk shut down head opening written end policy (served ds ps ready serves status) = complete_serves sunk head opening written end policy ds ps ready status serves
-  complete_hosts sunk shut down head opening written end policy (unreached status idle d s a rose) = absurd (down rose)
-  complete_hosts sunk shut down head opening written end policy (unheard status idle reached failed) = absurd (shut (failed_rose failed))
-  complete_hosts sunk shut down head opening written end policy (unready status idle reached held) = inl status
+  complete_hosts sunk shut down head opening written end policy (unreached status idle same none failed) = absurd (down (panel_rose failed))
+  complete_hosts sunk shut down head opening written end policy (unheard status idle count called failed) = absurd (shut (door_rose failed))
+  complete_hosts sunk shut down head opening written end policy (unready status idle held) = inl status
 
   complete : EndsService panel plan source sink door asked ended → IsCompleteService panel plan source sink door asked ended
   complete (hosted h es written end policy still hosts) = λ p q r s form. complete_hosts q r s h es written end policy hosts
@@ -147,9 +163,9 @@ module _ {P : Type 0} (panel : P → PanelView) (plan : Plan) (source : SourceRu
 
   not_three : (h : Head) (opening : List Entry) (written : Bool) (end : ServeEnd) → Hosts panel plan h opening sink door asked (hosted_of ended written end) → ended.status ≡ 3 → ⊥
   not_three h opening written end (served ds ps ready serves status) e = never_three written end (sym status ∙ e)
-  not_three h opening written end (unreached status idle d s a rose) e = apart ended.status 8 3 status e refl
-  not_three h opening written end (unheard status idle reached failed) e = apart ended.status 7 3 status e refl
-  not_three h opening written end (unready status idle reached held) e = apart ended.status 6 3 status e refl
+  not_three h opening written end (unreached status idle same none failed) e = apart ended.status 8 3 status e refl
+  not_three h opening written end (unheard status idle count called failed) e = apart ended.status 7 3 status e refl
+  not_three h opening written end (unready status idle held) e = apart ended.status 6 3 status e refl
 
   refuses : EndsService panel plan source sink door asked ended → RefusesExactly (policy_form (most_session plan)) source ended.status
   refuses (hosted h opening written end policy still hosts) = λ x y z.
@@ -162,17 +178,3 @@ module _ {P : Type 0} (panel : P → PanelView) (plan : Plan) (source : SourceRu
   -- what ends a run of `serve` is a run of `serve`
   pub runs_service : EndsService panel plan source sink door asked ended → RunsService panel plan source sink door asked ended
   runs_service e = record { ends = e; complete = complete e; refuses = refuses e }
-
-  -- the panel that is handed back was asked nothing: its shares were
-  hosts_said : (h : Head) (opening : List Entry) (written : Bool) (end : ServeEnd) → Hosts panel plan h opening sink door asked (hosted_of ended written end) → (panel ended.panel).said ≡ (panel asked).said
-  hosts_said h opening written end (served ds ps ready serves status) = ready.reached.said
-  hosts_said h opening written end (unreached status idle d s a rose) = s
-  hosts_said h opening written end (unheard status idle reached failed) = reached.said
-  hosts_said h opening written end (unready status idle reached held) = reached.said
-
-  pub service_said : EndsService panel plan source sink door asked ended → (panel ended.panel).said ≡ (panel asked).said
-  service_said (hosted h es written end policy still hosts) = hosts_said h es written end hosts
-  service_said (refused outcome sink_now e r idle output sent f g) = ap (λ p. (panel p).said) idle.panel_is
-  service_said (refusal_cut_off outcome sink_now e r idle output sent f g) = ap (λ p. (panel p).said) idle.panel_is
-  service_said (source_failed e idle output f) = ap (λ p. (panel p).said) idle.panel_is
-  service_said (no_memory e idle output f) = ap (λ p. (panel p).said) idle.panel_is

@@ -9,7 +9,9 @@ use Rattle.policy_history.specs.Events.{EntryTree}
 use Rattle.policy_history.specs.Values.{History, entry_trees}
 use Rattle.journal_text.specs.PolicyFronts.{IsFront, IsWrongFront}
 use Rattle.nexus_serve.specs.declared.service.ServeEnd.{ServeEnd}
-use Rattle.nexus_serve.specs.Views.{DoorView, PanelView, ReportView}
+use Rattle.authority_ask.specs.PanelCalls.{PanelHistory}
+use Rattle.authority_ask.specs.PanelCalls as panels
+use Rattle.nexus_serve.specs.Views.{DoorView, ReportView}
 use Rattle.nexus_serve.specs.Services.{Serves, SinkView}
 use Rattle.nexus_serve.specs.Hosting.{AreReady, HostedView, Hosts, Plan, status_of}
 use Rattle.run_streams.specs.Runs.{IsReadWhole, SourceRun, most_bytes}
@@ -95,7 +97,7 @@ pub record IsUnbegun {P : Type 0} (door : DoorView) (panel : P) (ended : EndedVi
 
 -- `serve` ends so: a policy was read, and hosted by the plan; or the input was refused, and that is written, or a proper part of it; or the source
 -- failed; or there was no memory for the input. A failure of the source or the sink that ends it before it is hosted is the only one.
-pub data EndsService {P : Type 0} (panel : P → PanelView) (plan : Plan) (source : SourceRun) (sink : SinkView) (door : DoorView) (asked : P) (ended : EndedView P) : Type 0 where
+pub data EndsService {P : Type 0} (panel : P → PanelHistory) (plan : Plan) (source : SourceRun) (sink : SinkView) (door : DoorView) (asked : P) (ended : EndedView P) : Type 0 where
   hosted : (h : Head) (opening : List Entry) (written : Bool) (end : ServeEnd) → IsPolicyOf source (most_session plan) h (entry_trees opening) → source.faults_now ≡ source.faults
       → Hosts panel plan h opening sink door asked (hosted_of ended written end) → EndsService panel plan source sink door asked ended
   refused : (outcome : Outcome) (sink_now : SinkView) → ended.status ≡ 3 → IsRefusalOf (policy_form (most_session plan)) source outcome → IsUnbegun door asked ended
@@ -108,7 +110,7 @@ pub data EndsService {P : Type 0} (panel : P → PanelView) (plan : Plan) (sourc
   no_memory : ended.status ≡ 6 → IsUnbegun door asked ended → ended.output ≡ Some sink → source.faults_now ≡ source.faults → EndsService panel plan source sink door asked ended
 
 -- a policy was read and served by the plan, and this is how: its whole text was written
-pub record IsServedWhole {P : Type 0} (panel : P → PanelView) (plan : Plan) (source : SourceRun) (sink : SinkView) (door : DoorView) (asked : P) (ended : EndedView P) : Type 0 where
+pub record IsServedWhole {P : Type 0} (panel : P → PanelHistory) (plan : Plan) (source : SourceRun) (sink : SinkView) (door : DoorView) (asked : P) (ended : EndedView P) : Type 0 where
   pub head : Head
   pub opening : List Entry
   pub end : ServeEnd
@@ -121,14 +123,14 @@ pub record IsServedWhole {P : Type 0} (panel : P → PanelView) (plan : Plan) (s
 
 -- Where neither the source nor the sink failed, nor the door or the panel as the service was made ready, an input that is not refused is served, and its
 -- text is written whole; or there was no memory.
-abbrev pub IsCompleteService : {P : Type 0} → (P → PanelView) → Plan → SourceRun → SinkView → DoorView → P → EndedView P → Type 0
+abbrev pub IsCompleteService : {P : Type 0} → (P → PanelHistory) → Plan → SourceRun → SinkView → DoorView → P → EndedView P → Type 0
 IsCompleteService panel plan source sink door asked ended =
     ¬ Rose source.faults source.faults_now → ((sink_now : SinkView) → ended.output ≡ Some sink_now → ¬ Rose sink.faults sink_now.faults) → ¬ Rose (faults_in door.calls) (faults_in ended.door.calls)
-    → ¬ Rose (panel asked).faults (panel ended.panel).faults → ¬ IsRefusedInput (policy_form (most_session plan)) source.given
+    → ¬ Rose (panels.faults_in (panel asked).calls) (panels.faults_in (panel ended.panel).calls) → ¬ IsRefusedInput (policy_form (most_session plan)) source.given
     → (ended.status ≡ 6) ⊎ IsServedWhole panel plan source sink door asked ended
 
 -- a run of `serve`
-pub record RunsService {P : Type 0} (panel : P → PanelView) (plan : Plan) (source : SourceRun) (sink : SinkView) (door : DoorView) (asked : P) (ended : EndedView P) : Type 0 where
+pub record RunsService {P : Type 0} (panel : P → PanelHistory) (plan : Plan) (source : SourceRun) (sink : SinkView) (door : DoorView) (asked : P) (ended : EndedView P) : Type 0 where
   pub ends : EndsService panel plan source sink door asked ended
   pub complete : IsCompleteService panel plan source sink door asked ended
   pub refuses : RefusesExactly (policy_form (most_session plan)) source ended.status

@@ -6,7 +6,7 @@ ghost use Rattle.policy_history.specs.Events.{EntryTree};
 ghost use Rattle.policy_history.specs.declared.heads.Head.{Head};
 ghost use Rattle.journal_text.specs.PolicyFronts.{AreBelow};
 ghost use Rattle.run_streams.specs.Runs.{most_bytes, source_run};
-ghost use Rattle.nexus_serve.specs.Views.{door_view, link_view, panel_view, report_view};
+ghost use Rattle.nexus_serve.specs.Views.{door_view, link_view, report_view};
 ghost use Rattle.service_commands.specs.Services.{EndsService, IsPolicy, IsPolicyOf, IsService, IsUnbegun, hosted_of, policy_form};
 ghost use Rattle.run_streams.specs.Inner.Unread.{faults_after_input, IsUnread};
 ghost use Rattle.service_commands.specs.Inner.ServiceEnds.{IsWrongText};
@@ -55,7 +55,7 @@ where
     R: Net<Listener = TcpListener, Stream = TcpStream> + Clock + Wait + Threads + Sync,
     requires within { IsService service.address.now service.workers service.sessions }
     ensures gave { Gave (S.left input.old) (S.left input.new) (S.given input.old) (S.given input.new) }
-    ensures ends { EndsService (panel_view P.said P.asks P.reached P.faults) (record { address = service.entry.address.now; workers = service.entry.workers; sessions = service.entry.sessions })
+    ensures ends { EndsService P.history (record { address = service.entry.address.now; workers = service.entry.workers; sessions = service.entry.sessions })
         (source_run (S.left input.old) (S.given input.old) (S.given input.new) (S.over input.new) (S.faults input.old) (S.faults input.new))
         (record { sent = K.sent output; faults = K.faults output }) (door_view (link_view D.Link.left D.Link.taken D.Link.sent D.Link.over D.Link.closed D.Link.place D.Link.toward D.Link.faults) D.links D.origin D.calls door) panel
         (record {

@@ -1,10 +1,11 @@
 use Rattle.std.specs.Prelude.{option_map}
+use Rattle.std.proofs.Common.{refl}
 use Rattle.policy_history.specs.Values.{entry_trees}
 use Rattle.proof_lines.specs.Lines.{line_trees}
 use Rattle.answer_commands.proofs.ForCallers.{runs_as, runs_check}
 use Rattle.nexus_run.proofs.Commanded.{audit_commanded, check_commanded, compact_commanded, core_commanded, drill_commanded, explain_commanded, export_commanded, none_commanded, not_plain, prove_commanded, recover_commanded, script_commanded, trust_commanded}
 use Rattle.nexus_run.proofs.LoadEnds.{runs_load}
-use Rattle.script_command.proofs.ForCallers.{runs_script}
+use Rattle.script_command.proofs.ForCallers.{has_more, more_nothing, runs_script}
 use Rattle.nexus_run.proofs.plain.run_plain.Goals as goal
 
 pub returns-in-Some-clause-command : goal.returns-in-Some-clause-command
@@ -55,3 +56,41 @@ pub returns-in-Some-Drill-clause-command : goal.returns-in-Some-Drill-clause-com
 returns-in-Some-Drill-clause-command g c =
     let of_words = rw c.in-Some-Drill.field-0-is at c.in-Some-Drill.ensures in
     drill_commanded c.in-Some-Drill.number c.in-Some-Drill.workers c.in-Some-Drill.calls of_words.1 of_words.0 (runs_load c.drill.ensures.ends)
+
+-- ---- Only a script makes calls of the panel
+
+pub returns-in-Some-Script-clause-asked : goal.returns-in-Some-Script-clause-asked
+returns-in-Some-Script-clause-asked g c = has_more c.script.ensures.ends
+
+pub returns-in-Some-clause-asked : goal.returns-in-Some-clause-asked
+returns-in-Some-clause-asked g c = more_nothing refl
+
+pub returns-in-None-clause-asked : goal.returns-in-None-clause-asked
+returns-in-None-clause-asked g c = more_nothing refl
+
+pub returns-in-Some-Check-clause-asked : goal.returns-in-Some-Check-clause-asked
+returns-in-Some-Check-clause-asked g c = more_nothing refl
+
+pub returns-in-Some-Trust-clause-asked : goal.returns-in-Some-Trust-clause-asked
+returns-in-Some-Trust-clause-asked g c = more_nothing refl
+
+pub returns-in-Some-Prove-clause-asked : goal.returns-in-Some-Prove-clause-asked
+returns-in-Some-Prove-clause-asked g c = more_nothing refl
+
+pub returns-in-Some-Audit-clause-asked : goal.returns-in-Some-Audit-clause-asked
+returns-in-Some-Audit-clause-asked g c = more_nothing refl
+
+pub returns-in-Some-Explain-clause-asked : goal.returns-in-Some-Explain-clause-asked
+returns-in-Some-Explain-clause-asked g c = more_nothing refl
+
+pub returns-in-Some-Recover-clause-asked : goal.returns-in-Some-Recover-clause-asked
+returns-in-Some-Recover-clause-asked g c = more_nothing refl
+
+pub returns-in-Some-Compact-clause-asked : goal.returns-in-Some-Compact-clause-asked
+returns-in-Some-Compact-clause-asked g c = more_nothing refl
+
+pub returns-in-Some-Core-clause-asked : goal.returns-in-Some-Core-clause-asked
+returns-in-Some-Core-clause-asked g c = more_nothing refl
+
+pub returns-in-Some-Drill-clause-asked : goal.returns-in-Some-Drill-clause-asked
+returns-in-Some-Drill-clause-asked g c = more_nothing refl

@@ -1,8 +1,9 @@
-use Rattle.std.proofs.Common.{inl, inr, sym, ◌∙◌}
+use Rattle.std.proofs.Common.{inl, inr, sym, ap, ◌∙◌}
 use Rattle.nexus_run.proofs.ClientCalls.{handed, talk_not_plain, talk_same}
+use Rattle.script_command.proofs.ForCallers.{more_nothing}
 use Rattle.service_commands.proofs.ForCallers.{runs_client, runs_service}
 use Rattle.nexus_run.proofs.Commanded.{none_commanded}
-use Rattle.nexus_run.proofs.ServiceAsks.{service_unasked}
+use Rattle.nexus_run.proofs.ServiceAsks.{service_more}
 use Rattle.nexus_run.proofs.TrueRuns.{service_true}
 use Rattle.nexus_run.proofs.Words.{serve_same}
 use Rattle.nexus_run.proofs.program.run.Goals as goal
@@ -19,8 +20,11 @@ returns-in-Some-clause-other_words g c =
     let mine = c.in-Some.ensures in
     λ none. absurd (none (inr (inl (c.in-Some.service.address.now, c.in-Some.service.workers, c.in-Some.service.sessions, mine.0, mine.1))))
 
-pub returns-in-Some-clause-said : goal.returns-in-Some-clause-said
-returns-in-Some-clause-said g c = service_unasked c.run_service.ensures.ends
+pub returns-in-Some-clause-asked : goal.returns-in-Some-clause-asked
+returns-in-Some-clause-asked g c = service_more c.run_service.ensures.ends
+
+pub returns-in-Some-talk_of-clause-asked : goal.returns-in-Some-talk_of-clause-asked
+returns-in-Some-talk_of-clause-asked g c = more_nothing (ap g.P.Panel.history c.run_talk.ensures.unused.3)
 
 pub returns-in-Some-talk_of-clause-other_words : goal.returns-in-Some-talk_of-clause-other_words
 returns-in-Some-talk_of-clause-other_words g c =

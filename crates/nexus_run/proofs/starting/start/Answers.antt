@@ -1,7 +1,8 @@
-use Rattle.std.proofs.Common.{inl, inr, refl, subst, sym, ◌∙◌}
+use Rattle.std.proofs.Common.{inl, inr, refl, subst, sym, ap, ◌∙◌}
 use Rattle.nx_io.proofs.ForCallers.{gained-nothing}
 use Rattle.service_commands.specs.Clients.{no_memory}
 use Rattle.nexus_run.specs.Commands.{IsTalkCall, IsCommand, IsPlain, IsServiceCall}
+use Rattle.script_command.proofs.ForCallers.{more_nothing}
 use Rattle.service_commands.proofs.ForCallers.{runs_client}
 use Rattle.nexus_run.proofs.Commanded.{memory_commanded, none_commanded}
 use Rattle.nexus_run.proofs.TrueRuns.{no_journal}
@@ -103,10 +104,10 @@ returns-in-Ok-None-clause-talk g c =
     λ talk address words is. absurd (none (inr (inr (talk, address, is, c.in-Ok.ensures.words ∙ words))))
 
 pub returns-in_default-clause-command : goal.returns-in_default-clause-command
-returns-in_default-clause-command g c = λ plain. rw (c.stopped.ensures.output, c.stopped.ensures.unused.0) (memory_commanded c.stopped.ensures.code (gained-nothing (g.K.Sink.sent c.args.output)) refl refl (gained-nothing (g.C.Sink.sent c.args.records.now)) refl)
+returns-in_default-clause-command g c = λ plain. rw (c.stopped.ensures.output, c.stopped.ensures.unused.0) (memory_commanded c.stopped.ensures.code (ap g.P.Panel.history c.stopped.ensures.unused.5) (gained-nothing (g.K.Sink.sent c.args.output)) refl refl (gained-nothing (g.C.Sink.sent c.args.records.now)) refl)
 
 pub returns-clause-command : goal.returns-clause-command
-returns-clause-command g c = λ plain. rw (c.stopped-in-Err.ensures.output, c.stopped-in-Err.ensures.unused.0) (memory_commanded c.stopped-in-Err.ensures.code (gained-nothing (g.K.Sink.sent c.args.output)) refl refl (gained-nothing (g.C.Sink.sent c.args.records.now)) refl)
+returns-clause-command g c = λ plain. rw (c.stopped-in-Err.ensures.output, c.stopped-in-Err.ensures.unused.0) (memory_commanded c.stopped-in-Err.ensures.code (ap g.P.Panel.history c.stopped-in-Err.ensures.unused.5) (gained-nothing (g.K.Sink.sent c.args.output)) refl refl (gained-nothing (g.C.Sink.sent c.args.records.now)) refl)
 
 pub returns-in_default-clause-talk : goal.returns-in_default-clause-talk
 returns-in_default-clause-talk g c =
@@ -132,3 +133,12 @@ returns-in-Ok-Some-clause-unrecorded g c =
     let texts = rw (c.in-Ok-Some.field-0-is, c.as_slice.ensures.value, ← c.as_slice-in-Ok-Some.ensures.value) at c.in-Ok-Some.ensures in
     let same = texts ∙ c.in-Ok.ensures.words in
     λ other. c.run-ended.ensures.unrecorded (λ is. other (sym same ∙ is))
+
+pub returns-in-Ok-None-clause-asked : goal.returns-in-Ok-None-clause-asked
+returns-in-Ok-None-clause-asked g c = more_nothing (ap g.P.Panel.history c.stopped-in-Ok-None.ensures.unused.5)
+
+pub returns-in_default-clause-asked : goal.returns-in_default-clause-asked
+returns-in_default-clause-asked g c = more_nothing (ap g.P.Panel.history c.stopped.ensures.unused.5)
+
+pub returns-clause-asked : goal.returns-clause-asked
+returns-clause-asked g c = more_nothing (ap g.P.Panel.history c.stopped-in-Err.ensures.unused.5)

@@ -23,17 +23,15 @@ pub returns-in-Ready-clause-ends : goal.returns-in-Ready-clause-ends
 returns-in-Ready-clause-ends g c =
     let text_is = c.as_slice-2.ensures ∙ c.in-Ok-script_text.ensures
     ∙ ap (λ (replies : List Reply). script_text replies c.answer_all.new.journal.head (entry_trees c.answer_all.new.journal.entries)) c.as_slice.ensures.value in
-    let answered = are_answered c.args.journal.now c.answer_all.new.journal c.args.askings.now _ (g.P.Panel.said c.args.panel.now) (g.P.Panel.said c.answer_all.new.panel) _ _ _ _ _ _
-    c.in-Ok.replies.items c.as_slice-2.result.now c.in-Ok.ensures.told (ap (λ n. n + 1) c.greatest_session-first.ensures) c.answer_all.ensures.head text_is c.answer_all.ensures.asks c.answer_all.ensures.reached
-    c.in-Ok.ensures.count in
+    let answered = are_answered c.args.journal.now c.answer_all.new.journal c.args.askings.now _ (g.P.Panel.history c.args.panel.now) (g.P.Panel.history c.answer_all.new.panel)
+    c.in-Ok.replies.items c.as_slice-2.result.now c.in-Ok.ensures.told (ap (λ n. n + 1) c.greatest_session-first.ensures) c.answer_all.ensures.head text_is c.answer_all.ensures.asked in
     replied refl (text_sent _ _ _ (g.K.Sink.sent c.args.output.now) (g.K.Sink.sent c.send_all.new.sink) c.as_slice-2.result.now c.in-Ready.ensures.bytes answered) c.in-Ready.ensures.count
 
 pub returns-clause-ends : goal.returns-clause-ends
 returns-clause-ends g c =
     let text_is = c.as_slice-2.ensures ∙ c.in-Ok-script_text.ensures
     ∙ ap (λ (replies : List Reply). script_text replies c.answer_all.new.journal.head (entry_trees c.answer_all.new.journal.entries)) c.as_slice.ensures.value in
-    let answered = are_answered c.args.journal.now c.answer_all.new.journal c.args.askings.now _ (g.P.Panel.said c.args.panel.now) (g.P.Panel.said c.answer_all.new.panel) _ _ _ _ _ _
-    c.in-Ok.replies.items c.as_slice-2.result.now c.in-Ok.ensures.told (ap (λ n. n + 1) c.greatest_session-first.ensures) c.answer_all.ensures.head text_is c.answer_all.ensures.asks c.answer_all.ensures.reached
-    c.in-Ok.ensures.count in
+    let answered = are_answered c.args.journal.now c.answer_all.new.journal c.args.askings.now _ (g.P.Panel.history c.args.panel.now) (g.P.Panel.history c.answer_all.new.panel)
+    c.in-Ok.replies.items c.as_slice-2.result.now c.in-Ok.ensures.told (ap (λ n. n + 1) c.greatest_session-first.ensures) c.answer_all.ensures.head text_is c.answer_all.ensures.asked in
     let part = c.in-Failed.ensures.bytes in
     replied_in_part c.as_slice-2.result.now refl answered (part.0, part.1, gained-by (g.K.Sink.sent c.args.output.now) (g.K.Sink.sent c.send_all.new.sink) _ part.2) c.in-Failed.ensures.count
