@@ -16,8 +16,10 @@ import signal
 import subprocess
 import sys
 import tempfile
+import threading
 import time
 from concurrent.futures import FIRST_COMPLETED, ThreadPoolExecutor, wait
+from contextlib import contextmanager
 from pathlib import Path
 
 ROOT = Path(__file__).resolve().parents[1]
@@ -95,6 +97,36 @@ def lay_out(crate, crates, lane):
             link(it.folder / "out/rlib", folder / "out/rlib")
 
 
+class Calls:
+    """The calls of `rt` that are running. Each has a process group of its own, so that none is left behind where this one is stopped."""
+
+    def __init__(self):
+        self.running, self.stopped, self.lock = set(), False, threading.Lock()
+
+    def run(self, words, **where):
+        """Runs one and returns its status, or a status of failure where all were stopped."""
+        with self.lock:
+            if self.stopped:
+                return 1
+            call = subprocess.Popen(words, start_new_session=True, **where)
+            self.running.add(call)
+        try:
+            return call.wait()
+        finally:
+            with self.lock:
+                self.running.discard(call)
+
+    def stop(self):
+        """Ends those that are running, and lets none begin any more."""
+        with self.lock:
+            self.stopped = True
+            for call in self.running:
+                os.killpg(call.pid, signal.SIGTERM)
+
+
+CALLS = Calls()
+
+
 def build(crate, crates, jobs, room):
     """Proves and builds a crate by so many processes, and returns how long it took, or None where that failed."""
     began, lane = time.monotonic(), Path(room) / crate.name
@@ -105,7 +137,7 @@ def build(crate, crates, jobs, room):
     words = ["run", "--jobs", str(jobs), "--", "check"] if crate.is_program else ["lib", "--jobs", str(jobs)]
     try:
         with open(EXAMPLE if crate.is_program else os.devnull, "rb") as given, open(f"{lane}.log", "wb") as said:
-            status = subprocess.run(["rt", *words], cwd=out.parent, stdin=given, stdout=said, stderr=said).returncode
+            status = CALLS.run(["rt", *words], cwd=out.parent, stdin=given, stdout=said, stderr=said)
     finally:
         if out.is_dir():
             shutil.move(out, kept)
@@ -156,11 +188,21 @@ def clock(seconds):
     return f"{int(seconds) // 60}:{int(seconds) % 60:02}"
 
 
+@contextmanager
+def stopping_calls():
+    """Stops what runs within where that is left by an exception."""
+    try:
+        yield
+    except BaseException:
+        CALLS.stop()
+        raise
+
+
 def build_all(crates, room):
     """Builds the crates, those first that have most behind them. Returns the name of one that failed, or None."""
     left = sorted(crates.values(), key=lambda it: -it.behind)
     machine, progress, running, built = Machine(), Progress([*left]), {}, set()
-    with ThreadPoolExecutor(machine.processors) as pool:
+    with ThreadPoolExecutor(machine.processors) as pool, stopping_calls():
         while left or running:
             ready = [it for it in left if it.below <= built]
             for at, crate in enumerate(ready):

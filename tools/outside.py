@@ -1,6 +1,8 @@
 #!/usr/bin/env python3
-"""Looks through the sources, tests aside, for what no contract can refuse: a call that waits for ever or for a message, and a socket
-that is opened anywhere but in the files that are to be read for it. Prints each such line, and ends with 1 where there is one.
+"""Looks through the sources, crates of tests aside, for what no contract can refuse: a call that waits for ever or for a message; a lock
+that is taken anywhere but where sessions reach the book, or twice in one function; a panel or a door of the outside that is made
+anywhere but in `main`; and a socket that is opened anywhere but in the files that are to be read for it. Prints each such line, and ends
+with 1 where there is one.
 
     tools/outside.py [FOLDER]
 
@@ -18,6 +20,10 @@ ADAPTERS = {"nx_io/src/tcp.rt", "authority_ask/src/connections.rt"}
 # What waits without an end, or for somebody else.
 WAITS = re.compile(r"\b(forever|park|park_timeout|Condvar|Barrier|recv|recv_timeout|sleep)\b")
 
+# What takes a lock, and the one file that does.
+LOCKS = re.compile(r"\b(lock|try_lock)\b\s*(::\s*<[^;{}()]*>\s*)?\(|::\s*(lock|try_lock)\b")
+LOCKER = "policy_book/src/access.rt"
+
 # The one line by which any other file names the network, and the bounds that it serves.
 IMPORT = "use std::net::{Net, TcpListener, TcpStream};"
 BOUND = re.compile(r"\bNet<Listener = TcpListener, Stream = TcpStream>")
@@ -29,9 +35,18 @@ SOCKETS = re.compile(r"\b(TcpStream|TcpListener|UdpSocket|UnixStream|UnixListene
 CALLS = "connect|connect_timeout|connect_unix|bind|bind_udp|bind_unix|accept|incoming|lookup_host|unix_pair|unix_socket|to_socket_addrs"
 OPENS = re.compile(rf"\b({CALLS})\s*(?:::\s*<[^;{{}}()]*>\s*)?\(|::\s*({CALLS})\b")
 
+# The objects that reach outside by themselves, and the files that make them or are made of them: whoever makes one in any other place
+# has authorities or peers of its own, of which no history tells.
+OBJECTS = re.compile(r"\b(HostPanel|HostClock|AuthorityPanel|TcpWires|TcpDoor)\b")
+MAKERS = {"authority_ask/src/clocks.rt", "authority_ask/src/hosts.rt", "authority_ask/src/tcp_wires.rt", "nexus_main/src/main.rt", "nx_io/src/tcp.rt"}
+NAMED = re.compile(r"^pub use [a-z_]+::[^;]*;$")
+
+# A line of a contract, which says and does nothing.
+CLAUSE = re.compile(r"\s*(requires|ensures|ghost)\b[^;]*;?$")
+
 # Functions of the sources that have the name of such a call and open nothing: the file, and how it is called or declared there.
 NAMESAKES = {
-    ("authority_ask/src/hosts.rt", "self.connect("),
+    ("authority_ask/src/hosts.rt", "connect(rt, &mut self.wires, "),
     ("authority_ask/src/hosts.rt", "wires.connect("),
     ("goal_store/src/goals.rt", "pub fn bind("),
     ("journal_text/src/policy_printer.rt", "self.bind("),
@@ -44,32 +59,45 @@ NAMESAKES = {
 }
 
 
-def code_of(line):
-    """Returns a line without its texts and its comment."""
-    return re.sub(r'"(\\.|[^"\\])*"', '""', line).partition("//")[0]
+# Comments and literals, whatever they hold: of these, and of nothing else, a quotation mark begins or ends one.
+LITERALS = re.compile(
+    r"""//[^\n]*|/\*.*?\*/|b?r(?P<marks>\#*)".*?"(?P=marks)|b?"(?:\\.|[^"\\])*"|b?'(?:\\x..|\\u\{[^}]*\}|\\.|[^\\'\n])'""",
+    re.DOTALL,
+)
 
 
-def is_clause(line):
-    return re.match(r"\s*(requires|ensures|ghost)\b", line) is not None
+def code_of(text):
+    """Returns a text without its comments and literals, in as many lines."""
+    return LITERALS.sub(lambda it: '""' + "\n" * it[0].count("\n"), text)
+
+
+def opens_in(name, code):
+    """Whether a line opens a socket or finds an address."""
+    for file, call in NAMESAKES:
+        if file == name:
+            code = code.replace(call, "")
+    return OPENS.search(code)
 
 
 def wrong_in(name, text):
-    """Yields the number of each line that waits, or that names or opens a socket, and what it does."""
-    for number, line in enumerate(text.splitlines(), 1):
-        code = code_of(line)
-        if is_clause(code):
-            continue
+    """Yields the number of each line that waits, takes a lock, or names or opens what is of the outside, and what it does."""
+    locked = False
+    for number, (code, line) in enumerate(zip(code_of(text).splitlines(), text.splitlines()), 1):
+        if re.match(r"\s*(pub(\([^)]*\))?\s+)?fn\b", code):
+            locked = False
         if WAITS.search(code):
             yield number, "waits", line
-        if name in ADAPTERS or code.strip() == IMPORT:
+        if LOCKS.search(code):
+            if name != LOCKER or locked:
+                yield number, "takes a lock", line
+            locked = True
+        if name not in MAKERS and OBJECTS.search(code) and not NAMED.search(code):
+            yield number, "names an object of the outside", line
+        if name in ADAPTERS or code.strip() == IMPORT or CLAUSE.match(code):
             continue
         if SOCKETS.search(BOUND.sub("", code)):
             yield number, "names a socket", line
-        opened = code
-        for file, call in NAMESAKES:
-            if file == name:
-                opened = opened.replace(call, "")
-        if OPENS.search(opened):
+        if opens_in(name, code):
             yield number, "opens a socket", line
 
 
@@ -78,8 +106,8 @@ def main():
     found = False
     for path in sorted(crates.glob("*/src/**/*.rt")):
         name = path.relative_to(crates).as_posix()
-        crate, _, inner = name.partition("/src/")
-        if crate.endswith("_rows") or inner == "tests.rt" or inner.startswith("tests/"):
+        crate = name.partition("/src/")[0]
+        if crate.endswith("_rows"):
             continue
         for number, what, line in wrong_in(name, path.read_text()):
             found = True
