@@ -1,13 +1,12 @@
-// A connection to an authority over TCP.
+// A connection to an authority.
 ghost use Rattle.std.specs.Prelude.{◌≡◌, ◌≤◌, [], Bool, IfSome, length, take};
 ghost use Rattle.authority_ask.specs.Exchanges.{answer_line};
 ghost use Rattle.authority_ask.specs.Inner.Connections.{HasAnswered};
 
 use crate::conversations::{Reply, converse, reply_in};
-use nx_io::{StdSink, StdSource};
+use nx_io::{StdSink, StdSource, SystemStream};
 use std::marker::Model;
-use std::net::{Net, TcpListener, TcpStream, ToSocketAddrs};
-use std::str;
+use std::net::{Net, TcpListener, TcpStream};
 use std::time::Duration;
 
 /// How many seconds an authority may take to accept a connection, to take a piece of a question, and to give a piece of an
@@ -17,8 +16,8 @@ const PATIENCE: u64 = 5;
 /// A connection over which each question has had its answer. Contracts see what was sent and what came back.
 #[derive(Drop)]
 pub struct Connection {
-    source: StdSource<TcpStream>,
-    sink: StdSink<TcpStream>,
+    source: StdSource<SystemStream>,
+    sink: StdSink<SystemStream>,
 }
 
 impl Model for Connection {
@@ -34,7 +33,8 @@ impl Model for Connection {
 }
 
 impl Connection {
-    /// Connects to the authority at an address, which is a host and a port. None where that failed.
+    /// Connects to the authority at an address, which is a host and a port, or `unix:` and the path of a local socket. None where
+    /// that failed.
     pub fn open<R: Net<Listener = TcpListener, Stream = TcpStream>>(
         rt: &R,
         address: &[u8],
@@ -42,22 +42,14 @@ impl Connection {
         ensures { IfSome result (λ connection. connection ≡ record { sent = []; given = [] }) }
     {
         let patience = Duration::from_secs(PATIENCE);
-        let address = str::from_utf8(address).ok()?;
-        for place in address.to_socket_addrs(rt).ok()? {
-            if let Ok(stream) = TcpStream::connect_timeout(rt, &place, patience) {
-                return Connection::over(stream);
-            }
-        }
-        None
+        Connection::over(SystemStream::connect_within(rt, address, patience).ok()?)
     }
 
     /// A connection over a stream. None where the stream can't be set up for it.
-    fn over(stream: TcpStream) -> Option<Connection>
+    fn over(stream: SystemStream) -> Option<Connection>
         ensures { IfSome result (λ connection. connection ≡ record { sent = []; given = [] }) }
     {
-        let patience = Some(Duration::from_secs(PATIENCE));
-        stream.set_read_timeout(patience).ok()?;
-        stream.set_write_timeout(patience).ok()?;
+        stream.set_limit(Duration::from_secs(PATIENCE)).ok()?;
         let writer = stream.try_clone().ok()?;
         Some(Connection {
             source: StdSource::new(stream),

@@ -1,10 +1,9 @@
 //! How an operation on an object is judged, with the verdicts that the board keeps.
-ghost use Rattle.std.specs.Prelude.{◌≡◌, ◌≤◌, ◌<◌, ℕ, Bool, IfSome, List, Option, Some, length, true};
+ghost use Rattle.std.specs.Prelude.{◌≡◌, ◌≤◌, ◌<◌, ℕ, Bool, IfSome, List, Option, Some, length};
 ghost use Rattle.nal_rules.specs.Asking.{case_tree, lines_of};
 ghost use Rattle.nal_rules.specs.Verdicts.{IsVerdict};
 ghost use Rattle.guard_core.specs.Judging.{HasCount, verdict_of};
 ghost use Rattle.policy_history.specs.Values.{entry_trees};
-ghost use Rattle.policy_book.specs.Books.{head_of};
 ghost use Rattle.policy_book.specs.Snaps.{IsSnap, IsSnapOf};
 ghost use Rattle.book_rows.specs.Unasked.{IsUnasked};
 
@@ -13,8 +12,7 @@ use authority_ask::MemPanel;
 use guard_core::{Finding, judge};
 use nal_rules::{Case, Verdict};
 use nal_term::Name;
-use nx_io::MemSink;
-use policy_book::{Book, NalMatter, Snapped, held_of};
+use policy_book::{BookAccess, NalMatter, Snapped, held_of};
 use std::alloc::Global;
 use std::net::{Net, TcpListener, TcpStream};
 use std::rt::Clock;
@@ -25,21 +23,20 @@ pub fn name_of(alloc: Global, text: &str) -> Option<Name> {
 }
 
 /// Tells a kept verdict of the case of an operation on an object, which are given by their names, or else judges it, and keeps the verdict where it rests on no answer.
-pub fn call<R: Net<Listener = TcpListener, Stream = TcpStream> + Clock>(
+pub fn call<B: BookAccess, R: Net<Listener = TcpListener, Stream = TcpStream> + Clock>(
     rt: &R,
     alloc: Global,
-    book: &mut Book<MemSink>,
+    book: &mut B,
     board: &Board<NalMatter>,
     pass: Pass<NalMatter>,
     principal: u32,
     names: &str,
 ) -> (Pass<NalMatter>, Told)
-    requires opened { book.old.is_open ≡ true }
-    requires board { book.old.board ≡ board.now }
-    requires principal { principal < length (head_of book.old).principals }
+    requires board { B.board book.old ≡ board.now }
+    requires principal { principal < length board.now.origin.setting.principals }
     requires pass { pass.board ≡ board.now }
     ensures pass { result.0.board ≡ board.now }
-    ensures book { book.new ≡ record book.old { known = book.new.known } }
+    ensures book { B.board book.new ≡ B.board book.old }
 {
     let (op, object) = names.split_once(" ").unwrap_or(("", ""));
     match (name_of(alloc, op), name_of(alloc, object)) {
@@ -50,22 +47,21 @@ pub fn call<R: Net<Listener = TcpListener, Stream = TcpStream> + Clock>(
     }
 }
 
-fn call_named<R: Net<Listener = TcpListener, Stream = TcpStream> + Clock>(
+fn call_named<B: BookAccess, R: Net<Listener = TcpListener, Stream = TcpStream> + Clock>(
     rt: &R,
     alloc: Global,
-    book: &mut Book<MemSink>,
+    book: &mut B,
     board: &Board<NalMatter>,
     pass: Pass<NalMatter>,
     principal: u32,
     op: &Name,
     object: &Name,
 ) -> (Pass<NalMatter>, Told)
-    requires opened { book.old.is_open ≡ true }
-    requires board { book.old.board ≡ board.now }
-    requires principal { principal < length (head_of book.old).principals }
+    requires board { B.board book.old ≡ board.now }
+    requires principal { principal < length board.now.origin.setting.principals }
     requires pass { pass.board ≡ board.now }
     ensures pass { result.0.board ≡ board.now }
-    ensures book { book.new ≡ record book.old { known = book.new.known } }
+    ensures book { B.board book.new ≡ B.board book.old }
 {
     let (pass, kept) = look(alloc, book, board, pass, principal, op, object);
     match kept {
@@ -75,23 +71,22 @@ fn call_named<R: Net<Listener = TcpListener, Stream = TcpStream> + Clock>(
 }
 
 // Looks for a kept verdict.
-fn look(
+fn look<B: BookAccess>(
     alloc: Global,
-    book: &mut Book<MemSink>,
+    book: &mut B,
     board: &Board<NalMatter>,
     pass: Pass<NalMatter>,
     principal: u32,
     op: &Name,
     object: &Name,
 ) -> (Pass<NalMatter>, Option<Told>)
-    requires opened { book.old.is_open ≡ true }
-    requires board { book.old.board ≡ board.now }
-    requires principal { principal < length (head_of book.old).principals }
+    requires board { B.board book.old ≡ board.now }
+    requires principal { principal < length board.now.origin.setting.principals }
     requires pass { pass.board ≡ board.now }
     ensures pass { result.0.board ≡ board.now }
-    ensures book { book.new ≡ record book.old { known = book.new.known } }
+    ensures book { B.board book.new ≡ B.board book.old }
 {
-    let (pass, snapped) = book.snap(alloc, board, pass, principal, op, object);
+    let (pass, snapped) = book.snap(alloc, pass, principal, op, object);
     let mut pass = pass;
     let kept = kept_of(board, &mut pass, &snapped);
     (pass, kept)
@@ -117,24 +112,23 @@ fn kept_of(board: &Board<NalMatter>, pass: &mut Pass<NalMatter>, snapped: &Snapp
 }
 
 // Judges a case as it is now.
-fn judge_now<R: Net<Listener = TcpListener, Stream = TcpStream> + Clock>(
+fn judge_now<B: BookAccess, R: Net<Listener = TcpListener, Stream = TcpStream> + Clock>(
     rt: &R,
     alloc: Global,
-    book: &mut Book<MemSink>,
+    book: &mut B,
     board: &Board<NalMatter>,
     pass: Pass<NalMatter>,
     principal: u32,
     op: &Name,
     object: &Name,
 ) -> (Pass<NalMatter>, Told)
-    requires opened { book.old.is_open ≡ true }
-    requires board { book.old.board ≡ board.now }
-    requires principal { principal < length (head_of book.old).principals }
+    requires board { B.board book.old ≡ board.now }
+    requires principal { principal < length board.now.origin.setting.principals }
     requires pass { pass.board ≡ board.now }
     ensures pass { result.0.board ≡ board.now }
-    ensures book { book.new ≡ record book.old { known = book.new.known } }
+    ensures book { B.board book.new ≡ B.board book.old }
 {
-    let (pass, snapped) = book.snap(alloc, board, pass, principal, op, object);
+    let (pass, snapped) = book.snap(alloc, pass, principal, op, object);
     let mut pass = pass;
     let told = told_of(rt, alloc, board, &mut pass, &snapped);
     (pass, told)

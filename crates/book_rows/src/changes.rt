@@ -1,33 +1,31 @@
 //! How a change is written.
-ghost use Rattle.std.specs.Prelude.{◌≡◌, ◌<◌, length, true};
-ghost use Rattle.policy_book.specs.Books.{entry_of, head_of};
+ghost use Rattle.std.specs.Prelude.{◌≡◌, ◌<◌, length};
+ghost use Rattle.policy_book.specs.Books.{entry_of};
 ghost use Rattle.policy_book.specs.Writes.{IsLineFor};
 
 use crate::told::Told;
 use journal_text::{event_of, policy_line, read_request};
-use nx_io::MemSink;
-use policy_book::{Book, NalMatter};
+use policy_book::{BookAccess, NalMatter};
 use policy_history::{Event, Head};
 use std::alloc::{AllocError, Global};
 use verdict_words::{Board, Pass};
 
 /// Writes the change that a request line asks for.
-pub fn change(
+pub fn change<B: BookAccess>(
     alloc: Global,
-    book: &mut Book<MemSink>,
+    book: &mut B,
     board: &Board<NalMatter>,
     head: &Head,
     pass: Pass<NalMatter>,
     principal: u32,
     line: &str,
 ) -> (Pass<NalMatter>, Told)
-    requires opened { book.old.is_open ≡ true }
-    requires board { book.old.board ≡ board.now }
-    requires head { head.now ≡ head_of book.old }
-    requires principal { principal < length (head_of book.old).principals }
+    requires board { B.board book.old ≡ board.now }
+    requires head { head.now ≡ board.now.origin.setting }
+    requires principal { principal < length board.now.origin.setting.principals }
     requires pass { pass.board ≡ board.now }
     ensures pass { result.0.board ≡ board.now }
-    ensures book { (book.new.board ≡ book.old.board) × (book.new.is_open ≡ true) }
+    ensures book { B.board book.new ≡ B.board book.old }
 {
     match event_in(alloc, line) {
         Some(event) => change_to(alloc, book, board, head, pass, principal, event),
@@ -47,22 +45,21 @@ fn event_in(alloc: Global, line: &str) -> Option<Event> {
     }
 }
 
-fn change_to(
+fn change_to<B: BookAccess>(
     alloc: Global,
-    book: &mut Book<MemSink>,
+    book: &mut B,
     board: &Board<NalMatter>,
     head: &Head,
     pass: Pass<NalMatter>,
     principal: u32,
     event: Event,
 ) -> (Pass<NalMatter>, Told)
-    requires opened { book.old.is_open ≡ true }
-    requires board { book.old.board ≡ board.now }
-    requires head { head.now ≡ head_of book.old }
-    requires principal { principal < length (head_of book.old).principals }
+    requires board { B.board book.old ≡ board.now }
+    requires head { head.now ≡ board.now.origin.setting }
+    requires principal { principal < length board.now.origin.setting.principals }
     requires pass { pass.board ≡ board.now }
     ensures pass { result.0.board ≡ board.now }
-    ensures book { (book.new.board ≡ book.old.board) × (book.new.is_open ≡ true) }
+    ensures book { B.board book.new ≡ B.board book.old }
 {
     let name = head.principals.name(principal);
     match policy_line(alloc, pass.session(), name, &event) {
@@ -74,22 +71,21 @@ fn change_to(
     }
 }
 
-fn write(
-    book: &mut Book<MemSink>,
+fn write<B: BookAccess>(
+    book: &mut B,
     board: &Board<NalMatter>,
     pass: Pass<NalMatter>,
     principal: u32,
     event: Event,
     line: &[u8],
 ) -> (Pass<NalMatter>, Told)
-    requires opened { book.old.is_open ≡ true }
-    requires board { book.old.board ≡ board.now }
-    requires principal { principal < length (head_of book.old).principals }
+    requires board { B.board book.old ≡ board.now }
+    requires principal { principal < length board.now.origin.setting.principals }
     requires pass { pass.board ≡ board.now }
-    requires line { IsLineFor (head_of book.old) (entry_of pass.session principal event) line.now }
+    requires line { IsLineFor board.now.origin.setting (entry_of pass.session principal event) line.now }
     ensures pass { result.0.board ≡ board.now }
-    ensures book { (book.new.board ≡ book.old.board) × (book.new.is_open ≡ true) }
+    ensures book { B.board book.new ≡ B.board book.old }
 {
-    let (pass, written) = book.write(board, pass, principal, event, line);
+    let (pass, written) = book.write(pass, principal, event, line);
     (pass, Told::Written(written))
 }

@@ -2,27 +2,31 @@
 ghost use Rattle.std.specs.Prelude.{◌≡◌, ◌<◌, ◌≤◌, ◌-◌, IfSome, false, length, take, true};
 ghost use Rattle.policy_history.specs.PolicyTexts.{front};
 ghost use Rattle.policy_history.specs.Values.{entry_trees, greatest_of};
-ghost use Rattle.policy_book.specs.Books.{head_of, trees_of};
+ghost use Rattle.policy_book.specs.Books.{IsNamed, head_of, trees_of};
 
 use crate::calls::call;
 use crate::changes::change;
 use crate::told::Told;
 use journal_text::{print_policy, read_policy};
 use nx_io::{MemSink, Reach};
-use policy_book::{Book, NalMatter};
+use policy_book::{Book, BookAccess, BookNaming, LockedBook, NalMatter, SharedBook};
 use policy_history::{Head, Journal};
 use std::alloc::{AllocError, Global};
+use std::marker::Brand;
 use std::net::{Net, TcpListener, TcpStream};
 use std::rt::Clock;
+use std::sync::Wait;
+use std::sync::ledger::{Blank, Ledger};
 use verdict_words::{Board, Pass};
 
-/// Steps over a book of this policy, whose sink takes a byte a call, holds so many, and fails at this call, from 1. Each step stands
-/// on a line: the name of the first principal or another, a request's line, an arrow, and what the session is told.
+/// Steps over a book of this policy, whose sink takes a byte a call, holds so many, and fails at this write and at this sync, from 1.
+/// Each step stands on a line: the name of the first principal or another, a request's line, an arrow, and what the session is told.
 #[derive(Clone, Copy)]
 pub struct Play<'a> {
     pub policy: &'a [u8],
     pub room: usize,
     pub fails: u64,
+    pub sync_fails: u64,
     pub steps: &'a str,
 }
 
@@ -35,21 +39,21 @@ struct Taken {
 }
 
 /// Plays the steps: the first step that is told something else, how many entries each pass has seen and how many the journal has,
-/// whether a write has failed and how often the sink has; and on the next lines what the sink was sent, with `end` behind it. An
+/// whether a write or a sync has failed, how often the sink has, and how many bytes it has synced; and on the next lines what the sink was sent, with `end` behind it. An
 /// `Err` is want of memory, or a policy that is none, has fewer than two principals, or great session numbers.
-pub fn told<R: Net<Listener = TcpListener, Stream = TcpStream> + Clock>(
+pub fn told<R: Net<Listener = TcpListener, Stream = TcpStream> + Clock + Wait>(
     rt: &R,
     alloc: Global,
     play: &Play,
 ) -> Result<String, AllocError> {
-    let sink = MemSink::new(alloc, play.room, 1, &[play.fails])?;
+    let sink = MemSink::new(alloc, play.room, 1, &[play.fails], &[play.sync_fails])?;
     match read_policy(alloc, play.policy) {
         Ok(journal) => told_over(rt, alloc, journal, sink, play.steps),
         Err(_) => Err(AllocError),
     }
 }
 
-fn told_over<R: Net<Listener = TcpListener, Stream = TcpStream> + Clock>(
+fn told_over<R: Net<Listener = TcpListener, Stream = TcpStream> + Clock + Wait>(
     rt: &R,
     alloc: Global,
     journal: Journal,
@@ -65,7 +69,7 @@ fn told_over<R: Net<Listener = TcpListener, Stream = TcpStream> + Clock>(
     }
 }
 
-fn told_with<R: Net<Listener = TcpListener, Stream = TcpStream> + Clock>(
+fn told_with<R: Net<Listener = TcpListener, Stream = TcpStream> + Clock + Wait>(
     rt: &R,
     alloc: Global,
     journal: Journal,
@@ -109,7 +113,7 @@ fn without_end(alloc: Global, text: &[u8]) -> Option<Vec<u8>>
     Vec::from_slice(alloc, &text[..count]).ok()
 }
 
-fn told_in<R: Net<Listener = TcpListener, Stream = TcpStream> + Clock>(
+fn told_in<R: Net<Listener = TcpListener, Stream = TcpStream> + Clock + Wait>(
     rt: &R,
     alloc: Global,
     journal: Journal,
@@ -139,7 +143,7 @@ const NOTHING: Taken = Taken {
 };
 
 // Opens a book, and plays the steps where the front of its text was written.
-fn opened<R: Net<Listener = TcpListener, Stream = TcpStream> + Clock>(
+fn opened<R: Net<Listener = TcpListener, Stream = TcpStream> + Clock + Wait>(
     rt: &R,
     alloc: Global,
     made: (Board<NalMatter>, Book<MemSink>),
@@ -156,32 +160,83 @@ fn opened<R: Net<Listener = TcpListener, Stream = TcpStream> + Clock>(
     requires room { made.1.next ≤ 1001 }
 {
     let (board, mut book) = made;
-    let taken = match book.open(text) {
-        Reach::Ready => served(rt, alloc, &board, &mut book, head, steps),
-        Reach::Failed => NOTHING,
+    let (book, taken) = match book.open(text) {
+        Reach::Ready => served(rt, alloc, &board, book, head, steps),
+        Reach::Failed => (book, NOTHING),
     };
     drop(board);
     ended(alloc, book, &taken)
 }
 
 // Plays the steps over an open book.
-fn served<R: Net<Listener = TcpListener, Stream = TcpStream> + Clock>(
+fn served<R: Net<Listener = TcpListener, Stream = TcpStream> + Clock + Wait>(
     rt: &R,
     alloc: Global,
     board: &Board<NalMatter>,
-    book: &mut Book<MemSink>,
+    book: Book<MemSink>,
     head: &Head,
     steps: &str,
-) -> Taken
-    requires opened { book.old.is_open ≡ true }
-    requires board { book.old.board ≡ board.now }
-    requires principals { 2 ≤ length (head_of book.old).principals }
-    requires head { head.now ≡ head_of book.old }
-    requires room { book.old.next ≤ 1001 }
+) -> (Book<MemSink>, Taken)
+    requires opened { book.is_open ≡ true }
+    requires board { book.board ≡ board.now }
+    requires principals { 2 ≤ length (head_of book).principals }
+    requires head { head.now ≡ head_of book }
+    requires room { book.next ≤ 1001 }
 {
+    let mut book = book;
     let first = book.enter(board);
     let second = book.enter(board);
-    step_all(rt, alloc, book, board, head, (first, second), steps)
+    let passes = (first, second);
+    let tickets = Blank::new(1);
+    let turns = Blank::new(1);
+    play_shared::<Brand, Brand, Brand, R>(
+        rt,
+        alloc,
+        board,
+        book,
+        tickets,
+        turns,
+        head,
+        passes,
+        steps.as_bytes(),
+    )
+}
+
+// Plays the steps over a book behind its locks. They come as bytes, since a call that picks what its types name has no text.
+fn play_shared<
+    N: BookNaming,
+    T: Ledger,
+    W: Ledger,
+    R: Net<Listener = TcpListener, Stream = TcpStream> + Clock + Wait,
+>(
+    rt: &R,
+    alloc: Global,
+    board: &Board<NalMatter>,
+    book: Book<MemSink>,
+    tickets: Blank,
+    turns: Blank,
+    head: &Head,
+    passes: (Pass<NalMatter>, Pass<NalMatter>),
+    steps: &[u8],
+) -> (Book<MemSink>, Taken)
+    requires opened { book.is_open ≡ true }
+    requires named { IsNamed N.board N.next N.start N.start_faults book }
+    requires board { book.board ≡ board.now }
+    requires tickets { (tickets.name ≡ T.name) × (tickets.parts ≡ T.parts) × (T.parts ≡ 1) }
+    requires turns { (turns.name ≡ W.name) × (turns.parts ≡ W.parts) × (W.parts ≡ 1) }
+    requires head { head.now ≡ board.now.origin.setting }
+    requires principals { 2 ≤ length board.now.origin.setting.principals }
+    requires passes { (passes.0.board ≡ board.now) × (passes.1.board ≡ board.now) }
+{
+    let (tickets, mark) = tickets.open::<T>();
+    let shared: SharedBook<MemSink, N, T, W> = SharedBook::new(book, tickets, turns);
+    let mut locked = LockedBook::new(rt, board, &shared, mark);
+    let steps = str::from_utf8(steps).unwrap_or("");
+    let taken = step_all(rt, alloc, &mut locked, board, head, passes, steps);
+    drop(locked);
+    let (book, tickets) = shared.into_parts();
+    drop(tickets);
+    (book, taken)
 }
 
 // What is left of a book.
@@ -207,26 +262,25 @@ fn ended_told(
         seen: [first, second],
     } = taken;
     let sent = str::from_utf8(sink.sent()).unwrap_or("no text");
-    let faults = sink.faults();
+    let (faults, synced) = (sink.faults(), sink.synced());
     format!(in alloc;
-        "{wrong:?}, seen {first} {second}, entries {entries}, broken {is_broken}, faults {faults}\n{sent}end"
+        "{wrong:?}, seen {first} {second}, entries {entries}, broken {is_broken}, faults {faults}, synced {synced}\n{sent}end"
     )
 }
 
 // Lets two sessions take the steps, and meets both passes.
-fn step_all<R: Net<Listener = TcpListener, Stream = TcpStream> + Clock>(
+fn step_all<B: BookAccess, R: Net<Listener = TcpListener, Stream = TcpStream> + Clock>(
     rt: &R,
     alloc: Global,
-    book: &mut Book<MemSink>,
+    book: &mut B,
     board: &Board<NalMatter>,
     head: &Head,
     passes: (Pass<NalMatter>, Pass<NalMatter>),
     steps: &str,
 ) -> Taken
-    requires opened { book.old.is_open ≡ true }
-    requires board { book.old.board ≡ board.now }
-    requires head { head.now ≡ head_of book.old }
-    requires principals { 2 ≤ length (head_of book.old).principals }
+    requires board { B.board book.old ≡ board.now }
+    requires head { head.now ≡ board.now.origin.setting }
+    requires principals { 2 ≤ length board.now.origin.setting.principals }
     requires passes { (passes.0.board ≡ board.now) × (passes.1.board ≡ board.now) }
 {
     let (mut passes, mut place, mut wrong) = (passes, 0u64, None);
@@ -240,7 +294,7 @@ fn step_all<R: Net<Listener = TcpListener, Stream = TcpStream> + Clock>(
         place = place.wrapping_add(1);
     }
     let (first, second) = passes;
-    let (first, second) = (book.meet(board, first), book.meet(board, second));
+    let (first, second) = (book.meet(first), book.meet(second));
     Taken {
         wrong,
         seen: [first.at(), second.at()],
@@ -248,23 +302,22 @@ fn step_all<R: Net<Listener = TcpListener, Stream = TcpStream> + Clock>(
 }
 
 // Lets a session take a step, which begins with the name of the first principal or with another.
-fn turn<R: Net<Listener = TcpListener, Stream = TcpStream> + Clock>(
+fn turn<B: BookAccess, R: Net<Listener = TcpListener, Stream = TcpStream> + Clock>(
     rt: &R,
     alloc: Global,
-    book: &mut Book<MemSink>,
+    book: &mut B,
     board: &Board<NalMatter>,
     head: &Head,
     passes: (Pass<NalMatter>, Pass<NalMatter>),
     asked: &str,
 ) -> ((Pass<NalMatter>, Pass<NalMatter>), Told)
-    requires opened { book.old.is_open ≡ true }
-    requires board { book.old.board ≡ board.now }
-    requires head { head.now ≡ head_of book.old }
-    requires principals { 2 ≤ length (head_of book.old).principals }
+    requires board { B.board book.old ≡ board.now }
+    requires head { head.now ≡ board.now.origin.setting }
+    requires principals { 2 ≤ length board.now.origin.setting.principals }
     requires passes { (passes.0.board ≡ board.now) × (passes.1.board ≡ board.now) }
     ensures first { result.0.0.board ≡ board.now }
     ensures second { result.0.1.board ≡ board.now }
-    ensures book { (book.new.board ≡ book.old.board) × (book.new.is_open ≡ true) }
+    ensures book { B.board book.new ≡ B.board book.old }
 {
     let (first, second) = passes;
     let (who, line) = asked.split_once(" ").unwrap_or(("", ""));
@@ -286,23 +339,22 @@ fn is_told(alloc: Global, told: &Told, wanted: &str) -> bool {
 }
 
 // Takes one step: a request's line asks for a change, or for a call.
-fn step<R: Net<Listener = TcpListener, Stream = TcpStream> + Clock>(
+fn step<B: BookAccess, R: Net<Listener = TcpListener, Stream = TcpStream> + Clock>(
     rt: &R,
     alloc: Global,
-    book: &mut Book<MemSink>,
+    book: &mut B,
     board: &Board<NalMatter>,
     head: &Head,
     pass: Pass<NalMatter>,
     principal: u32,
     line: &str,
 ) -> (Pass<NalMatter>, Told)
-    requires opened { book.old.is_open ≡ true }
-    requires board { book.old.board ≡ board.now }
-    requires head { head.now ≡ head_of book.old }
-    requires principal { principal < length (head_of book.old).principals }
+    requires board { B.board book.old ≡ board.now }
+    requires head { head.now ≡ board.now.origin.setting }
+    requires principal { principal < length board.now.origin.setting.principals }
     requires pass { pass.board ≡ board.now }
     ensures pass { result.0.board ≡ board.now }
-    ensures book { (book.new.board ≡ book.old.board) × (book.new.is_open ≡ true) }
+    ensures book { B.board book.new ≡ B.board book.old }
 {
     match line.strip_prefix("call ") {
         Some(names) => call(rt, alloc, book, board, pass, principal, names),

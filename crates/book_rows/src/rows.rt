@@ -4,6 +4,7 @@ use crate::told::assert_none;
 use std::alloc::{AllocError, Global};
 use std::net::{Net, TcpListener, TcpStream};
 use std::rt::Clock;
+use std::sync::Wait;
 
 // A play over a sink that has room for all and does not fail.
 fn play_of<'a>(policy: &'a [u8], steps: &'a str) -> Play<'a> {
@@ -11,6 +12,7 @@ fn play_of<'a>(policy: &'a [u8], steps: &'a str) -> Play<'a> {
         policy,
         room: 100_000,
         fails: 0,
+        sync_fails: 0,
         steps,
     }
 }
@@ -29,7 +31,7 @@ alice delete 3 -> Written(Done { at: 5, number: 0 })
 alice call read f -> Judged { at: 5, finding: Denied(LabelMissing { line: 1 }) }
 alice delete 3 -> Written(Refused { at: 5, refusal: NoSuchLabel })
 comes to
-None, seen 5 5, entries 5, broken false, faults 0
+None, seen 5 5, entries 5, broken false, faults 0, synced 200
 nexus 2
 principal alice pa
 principal bob pb
@@ -49,7 +51,7 @@ alice call read f -> Judged { at: 4, finding: Allowed { asks: 0 } }
 alice say alice : other -> Written(Done { at: 5, number: 5 })
 alice call read f -> Kept { at: 5, held: Held { code: 1, line: 0, fault: 0 } }
 comes to
-None, seen 5 5, entries 5, broken false, faults 0
+None, seen 5 5, entries 5, broken false, faults 0, synced 209
 nexus 2
 principal alice pa
 principal bob pb
@@ -72,7 +74,7 @@ alice goal read f : true -> Written(Done { at: 5, number: 0 })
 alice call read f -> Judged { at: 5, finding: Allowed { asks: 0 } }
 alice call read f -> Kept { at: 5, held: Held { code: 1, line: 0, fault: 0 } }
 comes to
-None, seen 5 5, entries 5, broken false, faults 0
+None, seen 5 5, entries 5, broken false, faults 0, synced 201
 nexus 2
 principal alice pa
 principal bob pb
@@ -93,7 +95,7 @@ alice say alice : ( -> Written(Refused { at: 2, refusal: BadFormula })
 alice call read f -> Judged { at: 2, finding: Denied(GoalUnset) }
 bob call read g -> Judged { at: 2, finding: Denied(GoalUnset) }
 comes to
-None, seen 2 2, entries 2, broken false, faults 0
+None, seen 2 2, entries 2, broken false, faults 0, synced 76
 nexus 2
 principal alice pa
 principal bob pb
@@ -102,7 +104,7 @@ principal bob pb
 end";
 
 // The title of the first play that comes to something else, with what it comes to. Nothing where there is none.
-fn first_other<R: Net<Listener = TcpListener, Stream = TcpStream> + Clock>(
+fn first_other<R: Net<Listener = TcpListener, Stream = TcpStream> + Clock + Wait>(
     rt: &R,
     alloc: Global,
     plays: &str,
@@ -151,15 +153,16 @@ const OF_REGIONS: &str = "2 alice goal read o0 : true
 ";
 
 // What the steps come to over a policy with so many objects that two share a region, if it is not what it must be.
-fn other_of_regions<R: Net<Listener = TcpListener, Stream = TcpStream> + Clock>(
+fn other_of_regions<R: Net<Listener = TcpListener, Stream = TcpStream> + Clock + Wait>(
     rt: &R,
     alloc: Global,
 ) -> Result<String, AllocError> {
     let front = objects(alloc)?;
     let policy = format!(in alloc; "{front}end\n")?;
     let told = told(rt, alloc, &play_of(policy.as_bytes(), REGIONS))?;
+    let synced = front.len().saturating_add(OF_REGIONS.len());
     let due = format!(in alloc;
-        "None, seen 261 261, entries 261, broken false, faults 0\n{front}{OF_REGIONS}end"
+        "None, seen 261 261, entries 261, broken false, faults 0, synced {synced}\n{front}{OF_REGIONS}end"
     )?;
     if told == due {
         Ok(String::new(alloc))

@@ -163,7 +163,7 @@ where
     let piece = devices.piece.max(1);
     let (takes, sends) = (devices.take_fails, devices.send_fails);
     let link = MemLink::new(alloc, come, 1000, piece, takes, sends)?;
-    let mut output = MemSink::new(alloc, devices.written_room, piece, &[])?;
+    let mut output = MemSink::new(alloc, devices.written_room, piece, &[], &[])?;
     let mut door = dialing(alloc, link, devices.dial_fails)?;
     let talk = talk(rt, alloc, b"here", &requests, &mut door, &mut output);
     let end = talk.end;

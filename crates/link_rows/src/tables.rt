@@ -16,6 +16,7 @@ fn told<R: Net<Listener = TcpListener, Stream = TcpStream> + Clock>(
 ) -> Result<String, AllocError> {
     match kind {
         "devices" => streams::told(alloc, input),
+        "syncs" => streams::synced_by(alloc, input),
         "reader" => streams::read_by(alloc, input),
         "writer" => streams::written_by(alloc, input),
         "link" => links::told(alloc, input),

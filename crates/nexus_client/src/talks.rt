@@ -47,6 +47,7 @@ where
     ensures closed { IfSome result.dialed (λ link. D.Link.closed link ≡ true) }
     ensures toward { IfSome result.dialed (λ link. D.Link.toward link ≡ Some address.now) }
     ensures place { IfSome result.dialed (λ link. D.Link.place link ≡ 0) }
+    ensures admitted { IfSome result.dialed (λ link. D.Link.admitted link ≡ false) }
     ensures link_count { IfSome result.dialed (λ link. MayRise (link_faults_after result.end 0) (D.Link.faults link)) }
     ensures complete { ¬ Rose (faults_in (D.calls door.old)) (faults_in (D.calls door.new)) → ¬ Rose (K.faults output.old) (K.faults output.new)
         → IfSome result.dialed (λ link. ¬ Rose 0 (D.Link.faults link)) → IsUnbroken result.end }
@@ -89,6 +90,7 @@ fn exchange_all<L: Link, K: Sink>(
     ensures talks { TalksMore result requests.now (L.sent link.old) (L.sent link.new) (L.taken link.old) (L.taken link.new) (K.sent output.old) (K.sent output.new) (L.over link.new) }
     ensures ended { L.over link.new ≡ true → IsAtEnd (L.left link.new) }
     ensures origin { KeepsOrigin (L.place link.old) (L.place link.new) (L.toward link.old) (L.toward link.new) }
+    ensures admitted { L.admitted link.new ≡ L.admitted link.old }
     ensures link_later { L.faults link.old ≤ L.faults link.new }
     ensures link_count { L.faults link.new ≡ link_faults_after result (L.faults link.old) }
     ensures output_later { K.faults output.old ≤ K.faults output.new }
@@ -117,6 +119,7 @@ fn exchange<L: Link, K: Sink>(
     ensures passes { Exchanges result request.now (L.sent link.old) (L.sent link.new) (L.taken link.old) (L.taken link.new) (K.sent output.old) (K.sent output.new) (L.over link.new) }
     ensures ended { L.over link.new ≡ true → IsAtEnd (L.left link.new) }
     ensures origin { KeepsOrigin (L.place link.old) (L.place link.new) (L.toward link.old) (L.toward link.new) }
+    ensures admitted { L.admitted link.new ≡ L.admitted link.old }
     ensures link_later { L.faults link.old ≤ L.faults link.new }
     ensures link_count { L.faults link.new ≡ link_faults_so_far result (L.faults link.old) }
     ensures output_later { K.faults output.old ≤ K.faults output.new }

@@ -3,8 +3,11 @@
 
 use authority_ask::{HostClock, HostPanel};
 use nexus_run::{SystemArguments, start};
-use nx_io::{OpenGate, StdSink, StdSource, TcpDoor};
+use nx_io::{FileSink, OpenGate, SocketDoor, StdSink, StdSource};
 use std::process::ExitCode;
+
+/// The name of standard output among the open files of the process.
+const STANDARD_OUTPUT: &str = "/proc/self/fd/1";
 
 /// Starts the program on the arguments of its call, on standard input, with the records on standard error, and on standard output,
 /// and ends with its status.
@@ -15,14 +18,14 @@ fn main(rt: HostRuntime) -> ExitCode {
     let mut arguments = SystemArguments::new(&rt);
     let mut input = StdSource::new(rt.stdin());
     let mut records = StdSink::new(rt.stderr());
-    let output = StdSink::new(rt.stdout());
+    let output = FileSink::new(&rt, rt.stdout(), STANDARD_OUTPUT);
     let finished = start(
         &rt,
         &mut arguments,
         &mut input,
         &mut records,
         output,
-        TcpDoor::new(),
+        SocketDoor::new(rt),
         panel,
         &OpenGate,
     );

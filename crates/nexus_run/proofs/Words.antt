@@ -9,13 +9,14 @@ use Rattle.std.specs.Fmt.{decimal}
 use Rattle.std.proofs.lemmas.Fmt.{IsAscii-decimal, decimal_injective}
 use Rattle.std.proofs.lemmas.Str.{IsUtf8-from_ascii}
 use Rattle.std.proofs.lemmas.Str.Ascii.{IsAscii-from_all}
-use Rattle.std.specs.Prelude.{nat_le, ◌&&◌}
+use Rattle.std.specs.Prelude.{nat_le, ◌&&◌, ◌≤◌, None, Some}
+use Rattle.std.specs.declared.option.Option.{Option}
 use Rattle.nal_term.specs.Secrets.{is_secret_byte}
-use Rattle.nexus_run.specs.Commands.{IsCommand, IsDrill, IsLoad, IsWithin, audit_words, check_words, command_words, compact_words, core_words, drill_words, explain_words, export_words, prove_words, recover_words, script_words, serve_words, talk_word, talk_words, trust_words}
+use Rattle.nexus_run.specs.Commands.{IsCommand, IsDrill, IsLoad, IsWithin, audit_words, check_words, command_words, compact_words, core_words, drill_words, explain_words, export_words, patience_words, prove_words, recover_words, script_words, serve_words, talk_word, talk_words, trust_words}
 use Rattle.nal_term.specs.Names.{IsName, is_letter, is_word, is_word_byte}
 use Rattle.nexus_client.specs.declared.inputs.TalkInput.{TalkInput}
 use Rattle.nexus_client.specs.declared.inputs.TalkInput.TheVariants.{RequestLines, PeerBundle}
-use Rattle.service_commands.specs.Services.{IsAddress, IsService}
+use Rattle.service_commands.specs.Services.{IsAddress, IsPatience, IsService, patience_in}
 use Rattle.nexus_run.specs.declared.commands.Command.{Command}
 use Rattle.nexus_run.specs.declared.commands.Command.TheVariants.{Check, Script, Core, Trust, Prove, Audit, Explain, Recover, Compact, Drill}
 
@@ -135,10 +136,40 @@ same_steps n number steps small within e = decimal_injective n steps small (step
 pub same_number : (n m : ℕ) → n < 2 ^ 64 → m < 2 ^ 64 → decimal n ≡ decimal m → n ≡ m
 same_number n m small small_too e = decimal_injective n m small small_too e
 
+-- the words of a patience tell it
+pub patience_same : (p q : Option ℕ) → IsPatience (patience_in p) → IsPatience (patience_in q) → patience_words p ≡ patience_words q → p ≡ q
+patience_same None None is is_too e = refl
+patience_same None (Some n) is is_too e = absurd (cc e)
+patience_same (Some n) None is is_too e = absurd (cc e)
+patience_same (Some n) (Some m) is is_too e =
+    let digits : decimal n ≡ decimal m = cc e in
+    ap Some (decimal_injective n m (omega (arith, is)) (omega (arith, is_too)) digits)
+
+-- a patience that is said is told by its word
+pub patience_told : (w : List ℕ) (rest : List (List ℕ)) (read : ℕ) (patience : Option ℕ) → IsPatience (patience_in patience) → w ∷ rest ≡ patience_words patience → w ≡ decimal read → read < 2 ^ 64
+    → (rest ≡ []) × IsPatience read
+patience_told w rest read None is e digits small = absurd (cc e)
+patience_told w rest read (Some n) is e digits small =
+    let word : w ≡ decimal n = cc e in
+    let none : rest ≡ [] = cc e in
+    let same : read ≡ n = decimal_injective read n small (omega (arith, is)) (sym digits ∙ word) in
+    (none, rw same is)
+
+-- a patience that is said stands alone
+pub patience_alone : (w : List ℕ) (rest : List (List ℕ)) (patience : Option ℕ) → w ∷ rest ≡ patience_words patience → rest ≡ []
+patience_alone w rest None e = absurd (cc e)
+patience_alone w rest (Some n) e = cc e
+
+-- what is not empty has texts
+pub not_alone : {A : Type 0} (f : A → List ℕ) (rest : List A) (b : Bool) → b ≡ (length rest == 0) → b ≡ false → map f rest ≡ [] → ⊥
+not_alone f [] b e off m = cc (e, off)
+not_alone f (x ∷ xs) b e off m = cc m
+
 -- a service is told by its words
-pub service_told : (address first a w s : List ℕ) (workers sessions workers_read sessions_read : ℕ) (words : List (List ℕ)) → words ≡ first ∷ a ∷ w ∷ s ∷ [] → words ≡ serve_words address workers sessions
-    → w ≡ decimal workers_read → s ≡ decimal sessions_read → workers_read < 2 ^ 64 → sessions_read < 2 ^ 64 → IsService address workers sessions → IsService a workers_read sessions_read
-service_told address first a w s workers sessions workers_read sessions_read words are told read read_too small small_too within =
+pub service_told : (address first a w s : List ℕ) (rest : List (List ℕ)) (workers sessions workers_read sessions_read : ℕ) (patience : Option ℕ) (words : List (List ℕ))
+    → words ≡ first ∷ a ∷ w ∷ s ∷ rest → words ≡ serve_words address workers sessions patience → w ≡ decimal workers_read → s ≡ decimal sessions_read → workers_read < 2 ^ 64 → sessions_read < 2 ^ 64
+    → IsService address workers sessions patience → IsAddress a × (1 ≤ workers_read) × (workers_read ≤ 1024) × (1 ≤ sessions_read) × (sessions_read ≤ 65536)
+service_told address first a w s rest workers sessions workers_read sessions_read patience words are told read read_too small small_too within =
     let all = sym are ∙ told in
     let at : a ≡ address = cc all in
     let first_is : w ≡ decimal workers = cc all in
@@ -147,20 +178,25 @@ service_told address first a w s workers sessions workers_read sessions_read wor
     let few_too = within.sessions_are in
     let workers_same : workers_read ≡ workers = same_number workers_read workers small (omega (arith, few)) (sym read ∙ first_is) in
     let sessions_same : sessions_read ≡ sessions = same_number sessions_read sessions small_too (omega (arith, few_too)) (sym read_too ∙ second_is) in
-    rw (at, workers_same, sessions_same) within
+    rw (at, workers_same, sessions_same) (within.address_is, few.0, few.1, few_too.0, few_too.1)
 
 -- the words of `serve` tell what is to be served
-pub serve_same : (address : List ℕ) (workers sessions : ℕ) (other : List ℕ) (m n : ℕ) → IsService address workers sessions → IsService other m n → serve_words address workers sessions ≡ serve_words other m n
-    → (address ≡ other) × (workers ≡ m) × (sessions ≡ n)
-serve_same address workers sessions other m n within within_too e =
+pub serve_same : (address : List ℕ) (workers sessions : ℕ) (patience : Option ℕ) (other : List ℕ) (m n : ℕ) (p : Option ℕ) → IsService address workers sessions patience → IsService other m n p
+    → serve_words address workers sessions patience ≡ serve_words other m n p → (address ≡ other) × (workers ≡ m) × (sessions ≡ n) × (patience ≡ p)
+serve_same address workers sessions patience other m n p within within_too e =
     let at : address ≡ other = cc e in
     let first : decimal workers ≡ decimal m = cc e in
     let second : decimal sessions ≡ decimal n = cc e in
+    let rest : patience_words patience ≡ patience_words p = cc e in
     let a = within.workers_are in
     let b = within.sessions_are in
     let c = within_too.workers_are in
-    let d = within_too.sessions_are in
-    (at, same_number workers m (omega (arith, a)) (omega (arith, c)) first, same_number sessions n (omega (arith, b)) (omega (arith, d)) second)
+    let d = within_too.sessions_are in (
+      at,
+      same_number workers m (omega (arith, a)) (omega (arith, c)) first,
+      same_number sessions n (omega (arith, b)) (omega (arith, d)) second,
+      patience_same patience p within.patience_is within_too.patience_is rest,
+    )
 
 both : (b c : Bool) → (b && c) ≡ true → (b ≡ true) × (c ≡ true)
 both true c e = (refl, e)
@@ -195,14 +231,18 @@ serve_is_text : IsUtf8 (codes "serve")
 unfolding lib.Utf8.encode
 serve_is_text = (codes "serve", (refl, refl))
 
-serve_words_are_texts : (address : List ℕ) (workers sessions : ℕ) → IsService address workers sessions → All IsUtf8 (serve_words address workers sessions)
-serve_words_are_texts address workers sessions within =
+patience_words_are_texts : (patience : Option ℕ) → IsPatience (patience_in patience) → All IsUtf8 (patience_words patience)
+patience_words_are_texts None is = All-nil IsUtf8
+patience_words_are_texts (Some n) is = All-cons IsUtf8 (decimal n) [] (number_is_text n (omega (arith, is))) (All-nil IsUtf8)
+
+serve_words_are_texts : (address : List ℕ) (workers sessions : ℕ) (patience : Option ℕ) → IsService address workers sessions patience → All IsUtf8 (serve_words address workers sessions patience)
+serve_words_are_texts address workers sessions patience within =
     let a = within.workers_are in
     let b = within.sessions_are in
-    All-cons IsUtf8 (codes "serve") (address ∷ decimal workers ∷ decimal sessions ∷ []) serve_is_text
-    (All-cons IsUtf8 address (decimal workers ∷ decimal sessions ∷ []) (address_is_text address within.address_is)
-    (All-cons IsUtf8 (decimal workers) (decimal sessions ∷ []) (number_is_text workers (omega (arith, a)))
-    (All-cons IsUtf8 (decimal sessions) [] (number_is_text sessions (omega (arith, b))) (All-nil IsUtf8))))
+    All-cons IsUtf8 (codes "serve") (address ∷ decimal workers ∷ decimal sessions ∷ patience_words patience) serve_is_text
+    (All-cons IsUtf8 address (decimal workers ∷ decimal sessions ∷ patience_words patience) (address_is_text address within.address_is)
+    (All-cons IsUtf8 (decimal workers) (decimal sessions ∷ patience_words patience) (number_is_text workers (omega (arith, a)))
+    (All-cons IsUtf8 (decimal sessions) (patience_words patience) (number_is_text sessions (omega (arith, b))) (patience_words_are_texts patience within.patience_is))))
 
 -- what is not so is not so
 pub not_so : (b : Bool) → b ≡ false → IsTrue b → ⊥
@@ -249,7 +289,7 @@ export_words_are_texts name is =
 pub not_command : (words : List (List ℕ)) → (All IsUtf8 words → ⊥) → IsCommand words → ⊥
 not_command words n (inl (inl (command, within, e))) = n (rw e (plain_is_text command within))
 not_command words n (inl (inr (name, is, e))) = n (rw e (export_words_are_texts name is))
-not_command words n (inr (inl (address, workers, sessions, within, e))) = n (rw e (serve_words_are_texts address workers sessions within))
+not_command words n (inr (inl (address, workers, sessions, patience, within, e))) = n (rw e (serve_words_are_texts address workers sessions patience within))
 not_command words n (inr (inr (input, address, is, e))) = n (rw e (talk_words_are_texts input address is))
 
 -- one word is the list of its texts

@@ -1,5 +1,6 @@
 -- The words by which commands are called.
-use Rattle.std.specs.Prelude.{◌≡◌, ◌<◌, ◌≤◌, ◌^◌, ◌⊎◌, ℕ, List, [], ◌∷◌, codes}
+use Rattle.std.specs.Prelude.{◌≡◌, ◌<◌, ◌≤◌, ◌^◌, ◌⊎◌, ℕ, List, [], ◌∷◌, codes, None, Some}
+use Rattle.std.specs.declared.option.Option.{Option}
 use Rattle.std.specs.Fmt.{decimal}
 use Rattle.nal_term.specs.Names.{IsName}
 use Rattle.nexus_client.specs.declared.inputs.TalkInput.{TalkInput}
@@ -90,13 +91,19 @@ IsExportCall words = (name : List ℕ) × IsName name × (words ≡ export_words
 abbrev pub IsPlain : List (List ℕ) → Type 0
 IsPlain words = IsNamed words ⊎ IsExportCall words
 
--- where a service listens, how many workers it has, and how many sessions each of them serves
-abbrev pub serve_words : List ℕ → ℕ → ℕ → List (List ℕ)
-serve_words address workers sessions = codes "serve" ∷ address ∷ decimal workers ∷ decimal sessions ∷ []
+-- for how many seconds a service waits for a peer that is admitted, where that is said
+abbrev pub patience_words : Option ℕ → List (List ℕ)
+patience_words None = []
+patience_words (Some seconds) = decimal seconds ∷ []
+
+-- where a service listens, how many workers it has, how many sessions each of them serves, and its patience, where that is said
+abbrev pub serve_words : List ℕ → ℕ → ℕ → Option ℕ → List (List ℕ)
+serve_words address workers sessions patience = codes "serve" ∷ address ∷ decimal workers ∷ decimal sessions ∷ patience_words patience
 
 -- the words are those of a service
 abbrev pub IsServiceCall : List (List ℕ) → Type 0
-IsServiceCall words = (address : List ℕ) × (workers : ℕ) × (sessions : ℕ) × IsService address workers sessions × (words ≡ serve_words address workers sessions)
+IsServiceCall words =
+    (address : List ℕ) × (workers : ℕ) × (sessions : ℕ) × (patience : Option ℕ) × IsService address workers sessions patience × (words ≡ serve_words address workers sessions patience)
 
 -- the word of a talk whose input is this
 abbrev pub talk_word : TalkInput → List ℕ

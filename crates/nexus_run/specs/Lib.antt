@@ -1,4 +1,5 @@
 pub mod Commands
 pub mod Arguments
+pub mod Lasting
 pub mod LoadRuns
 pub mod Commanded

@@ -1,9 +1,9 @@
 //! The words by which commands are called.
-ghost use Rattle.std.specs.Prelude.{◌≡◌, ◌≢◌, ◌↔◌, ◌<◌, ◌≤◌, ◌^◌, ◌∷◌, [], ℕ, List, IsTrue, MatchOption, map};
+ghost use Rattle.std.specs.Prelude.{◌≡◌, ◌≢◌, ◌↔◌, ◌<◌, ◌≤◌, ◌^◌, ◌∷◌, [], ℕ, List, IsTrue, MatchOption, Option, map};
 ghost use Rattle.nal_term.specs.Names.{IsName};
 ghost use Rattle.nexus_client.specs.declared.inputs.TalkInput.{TalkInput};
-ghost use Rattle.nexus_run.specs.Commands.{IsDrill, IsExportCall, IsLoad, IsNamed, IsTalkCall, IsWithin, command_words, core_words, drill_words, export_words, most_steps, serve_words, talk_word, talk_words};
-ghost use Rattle.service_commands.specs.Services.{IsAddress, IsService};
+ghost use Rattle.nexus_run.specs.Commands.{IsDrill, IsExportCall, IsLoad, IsNamed, IsTalkCall, IsWithin, command_words, core_words, drill_words, export_words, most_steps, patience_words, serve_words, talk_word, talk_words};
+ghost use Rattle.service_commands.specs.Services.{IsAddress, IsPatience, IsService, patience_in};
 
 use nal_term::{is_name, is_secret};
 use nexus_client::TalkInput;
@@ -14,7 +14,13 @@ use text_lines::read_number;
 const MOST_STEPS: u64 = 1_000_000;
 
 /// How many workers a service has at most.
-const MOST_WORKERS: u64 = 64;
+const MOST_WORKERS: u64 = 1024;
+
+/// For how many seconds a service waits at most for a peer that is admitted.
+const MOST_PATIENCE: u64 = 86_400;
+
+/// How many workers a load on threads has at most.
+const MOST_DRILL_WORKERS: u64 = 64;
 
 /// How many drawn requests a worker of a load has at most.
 const MOST_CALLS: u64 = 4000;
@@ -57,26 +63,58 @@ pub enum Command {
 /// The service that is called by these words. None exactly where they are those of none.
 /// `docs/FORMATS.md`, "Commands", states them.
 pub fn service_of<'a>(words: &'a [&'a str]) -> Option<Service<'a>>
-    ensures { MatchOption result ((address : List ℕ) (workers sessions : ℕ) → IsService address workers sessions → map (λ w. w.now) words.now ≢ serve_words address workers sessions)
-        (λ s. IsService s.address.now s.workers s.sessions × (map (λ w. w.now) words.now ≡ serve_words s.address.now s.workers s.sessions)) }
+    ensures { MatchOption result ((address : List ℕ) (workers sessions : ℕ) (patience : Option ℕ)
+        → IsService address workers sessions patience → map (λ w. w.now) words.now ≢ serve_words address workers
+        sessions patience)
+        (λ s. IsService s.address.now s.workers s.sessions s.patience
+        × (map (λ w. w.now) words.now ≡ serve_words s.address.now s.workers s.sessions s.patience)) }
 {
     let (first, rest) = words.split_first()?;
     if !is_same(first, "serve") {
         return None;
     }
-    let (address, workers, sessions) = three(rest)?;
+    let (address, workers, sessions, rest) = first_three(rest)?;
     let workers = read_number(workers.as_bytes())?;
     let sessions = read_number(sessions.as_bytes())?;
+    let patience = patience_of(rest)?;
     let address = address.as_bytes();
     if is_service(address, workers, sessions) {
         Some(Service {
             address,
             workers,
             sessions,
+            patience,
         })
     } else {
         None
     }
+}
+
+/// The patience that these words say, if they say one. None exactly where they are not those of a patience.
+fn patience_of(words: &[&str]) -> Option<Option<u64>>
+    ensures { MatchOption result ((patience : Option ℕ) → IsPatience (patience_in patience)
+        → map (λ w. w.now) words.now ≢ patience_words patience)
+        (λ patience. IsPatience (patience_in patience) × (map (λ w. w.now) words.now ≡ patience_words patience)) }
+{
+    match words.split_first() {
+        None => Some(None),
+        Some((word, rest)) => {
+            let seconds = read_number(word.as_bytes())?;
+            if rest.is_empty() && is_patience(seconds) {
+                Some(Some(seconds))
+            } else {
+                None
+            }
+        }
+    }
+}
+
+/// Whether a service may wait for so many seconds.
+fn is_patience(seconds: u64) -> bool
+    ensures value { IsTrue result ↔ IsPatience seconds }
+    ensures small { seconds < 2 ^ 64 }
+{
+    (1..=MOST_PATIENCE).contains(&seconds)
 }
 
 /// The talk that is called by these words. None exactly where they are those of none. `docs/FORMATS.md`, "Commands", states them.
@@ -125,7 +163,8 @@ pub fn export_of<'a>(words: &'a [&'a str]) -> Option<&'a [u8]>
 
 /// The words, where they are two.
 fn two<'a>(words: &'a [&'a str]) -> Option<(&'a str, &'a str)>
-    ensures { MatchOption result ((a b : List ℕ) → map (λ w. w.now) words.now ≢ a ∷ b ∷ []) (λ r. map (λ w. w.now) words.now ≡ r.0.now ∷ r.1.now ∷ []) }
+    ensures { MatchOption result ((a b : List ℕ) → map (λ w. w.now) words.now ≢ a ∷ b ∷ []) (λ r. map (λ w. w.now)
+        words.now ≡ r.0.now ∷ r.1.now ∷ []) }
 {
     let (first, rest) = words.split_first()?;
     let (second, rest) = rest.split_first()?;
@@ -138,7 +177,8 @@ fn two<'a>(words: &'a [&'a str]) -> Option<(&'a str, &'a str)>
 
 /// Whether a service may listen there, with so many workers and so many sessions for each.
 fn is_service(address: &[u8], workers: u64, sessions: u64) -> bool
-    ensures value { IsTrue result ↔ IsService address.now workers sessions }
+    ensures value { IsTrue result ↔ (IsAddress address.now × (1 ≤ workers) × (workers ≤ 1024) × (1 ≤ sessions)
+        × (sessions ≤ 65536)) }
     ensures small { (workers < 2 ^ 64) × (sessions < 2 ^ 64) }
 {
     is_address(address)
@@ -156,7 +196,8 @@ fn is_address(word: &[u8]) -> bool
 /// The command that these words name alone, or with numbers. None exactly where they name none.
 /// `docs/FORMATS.md`, "Commands", lists them.
 pub fn command_of(words: &[&str]) -> Option<Command>
-    ensures { MatchOption result (¬ IsNamed (map (λ w. w.now) words.now)) (λ command. IsWithin command × (map (λ w. w.now) words.now ≡ command_words command)) }
+    ensures { MatchOption result (¬ IsNamed (map (λ w. w.now) words.now)) (λ command. IsWithin command
+        × (map (λ w. w.now) words.now ≡ command_words command)) }
 {
     if is_word(words, "check") {
         Some(Command::Check)
@@ -183,7 +224,8 @@ pub fn command_of(words: &[&str]) -> Option<Command>
 fn load_of(words: &[&str]) -> Option<Command>
     ensures { MatchOption result
         (((number steps : ℕ) → IsLoad number steps → map (λ w. w.now) words.now ≢ core_words number steps)
-        × ((number workers calls : ℕ) → IsDrill number workers calls → map (λ w. w.now) words.now ≢ drill_words number workers calls))
+        × ((number workers calls : ℕ) → IsDrill number workers calls
+        → map (λ w. w.now) words.now ≢ drill_words number workers calls))
         (λ command. IsWithin command × (map (λ w. w.now) words.now ≡ command_words command)) }
 {
     match core_of(words) {
@@ -194,7 +236,8 @@ fn load_of(words: &[&str]) -> Option<Command>
 
 /// The load that is called by these words, if they are those of `drill`.
 fn drill_of(words: &[&str]) -> Option<Command>
-    ensures { MatchOption result ((number workers calls : ℕ) → IsDrill number workers calls → map (λ w. w.now) words.now ≢ drill_words number workers calls)
+    ensures { MatchOption result ((number workers calls : ℕ) → IsDrill number workers calls
+        → map (λ w. w.now) words.now ≢ drill_words number workers calls)
         (λ command. IsWithin command × (map (λ w. w.now) words.now ≡ command_words command)) }
 {
     let (word, rest) = words.split_first()?;
@@ -220,12 +263,14 @@ fn is_drill(workers: u64, calls: u64) -> bool
     ensures value { IsTrue result ↔ ((1 ≤ workers) × (workers ≤ 64) × (1 ≤ calls) × (calls ≤ 4000)) }
     ensures small { (workers < 2 ^ 64) × (calls < 2 ^ 64) }
 {
-    (1..=MOST_WORKERS).contains(&workers) && (1..=MOST_CALLS).contains(&calls)
+    (1..=MOST_DRILL_WORKERS).contains(&workers) && (1..=MOST_CALLS).contains(&calls)
 }
 
 /// The load that is called by these words, if they are those of `core`.
 fn core_of(words: &[&str]) -> Option<Command>
-    ensures { MatchOption result ((number steps : ℕ) → IsLoad number steps → map (λ w. w.now) words.now ≢ core_words number steps) (λ command. IsWithin command × (map (λ w. w.now) words.now ≡ command_words command)) }
+    ensures { MatchOption result ((number steps : ℕ) → IsLoad number steps
+        → map (λ w. w.now) words.now ≢ core_words number steps) (λ command. IsWithin command
+        × (map (λ w. w.now) words.now ≡ command_words command)) }
 {
     let (word, number, steps) = three(words)?;
     if !is_same(word, "core") {
@@ -249,7 +294,8 @@ fn are_few(steps: u64) -> bool
 
 /// The words, where they are three.
 fn three<'a>(words: &'a [&'a str]) -> Option<(&'a str, &'a str, &'a str)>
-    ensures { MatchOption result ((a b c : List ℕ) → map (λ w. w.now) words.now ≢ a ∷ b ∷ c ∷ []) (λ r. map (λ w. w.now) words.now ≡ r.0.now ∷ r.1.now ∷ r.2.now ∷ []) }
+    ensures { MatchOption result ((a b c : List ℕ) → map (λ w. w.now) words.now ≢ a ∷ b ∷ c ∷ []) (λ r. map (λ w.
+        w.now) words.now ≡ r.0.now ∷ r.1.now ∷ r.2.now ∷ []) }
 {
     let (first, rest) = words.split_first()?;
     let (second, rest) = rest.split_first()?;
@@ -259,6 +305,18 @@ fn three<'a>(words: &'a [&'a str]) -> Option<(&'a str, &'a str, &'a str)>
     } else {
         None
     }
+}
+
+/// The first three words, and those behind them.
+fn first_three<'a>(words: &'a [&'a str]) -> Option<(&'a str, &'a str, &'a str, &'a [&'a str])>
+    ensures { MatchOption result ((a b c : List ℕ) (rest : List (List ℕ))
+        → map (λ w. w.now) words.now ≢ a ∷ b ∷ c ∷ rest)
+        (λ r. map (λ w. w.now) words.now ≡ r.0.now ∷ r.1.now ∷ r.2.now ∷ map (λ w. w.now) r.3.now) }
+{
+    let (first, rest) = words.split_first()?;
+    let (second, rest) = rest.split_first()?;
+    let (third, rest) = rest.split_first()?;
+    Some((first, second, third, rest))
 }
 
 /// Whether this is the one word.

@@ -1,8 +1,9 @@
 //! The commands that are neither a service nor a talk.
-ghost use Rattle.std.specs.Prelude.{◌≡◌, ◌≢◌, ◌⊎◌, ℕ, None, map};
+ghost use Rattle.std.specs.Prelude.{◌≡◌, ◌≢◌, ◌⊎◌, ℕ, None, length, map};
 ghost use Rattle.nx_io.specs.Streams.{Gave, Grows, gained};
 ghost use Rattle.run_streams.specs.Runs.{sink_run, source_run};
 ghost use Rattle.nexus_run.specs.Commanded.{RunsCommand};
+ghost use Rattle.nexus_run.specs.Lasting.{EndsLasting};
 ghost use Rattle.nexus_run.specs.Commands.{IsPlain, compact_words, core_words, drill_words, script_words};
 ghost use Rattle.script_command.specs.Scripts.{HasMore, panel_run};
 
@@ -12,7 +13,7 @@ use answer_commands::{Found, Recovered, answer_input, check, compact, export};
 use audit_form::Told;
 use authority_ask::Panel;
 use explain_form::ExplanationText;
-use nx_io::{Sink, Source};
+use nx_io::{Reach, Sink, Source};
 use script_command::{PlainEnd, script};
 use std::alloc::Global;
 use std::net::{Net, TcpListener, TcpStream};
@@ -37,7 +38,8 @@ use trust_check::Trust;
 /// command, which then reads and writes nothing, 3 where the input is refused, 4 where the source failed, 5 where the
 /// sink failed, or of `compact` the records, 6 where memory ran out, and 8 where an authority could not be reached. At
 /// 4, 6 and 8 nothing was written, and at 5 a proper part of what was to be. `docs/FORMATS.md`, "Statuses", states
-/// this.
+/// this. What `script`, `recover` and `compact` have written whole is synced before they end with 0; where that fails, the status is 5 and
+/// all was written.
 ///
 /// The input is what the source gives in this call. It is read to its first end, unless it is too large. The panel is
 /// handed back; only `script` uses it, and only `compact` the records.
@@ -61,13 +63,17 @@ where
     ensures asked { HasMore (P.history panel) (P.history result.panel) }
     ensures untouched { (result.status ≡ 4) ⊎ (result.status ≡ 6) → output.new ≡ output.old }
     ensures command { RunsCommand (map (λ w. w.now) words.now)
-        (source_run (S.left input.old) (S.given input.old) (S.given input.new) (S.over input.new) (S.faults input.old) (S.faults input.new))
+        (source_run (S.left input.old) (S.given input.old) (S.given input.new) (S.over input.new) (S.faults
+        input.old) (S.faults input.new))
         (sink_run (K.sent output.old) (K.sent output.new) (K.faults output.old) (K.faults output.new))
         (sink_run (C.sent records.old) (C.sent records.new) (C.faults records.old) (C.faults records.new))
+        (K.synced output.new ≡ length (K.sent output.new))
         (panel_run (P.history panel) (P.history result.panel))
         result.journal result.status }
-    ensures core_reads_nothing { (number steps : ℕ) → map (λ w. w.now) words.now ≡ core_words number steps → input.new ≡ input.old }
-    ensures drill_reads_nothing { (number workers calls : ℕ) → map (λ w. w.now) words.now ≡ drill_words number workers calls → input.new ≡ input.old }
+    ensures core_reads_nothing { (number steps : ℕ) → map (λ w. w.now) words.now ≡ core_words number steps
+        → input.new ≡ input.old }
+    ensures drill_reads_nothing { (number workers calls : ℕ) → map (λ w. w.now) words.now ≡ drill_words number
+        workers calls → input.new ≡ input.old }
     ensures other_panel { map (λ w. w.now) words.now ≢ script_words → (result.panel ≡ panel) × (result.journal ≡ None) }
 {
     if let Some(name) = export_of(words) {
@@ -88,7 +94,18 @@ where
             journal: None,
             panel,
         },
-        Some(Command::Script) => script(rt, alloc, input, output, panel),
+        Some(Command::Script) => {
+            let PlainEnd {
+                status,
+                journal,
+                panel,
+            } = script(rt, alloc, input, output, panel);
+            PlainEnd {
+                status: lasting(status, output),
+                journal,
+                panel,
+            }
+        }
         Some(Command::Trust) => PlainEnd {
             status: answer_input::<Trust, S, K>(alloc, &(), input, output),
             journal: None,
@@ -109,16 +126,22 @@ where
             journal: None,
             panel,
         },
-        Some(Command::Recover) => PlainEnd {
-            status: answer_input::<Recovered, S, K>(alloc, &(), input, output),
-            journal: None,
-            panel,
-        },
-        Some(Command::Compact) => PlainEnd {
-            status: compact(alloc, input, output, records),
-            journal: None,
-            panel,
-        },
+        Some(Command::Recover) => {
+            let status = answer_input::<Recovered, S, K>(alloc, &(), input, output);
+            PlainEnd {
+                status: lasting(status, output),
+                journal: None,
+                panel,
+            }
+        }
+        Some(Command::Compact) => {
+            let status = compact(alloc, input, output, records);
+            PlainEnd {
+                status: lasting(status, output),
+                journal: None,
+                panel,
+            }
+        }
         Some(Command::Core { number, steps }) => PlainEnd {
             status: load(alloc, number, steps, output),
             journal: None,
@@ -135,5 +158,21 @@ where
             journal: None,
             panel,
         },
+    }
+}
+
+/// Brings the text that a command has written to where it lasts, where all of it was written. The status is then 5 where that failed.
+fn lasting<K: Sink>(status: u8, output: &mut K) -> u8
+    ensures sent { K.sent output.new ≡ K.sent output.old }
+    ensures untouched { (result ≡ 4) ⊎ (result ≡ 6) → output.new ≡ output.old }
+    ensures ends { EndsLasting (K.synced output.new ≡ length (K.sent output.new)) status result (K.faults
+        output.old) (K.faults output.new) }
+{
+    if status != 0 {
+        return status;
+    }
+    match output.sync() {
+        Reach::Ready => 0,
+        Reach::Failed => 5,
     }
 }

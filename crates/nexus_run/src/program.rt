@@ -1,4 +1,4 @@
-ghost use Rattle.std.specs.Prelude.{◌≡◌, ◌≢◌, ◌⊎◌, ℕ, List, [], None, map, option_map};
+ghost use Rattle.std.specs.Prelude.{◌≡◌, ◌≢◌, ◌⊎◌, ℕ, List, [], None, Option, length, map, option_map};
 ghost use Rattle.nx_io.specs.Streams.{Gave, Grows, gained};
 ghost use Rattle.run_streams.specs.Runs.{sink_run, source_run};
 ghost use Rattle.policy_history.specs.declared.heads.Head.{Head};
@@ -11,7 +11,7 @@ ghost use Rattle.nexus_client.specs.declared.inputs.TalkInput.{TalkInput};
 ghost use Rattle.service_commands.specs.Clients.{EndsClient, RunsClient};
 ghost use Rattle.nexus_run.specs.Commanded.{RunsCommand};
 ghost use Rattle.nexus_run.specs.Commands.{IsCommand, IsServiceCall, IsTalkCall, compact_words, core_words, drill_words, script_words, serve_words, talk_words};
-ghost use Rattle.service_commands.specs.Services.{IsAddress, IsService, HandsBack, RunsService};
+ghost use Rattle.service_commands.specs.Services.{IsAddress, IsService, HandsBack, RunsService, patience_in};
 ghost use Rattle.script_command.specs.Scripts.{HasMore, panel_run};
 
 use crate::commands::{service_of, talk_of};
@@ -20,6 +20,7 @@ use authority_ask::Panel;
 use nx_io::{Door, Gate, Link, Sink, Source};
 use service_commands::{ClientEnd, Ended, TalkCall, client, run_service};
 use std::alloc::{AllocGlobal, Global};
+use std::fs::Files;
 use std::net::{Net, TcpListener, TcpStream};
 use std::rt::Clock;
 use std::sync::Wait;
@@ -67,52 +68,85 @@ where
     R: Net<Listener = TcpListener, Stream = TcpStream>
         + AllocGlobal
         + Clock
+        + Files
         + Wait
         + Threads
         + Sync,
     ensures other_words { ¬ IsCommand (map (λ w. w.now) words.now)
         → (result.status ≡ 2) × (input.new ≡ input.old) × HandsBack result.output (λ k. k ≡ output) }
     ensures gave { Gave (S.left input.old) (S.left input.new) (S.given input.old) (S.given input.new) }
-    ensures sent { ¬ IsServiceCall (map (λ w. w.now) words.now) → HandsBack result.output (λ k. Grows (K.sent output) (K.sent k)) }
+    ensures sent { ¬ IsServiceCall (map (λ w. w.now) words.now)
+        → HandsBack result.output (λ k. Grows (K.sent output) (K.sent k)) }
     ensures recorded { Grows (C.sent records.old) (C.sent records.new) }
     ensures unrecorded { map (λ w. w.now) words.now ≢ compact_words → records.new ≡ records.old }
     ensures asked { HasMore (P.history panel) (P.history result.panel) }
-    ensures undialed { ¬ IsServiceCall (map (λ w. w.now) words.now) → result.dialed ≡ None → result.status ≢ 7 → result.door ≡ door }
-    ensures untouched { ¬ IsServiceCall (map (λ w. w.now) words.now) → result.dialed ≡ None → (result.status ≡ 4) ⊎ (result.status ≡ 6) → HandsBack result.output (λ k. k ≡ output) }
-    ensures command { ¬ IsServiceCall (map (λ w. w.now) words.now) → HandsBack result.output (λ k. RunsCommand (map (λ w. w.now) words.now)
-        (source_run (S.left input.old) (S.given input.old) (S.given input.new) (S.over input.new) (S.faults input.old) (S.faults input.new))
+    ensures undialed { ¬ IsServiceCall (map (λ w. w.now) words.now) → result.dialed ≡ None → result.status ≢ 7
+        → result.door ≡ door }
+    ensures untouched { ¬ IsServiceCall (map (λ w. w.now) words.now) → result.dialed ≡ None → (result.status ≡ 4)
+        ⊎ (result.status ≡ 6) → HandsBack result.output (λ k. k ≡ output) }
+    ensures command { ¬ IsServiceCall (map (λ w. w.now) words.now)
+        → HandsBack result.output (λ k. RunsCommand (map (λ w. w.now) words.now)
+        (source_run (S.left input.old) (S.given input.old) (S.given input.new) (S.over input.new) (S.faults
+        input.old) (S.faults input.new))
         (sink_run (K.sent output) (K.sent k) (K.faults output) (K.faults k))
         (sink_run (C.sent records.old) (C.sent records.new) (C.faults records.old) (C.faults records.new))
+        (K.synced k ≡ length (K.sent k))
         (panel_run (P.history panel) (P.history result.panel))
         result.journal result.status) }
-    ensures core_reads_nothing { (number steps : ℕ) → map (λ w. w.now) words.now ≡ core_words number steps → input.new ≡ input.old }
-    ensures drill_reads_nothing { (number workers calls : ℕ) → map (λ w. w.now) words.now ≡ drill_words number workers calls → input.new ≡ input.old }
-    ensures talk { (talk : TalkInput) (address : List ℕ) → map (λ w. w.now) words.now ≡ talk_words talk address → IsAddress address → HandsBack result.output (λ k. RunsClient talk address
-        (source_run (S.left input.old) (S.given input.old) (S.given input.new) (S.over input.new) (S.faults input.old) (S.faults input.new))
+    ensures core_reads_nothing { (number steps : ℕ) → map (λ w. w.now) words.now ≡ core_words number steps
+        → input.new ≡ input.old }
+    ensures drill_reads_nothing { (number workers calls : ℕ) → map (λ w. w.now) words.now ≡ drill_words number
+        workers calls → input.new ≡ input.old }
+    ensures talk { (talk : TalkInput) (address : List ℕ) → map (λ w. w.now) words.now ≡ talk_words talk address
+        → IsAddress address → HandsBack result.output (λ k. RunsClient talk address
+        (source_run (S.left input.old) (S.given input.old) (S.given input.new) (S.over input.new) (S.faults
+        input.old) (S.faults input.new))
         (sink_run (K.sent output) (K.sent k) (K.faults output) (K.faults k))
-        (door_view (link_view D.Link.left D.Link.taken D.Link.sent D.Link.over D.Link.closed D.Link.place D.Link.toward D.Link.faults) D.links D.origin D.calls door)
-        (door_view (link_view D.Link.left D.Link.taken D.Link.sent D.Link.over D.Link.closed D.Link.place D.Link.toward D.Link.faults) D.links D.origin D.calls result.door)
-        (option_map (link_view D.Link.left D.Link.taken D.Link.sent D.Link.over D.Link.closed D.Link.place D.Link.toward D.Link.faults) result.dialed)
+        (door_view (link_view D.Link.left D.Link.taken D.Link.sent D.Link.over D.Link.closed D.Link.admitted
+        D.Link.place D.Link.toward D.Link.faults) D.links D.origin D.calls door)
+        (door_view (link_view D.Link.left D.Link.taken D.Link.sent D.Link.over D.Link.closed D.Link.admitted
+        D.Link.place D.Link.toward D.Link.faults) D.links D.origin D.calls result.door)
+        (option_map (link_view D.Link.left D.Link.taken D.Link.sent D.Link.over D.Link.closed D.Link.admitted
+        D.Link.place D.Link.toward D.Link.faults) result.dialed)
         result.status) }
-    ensures serve { (address : List ℕ) (workers sessions : ℕ) → map (λ w. w.now) words.now ≡ serve_words address workers sessions → IsService address workers sessions
-        → RunsService P.history (record { address = address; workers = workers; sessions = sessions })
-        (source_run (S.left input.old) (S.given input.old) (S.given input.new) (S.over input.new) (S.faults input.old) (S.faults input.new))
-        (record { sent = K.sent output; faults = K.faults output }) (door_view (link_view D.Link.left D.Link.taken D.Link.sent D.Link.over D.Link.closed D.Link.place D.Link.toward D.Link.faults) D.links D.origin D.calls door) panel
+    ensures serve { (address : List ℕ) (workers sessions : ℕ) (patience : Option ℕ)
+        → map (λ w. w.now) words.now ≡ serve_words address workers sessions patience
+        → IsService address workers sessions patience
+        → RunsService P.history (record {
+          address = address;
+          workers = workers;
+          sessions = sessions;
+          patience =
+              patience_in patience;
+        })
+        (source_run (S.left input.old) (S.given input.old) (S.given input.new) (S.over input.new) (S.faults
+        input.old) (S.faults input.new))
+        (record { sent = K.sent output; synced = K.synced output; faults = K.faults output }) (door_view (link_view
+        D.Link.left D.Link.taken D.Link.sent D.Link.over D.Link.closed D.Link.admitted D.Link.place
+        D.Link.toward D.Link.faults) D.links D.origin D.calls door) panel
         (record {
           status = result.status;
-          output = option_map (λ k. record { sent = K.sent k; faults = K.faults k }) result.output;
+          output = option_map (λ k. record { sent = K.sent k; synced = K.synced k; faults = K.faults k }) result.output;
           journal = result.journal;
-          reports = map (report_view (link_view D.Link.left D.Link.taken D.Link.sent D.Link.over D.Link.closed D.Link.place D.Link.toward D.Link.faults)) result.reports.items;
-          door = (door_view (link_view D.Link.left D.Link.taken D.Link.sent D.Link.over D.Link.closed D.Link.place D.Link.toward D.Link.faults) D.links D.origin D.calls result.door);
-          doors = map (door_view (link_view D.Link.left D.Link.taken D.Link.sent D.Link.over D.Link.closed D.Link.place D.Link.toward D.Link.faults) D.links D.origin D.calls) result.doors.items;
+          reports = map (report_view (link_view D.Link.left D.Link.taken D.Link.sent D.Link.over D.Link.closed
+              D.Link.admitted D.Link.place D.Link.toward D.Link.faults)) result.reports.items;
+          door = (door_view (link_view D.Link.left D.Link.taken D.Link.sent D.Link.over D.Link.closed
+              D.Link.admitted D.Link.place D.Link.toward D.Link.faults) D.links D.origin D.calls result.door);
+          doors = map (door_view (link_view D.Link.left D.Link.taken D.Link.sent D.Link.over D.Link.closed
+              D.Link.admitted D.Link.place D.Link.toward D.Link.faults) D.links D.origin D.calls) result.doors.items;
           panel = result.panel;
           panels = result.panels.items;
         }) }
-    ensures earned { (h : Head) (es : List Entry) → IsJournal result.journal h es → (low : ℕ) × AreTrue h (entry_trees es) low
-        (map (report_view (link_view D.Link.left D.Link.taken D.Link.sent D.Link.over D.Link.closed D.Link.place D.Link.toward D.Link.faults)) result.reports.items) }
-    ensures other_door { ¬ IsServiceCall (map (λ w. w.now) words.now) → ¬ IsTalkCall (map (λ w. w.now) words.now) → result.door ≡ door }
-    ensures unshared { ¬ IsServiceCall (map (λ w. w.now) words.now) → (result.reports.items ≡ []) × (result.doors.items ≡ []) × (result.panels.items ≡ []) }
-    ensures other_panel { map (λ w. w.now) words.now ≢ script_words → ¬ IsServiceCall (map (λ w. w.now) words.now) → (result.panel ≡ panel) × (result.journal ≡ None) }
+    ensures earned { (h : Head) (es : List Entry) → IsJournal result.journal h es → (low : ℕ)
+        × AreTrue h (entry_trees es) low
+        (map (report_view (link_view D.Link.left D.Link.taken D.Link.sent D.Link.over D.Link.closed D.Link.admitted
+        D.Link.place D.Link.toward D.Link.faults)) result.reports.items) }
+    ensures other_door { ¬ IsServiceCall (map (λ w. w.now) words.now) → ¬ IsTalkCall (map (λ w. w.now) words.now)
+        → result.door ≡ door }
+    ensures unshared { ¬ IsServiceCall (map (λ w. w.now) words.now) → (result.reports.items ≡ [])
+        × (result.doors.items ≡ []) × (result.panels.items ≡ []) }
+    ensures other_panel { map (λ w. w.now) words.now ≢ script_words
+        → ¬ IsServiceCall (map (λ w. w.now) words.now) → (result.panel ≡ panel) × (result.journal ≡ None) }
     ensures dialed { ¬ IsTalkCall (map (λ w. w.now) words.now) → result.dialed ≡ None }
 {
     let alloc = rt.alloc();
@@ -156,16 +190,22 @@ where
     R: Net<Listener = TcpListener, Stream = TcpStream> + Clock,
     ensures gave { Gave (S.left input.old) (S.left input.new) (S.given input.old) (S.given input.new) }
     ensures sent { HandsBack result.output (λ k. Grows (K.sent output) (K.sent k)) }
-    ensures untouched { result.dialed ≡ None → (result.status ≡ 4) ⊎ (result.status ≡ 6) → HandsBack result.output (λ k. k ≡ output) }
+    ensures untouched { result.dialed ≡ None → (result.status ≡ 4) ⊎ (result.status ≡ 6)
+        → HandsBack result.output (λ k. k ≡ output) }
     ensures undialed { result.dialed ≡ None → result.status ≢ 7 → result.door ≡ door }
     ensures talk { HandsBack result.output (λ k. EndsClient call.entry.input call.entry.address.now
-        (source_run (S.left input.old) (S.given input.old) (S.given input.new) (S.over input.new) (S.faults input.old) (S.faults input.new))
+        (source_run (S.left input.old) (S.given input.old) (S.given input.new) (S.over input.new) (S.faults
+        input.old) (S.faults input.new))
         (sink_run (K.sent output) (K.sent k) (K.faults output) (K.faults k))
-        (door_view (link_view D.Link.left D.Link.taken D.Link.sent D.Link.over D.Link.closed D.Link.place D.Link.toward D.Link.faults) D.links D.origin D.calls door)
-        (door_view (link_view D.Link.left D.Link.taken D.Link.sent D.Link.over D.Link.closed D.Link.place D.Link.toward D.Link.faults) D.links D.origin D.calls result.door)
-        (option_map (link_view D.Link.left D.Link.taken D.Link.sent D.Link.over D.Link.closed D.Link.place D.Link.toward D.Link.faults) result.dialed)
+        (door_view (link_view D.Link.left D.Link.taken D.Link.sent D.Link.over D.Link.closed D.Link.admitted
+        D.Link.place D.Link.toward D.Link.faults) D.links D.origin D.calls door)
+        (door_view (link_view D.Link.left D.Link.taken D.Link.sent D.Link.over D.Link.closed D.Link.admitted
+        D.Link.place D.Link.toward D.Link.faults) D.links D.origin D.calls result.door)
+        (option_map (link_view D.Link.left D.Link.taken D.Link.sent D.Link.over D.Link.closed D.Link.admitted
+        D.Link.place D.Link.toward D.Link.faults) result.dialed)
         result.status) }
-    ensures unused { (result.journal ≡ None) × (result.reports.items ≡ []) × (result.doors.items ≡ []) × (result.panel ≡ panel) × (result.panels.items ≡ []) }
+    ensures unused { (result.journal ≡ None) × (result.reports.items ≡ []) × (result.doors.items ≡ [])
+        × (result.panel ≡ panel) × (result.panels.items ≡ []) }
 {
     let mut output = output;
     let mut door = door;

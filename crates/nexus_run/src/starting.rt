@@ -1,4 +1,4 @@
-ghost use Rattle.std.specs.Prelude.{◌≡◌, ◌≢◌, ◌⊎◌, ℕ, List, [], IsTrue, None, Some, map, option_map};
+ghost use Rattle.std.specs.Prelude.{◌≡◌, ◌≢◌, ◌⊎◌, ℕ, List, [], IsTrue, None, Option, Some, length, map, option_map};
 ghost use Rattle.std.specs.Process.{exit_status};
 ghost use Rattle.nx_io.specs.Streams.{Gave, Grows, gained};
 ghost use Rattle.run_streams.specs.Runs.{sink_run, source_run};
@@ -13,7 +13,7 @@ ghost use Rattle.nexus_client.specs.declared.inputs.TalkInput.{TalkInput};
 ghost use Rattle.service_commands.specs.Clients.{RunsClient};
 ghost use Rattle.nexus_run.specs.Commanded.{RunsCommand};
 ghost use Rattle.nexus_run.specs.Commands.{IsCommand, IsServiceCall, IsTalkCall, compact_words, core_words, drill_words, script_words, serve_words, talk_words};
-ghost use Rattle.service_commands.specs.Services.{IsAddress, IsService, HandsBack, RunsService};
+ghost use Rattle.service_commands.specs.Services.{IsAddress, IsService, HandsBack, RunsService, patience_in};
 ghost use Rattle.script_command.specs.Scripts.{HasMore, panel_run};
 
 use crate::arguments::{Arguments, texts, words_of_call};
@@ -23,6 +23,7 @@ use nx_io::{Door, Gate, Link, Sink, Source};
 use policy_history::Journal;
 use session_core::Report;
 use std::alloc::{AllocGlobal, Global};
+use std::fs::Files;
 use std::net::{Net, TcpListener, TcpStream};
 use std::process::ExitCode;
 use std::rt::Clock;
@@ -64,56 +65,95 @@ where
     R: Net<Listener = TcpListener, Stream = TcpStream>
         + AllocGlobal
         + Clock
+        + Files
         + Wait
         + Threads
         + Sync,
     ensures words { Grows (A.told arguments.old) (A.told arguments.new) }
     ensures all_words { exit_status result.code ≢ 6 → IsTrue (A.over arguments.new) }
     ensures other_words { ¬ IsCommand (words_of_call (gained (A.told arguments.old) (A.told arguments.new)))
-        → ((exit_status result.code ≡ 2) ⊎ (exit_status result.code ≡ 6)) × (input.new ≡ input.old) × HandsBack result.output (λ k. k ≡ output) }
+        → ((exit_status result.code ≡ 2) ⊎ (exit_status result.code ≡ 6)) × (input.new ≡ input.old)
+        × HandsBack result.output (λ k. k ≡ output) }
     ensures gave { Gave (S.left input.old) (S.left input.new) (S.given input.old) (S.given input.new) }
-    ensures sent { ¬ IsServiceCall (words_of_call (gained (A.told arguments.old) (A.told arguments.new))) → HandsBack result.output (λ k. Grows (K.sent output) (K.sent k)) }
+    ensures sent { ¬ IsServiceCall (words_of_call (gained (A.told arguments.old) (A.told arguments.new)))
+        → HandsBack result.output (λ k. Grows (K.sent output) (K.sent k)) }
     ensures recorded { Grows (C.sent records.old) (C.sent records.new) }
     ensures unrecorded { words_of_call (gained (A.told arguments.old) (A.told arguments.new)) ≢ compact_words
         → records.new ≡ records.old }
     ensures asked { HasMore (P.history panel) (P.history result.panel) }
-    ensures undialed { ¬ IsServiceCall (words_of_call (gained (A.told arguments.old) (A.told arguments.new))) → result.dialed ≡ None → exit_status result.code ≢ 7 → result.door ≡ door }
-    ensures untouched { ¬ IsServiceCall (words_of_call (gained (A.told arguments.old) (A.told arguments.new))) → result.dialed ≡ None → (exit_status result.code ≡ 4) ⊎ (exit_status result.code ≡ 6) → HandsBack result.output (λ k. k ≡ output) }
-    ensures command { ¬ IsServiceCall (words_of_call (gained (A.told arguments.old) (A.told arguments.new))) → HandsBack result.output (λ k. RunsCommand (words_of_call (gained (A.told arguments.old) (A.told arguments.new)))
-        (source_run (S.left input.old) (S.given input.old) (S.given input.new) (S.over input.new) (S.faults input.old) (S.faults input.new))
+    ensures undialed { ¬ IsServiceCall (words_of_call (gained (A.told arguments.old) (A.told arguments.new)))
+        → result.dialed ≡ None → exit_status result.code ≢ 7 → result.door ≡ door }
+    ensures untouched { ¬ IsServiceCall (words_of_call (gained (A.told arguments.old) (A.told arguments.new)))
+        → result.dialed ≡ None → (exit_status result.code ≡ 4) ⊎ (exit_status result.code ≡ 6)
+        → HandsBack result.output (λ k. k ≡ output) }
+    ensures command { ¬ IsServiceCall (words_of_call (gained (A.told arguments.old) (A.told arguments.new)))
+        → HandsBack result.output (λ k. RunsCommand (words_of_call (gained (A.told arguments.old) (A.told
+        arguments.new)))
+        (source_run (S.left input.old) (S.given input.old) (S.given input.new) (S.over input.new) (S.faults
+        input.old) (S.faults input.new))
         (sink_run (K.sent output) (K.sent k) (K.faults output) (K.faults k))
         (sink_run (C.sent records.old) (C.sent records.new) (C.faults records.old) (C.faults records.new))
+        (K.synced k ≡ length (K.sent k))
         (panel_run (P.history panel) (P.history result.panel))
         result.journal (exit_status result.code)) }
-    ensures core_reads_nothing { (number steps : ℕ) → words_of_call (gained (A.told arguments.old) (A.told arguments.new)) ≡ core_words number steps → input.new ≡ input.old }
-    ensures drill_reads_nothing { (number workers calls : ℕ) → words_of_call (gained (A.told arguments.old) (A.told arguments.new)) ≡ drill_words number workers calls → input.new ≡ input.old }
-    ensures talk { (talk : TalkInput) (address : List ℕ) → words_of_call (gained (A.told arguments.old) (A.told arguments.new)) ≡ talk_words talk address → IsAddress address → HandsBack result.output (λ k. RunsClient talk address
-        (source_run (S.left input.old) (S.given input.old) (S.given input.new) (S.over input.new) (S.faults input.old) (S.faults input.new))
+    ensures core_reads_nothing { (number steps : ℕ) → words_of_call (gained (A.told arguments.old) (A.told
+        arguments.new)) ≡ core_words number steps → input.new ≡ input.old }
+    ensures drill_reads_nothing { (number workers calls : ℕ) → words_of_call (gained (A.told arguments.old) (A.told
+        arguments.new)) ≡ drill_words number workers calls → input.new ≡ input.old }
+    ensures talk { (talk : TalkInput) (address : List ℕ) → words_of_call (gained (A.told arguments.old) (A.told
+        arguments.new)) ≡ talk_words talk address → IsAddress address
+        → HandsBack result.output (λ k. RunsClient talk address
+        (source_run (S.left input.old) (S.given input.old) (S.given input.new) (S.over input.new) (S.faults
+        input.old) (S.faults input.new))
         (sink_run (K.sent output) (K.sent k) (K.faults output) (K.faults k))
-        (door_view (link_view D.Link.left D.Link.taken D.Link.sent D.Link.over D.Link.closed D.Link.place D.Link.toward D.Link.faults) D.links D.origin D.calls door)
-        (door_view (link_view D.Link.left D.Link.taken D.Link.sent D.Link.over D.Link.closed D.Link.place D.Link.toward D.Link.faults) D.links D.origin D.calls result.door)
-        (option_map (link_view D.Link.left D.Link.taken D.Link.sent D.Link.over D.Link.closed D.Link.place D.Link.toward D.Link.faults) result.dialed)
+        (door_view (link_view D.Link.left D.Link.taken D.Link.sent D.Link.over D.Link.closed D.Link.admitted
+        D.Link.place D.Link.toward D.Link.faults) D.links D.origin D.calls door)
+        (door_view (link_view D.Link.left D.Link.taken D.Link.sent D.Link.over D.Link.closed D.Link.admitted
+        D.Link.place D.Link.toward D.Link.faults) D.links D.origin D.calls result.door)
+        (option_map (link_view D.Link.left D.Link.taken D.Link.sent D.Link.over D.Link.closed D.Link.admitted
+        D.Link.place D.Link.toward D.Link.faults) result.dialed)
         (exit_status result.code)) }
-    ensures serve { (address : List ℕ) (workers sessions : ℕ) → words_of_call (gained (A.told arguments.old) (A.told arguments.new)) ≡ serve_words address workers sessions → IsService address workers sessions
-        → RunsService P.history (record { address = address; workers = workers; sessions = sessions })
-        (source_run (S.left input.old) (S.given input.old) (S.given input.new) (S.over input.new) (S.faults input.old) (S.faults input.new))
-        (record { sent = K.sent output; faults = K.faults output }) (door_view (link_view D.Link.left D.Link.taken D.Link.sent D.Link.over D.Link.closed D.Link.place D.Link.toward D.Link.faults) D.links D.origin D.calls door) panel
+    ensures serve { (address : List ℕ) (workers sessions : ℕ) (patience : Option ℕ)
+        → words_of_call (gained (A.told arguments.old) (A.told arguments.new)) ≡ serve_words address workers
+        sessions patience → IsService address workers sessions patience
+        → RunsService P.history (record {
+          address = address;
+          workers = workers;
+          sessions = sessions;
+          patience =
+              patience_in patience;
+        })
+        (source_run (S.left input.old) (S.given input.old) (S.given input.new) (S.over input.new) (S.faults
+        input.old) (S.faults input.new))
+        (record { sent = K.sent output; synced = K.synced output; faults = K.faults output }) (door_view (link_view
+        D.Link.left D.Link.taken D.Link.sent D.Link.over D.Link.closed D.Link.admitted D.Link.place
+        D.Link.toward D.Link.faults) D.links D.origin D.calls door) panel
         (record {
           status = exit_status result.code;
-          output = option_map (λ k. record { sent = K.sent k; faults = K.faults k }) result.output;
+          output = option_map (λ k. record { sent = K.sent k; synced = K.synced k; faults = K.faults k }) result.output;
           journal = result.journal;
-          reports = map (report_view (link_view D.Link.left D.Link.taken D.Link.sent D.Link.over D.Link.closed D.Link.place D.Link.toward D.Link.faults)) result.reports.items;
-          door = (door_view (link_view D.Link.left D.Link.taken D.Link.sent D.Link.over D.Link.closed D.Link.place D.Link.toward D.Link.faults) D.links D.origin D.calls result.door);
-          doors = map (door_view (link_view D.Link.left D.Link.taken D.Link.sent D.Link.over D.Link.closed D.Link.place D.Link.toward D.Link.faults) D.links D.origin D.calls) result.doors.items;
+          reports = map (report_view (link_view D.Link.left D.Link.taken D.Link.sent D.Link.over D.Link.closed
+              D.Link.admitted D.Link.place D.Link.toward D.Link.faults)) result.reports.items;
+          door = (door_view (link_view D.Link.left D.Link.taken D.Link.sent D.Link.over D.Link.closed
+              D.Link.admitted D.Link.place D.Link.toward D.Link.faults) D.links D.origin D.calls result.door);
+          doors = map (door_view (link_view D.Link.left D.Link.taken D.Link.sent D.Link.over D.Link.closed
+              D.Link.admitted D.Link.place D.Link.toward D.Link.faults) D.links D.origin D.calls) result.doors.items;
           panel = result.panel;
           panels = result.panels.items;
         }) }
-    ensures earned { (h : Head) (es : List Entry) → IsJournal result.journal h es → (low : ℕ) × AreTrue h (entry_trees es) low
-        (map (report_view (link_view D.Link.left D.Link.taken D.Link.sent D.Link.over D.Link.closed D.Link.place D.Link.toward D.Link.faults)) result.reports.items) }
-    ensures other_door { ¬ IsServiceCall (words_of_call (gained (A.told arguments.old) (A.told arguments.new))) → ¬ IsTalkCall (words_of_call (gained (A.told arguments.old) (A.told arguments.new))) → result.door ≡ door }
-    ensures unshared { ¬ IsServiceCall (words_of_call (gained (A.told arguments.old) (A.told arguments.new))) → (result.reports.items ≡ []) × (result.doors.items ≡ []) × (result.panels.items ≡ []) }
-    ensures other_panel { words_of_call (gained (A.told arguments.old) (A.told arguments.new)) ≢ script_words → ¬ IsServiceCall (words_of_call (gained (A.told arguments.old) (A.told arguments.new))) → (result.panel ≡ panel) × (result.journal ≡ None) }
-    ensures dialed { ¬ IsTalkCall (words_of_call (gained (A.told arguments.old) (A.told arguments.new))) → result.dialed ≡ None }
+    ensures earned { (h : Head) (es : List Entry) → IsJournal result.journal h es → (low : ℕ)
+        × AreTrue h (entry_trees es) low
+        (map (report_view (link_view D.Link.left D.Link.taken D.Link.sent D.Link.over D.Link.closed D.Link.admitted
+        D.Link.place D.Link.toward D.Link.faults)) result.reports.items) }
+    ensures other_door { ¬ IsServiceCall (words_of_call (gained (A.told arguments.old) (A.told arguments.new)))
+        → ¬ IsTalkCall (words_of_call (gained (A.told arguments.old) (A.told arguments.new))) → result.door ≡ door }
+    ensures unshared { ¬ IsServiceCall (words_of_call (gained (A.told arguments.old) (A.told arguments.new)))
+        → (result.reports.items ≡ []) × (result.doors.items ≡ []) × (result.panels.items ≡ []) }
+    ensures other_panel { words_of_call (gained (A.told arguments.old) (A.told arguments.new)) ≢ script_words
+        → ¬ IsServiceCall (words_of_call (gained (A.told arguments.old) (A.told arguments.new)))
+        → (result.panel ≡ panel) × (result.journal ≡ None) }
+    ensures dialed { ¬ IsTalkCall (words_of_call (gained (A.told arguments.old) (A.told arguments.new)))
+        → result.dialed ≡ None }
 {
     let alloc = rt.alloc();
     let Ok(words) = words_of_call(alloc, arguments) else {
@@ -160,7 +200,8 @@ where
     D::Link: Drop,
     ensures code { exit_status result.code ≡ status }
     ensures output { result.output ≡ Some output }
-    ensures unused { (result.journal ≡ None) × (result.reports.items ≡ []) × (result.dialed ≡ None) × (result.door ≡ door) × (result.doors.items ≡ []) × (result.panel ≡ panel) × (result.panels.items ≡ []) }
+    ensures unused { (result.journal ≡ None) × (result.reports.items ≡ []) × (result.dialed ≡ None)
+        × (result.door ≡ door) × (result.doors.items ≡ []) × (result.panel ≡ panel) × (result.panels.items ≡ []) }
 {
     Finished {
         code: ExitCode::from(status),

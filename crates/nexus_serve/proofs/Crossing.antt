@@ -37,12 +37,16 @@ use Rattle.nx_io.specs.declared.streams.Sink as sink
 use Rattle.std.proofs.sync.ledger.Book.TheSendSync.{the_send as tickets_send}
 use Rattle.policy_book.specs.declared.naming.BookNaming as naming
 use Rattle.std.specs.declared.sync.ledger.Ledger as ledger
-use Rattle.policy_book.specs.contracts.book.Book as Book
+use Rattle.std.specs.contracts.option.Option as Option
+use Rattle.std.specs.contracts.sync.Mutex as Mutex
+use Rattle.std.proofs.sync.ledger.Share.TheSendSync.{the_send as share_send}
+use Rattle.policy_book.specs.contracts.seated.SeatedJournal as SeatedJournal
+use Rattle.policy_book.specs.contracts.pens.Pen as Pen
 use Rattle.policy_book.specs.contracts.shelf.Shelf as Shelf
+use Rattle.policy_book.specs.contracts.turns.Turn as Turn
 use Rattle.verdict_words.proofs.seat.BookSeat.TheSendSync.{the_send as seat_send}
 use Rattle.verdict_words.proofs.mark.Mark.TheSendSync.{the_send as mark_send}
 use Rattle.verdict_words.proofs.board.Board.TheSendSync.{the_sync as board_sync}
-use Rattle.std.specs.contracts.sync.Mutex as Mutex
 use Rattle.verdict_words.specs.contracts.board.Board as Board
 use Rattle.policy_book.specs.contracts.matter.NalMatter as NalMatter
 use Rattle.policy_book.specs.contracts.matter.NalMatterMatter.TheImpl.{ghosts as matter}
@@ -105,15 +109,28 @@ policy_send = search (labels_send, goals_send, proofs_send, objects_send, crosse
 pub journal_send : IsSend Journal.the_row
 journal_send = search (head_send, entry_send, policy_send, crosses, declared_send, sendable) depth 30 fits 5000
 
+pub seated_send : IsSend SeatedJournal.the_row
+seated_send = search (journal_send, seat_send, crosses, declared_send, sendable) depth 30 fits 5000
+
+pub turn_send : (W : RattleType) (w : ledger.Ghosts W.Denot) → IsSend (Turn.the_row W w)
+turn_send W w = search (share_send, crosses, declared_send, sendable) depth 30 fits 5000
+
+pub turn_sync : (W : RattleType) (w : ledger.Ghosts W.Denot) → IsSync (Mutex.the_row (Turn.the_row W w))
+turn_sync W w = search (turn_send, crosses, sendable) depth 12
+
 module _ (K : RattleType) (g : sink.Ghosts K.Denot) where
-  pub book_send : IsSend K → IsSend (Book.the_row K g)
-  book_send s = search (journal_send, seat_send, mark_send, crosses, declared_send, sendable) depth 30 fits 5000
+  pub pen_send : IsSend K → IsSend (Pen.the_row K)
+  pen_send s = search (mark_send, crosses, declared_send, sendable) depth 30 fits 5000
 
-  pub shelf_send : (N T : RattleType) (n : naming.Ghosts N.Denot) (t : ledger.Ghosts T.Denot) → IsSend K → IsSend (Shelf.the_row K N T g n t)
-  shelf_send N T n t s = let b = book_send s in search (book_send, tickets_send, crosses, declared_send, sendable) depth 30 fits 5000
+  pub pen_in_send : IsSend K → IsSend (Option.the_row (Pen.the_row K))
+  pen_in_send s = let p = pen_send s in search (p, variants_send, crosses, sendable) depth 12
 
-  pub shelf_sync : (N T : RattleType) (n : naming.Ghosts N.Denot) (t : ledger.Ghosts T.Denot) → IsSend K → IsSync (Mutex.the_row (Shelf.the_row K N T g n t))
-  shelf_sync N T n t s = search (shelf_send, crosses, sendable) depth 12
+  module _ (N T W : RattleType) (n : naming.Ghosts N.Denot) (t : ledger.Ghosts T.Denot) (w : ledger.Ghosts W.Denot) (s : IsSend K) where
+    pub shelf_send : IsSend (Shelf.the_row K N T W g n t w)
+    shelf_send = let p = pen_in_send s in search (seated_send, tickets_send, crosses, declared_send, sendable) depth 30 fits 20000
+
+    pub shelf_sync : IsSync (Mutex.the_row (Shelf.the_row K N T W g n t w))
+    shelf_sync = search (shelf_send, crosses, sendable) depth 12
 
 pub nal_board_sync : IsSync (Board.the_row NalMatter.the_row Entry.the_row Head.the_row matter)
 nal_board_sync = search (board_sync, entry_send, head_send, crosses, declared_send, sendable) depth 30 fits 5000

@@ -70,9 +70,9 @@ all_behind P low whole front (e ∷ rest) is long each =
     let grown = length-append front (e ∷ []) in
     All-cons P e rest (each front e rest is long) (all_behind P low whole (front ++ e ∷ []) rest (is ∙ sym (append_assoc front (e ∷ []) rest)) (omega (arith, long, grown)) each)
 
-module _ {K P : Type 0} (panel : P → PanelHistory) (stays : ToldStaysTold) (book : BookValue K) (start : SinkView) (served : ServedView P) (most : ℕ) (hired workers : List (WorkerValue P)) (places spare : ℕ)
+module _ {K P : Type 0} (panel : P → PanelHistory) (stays : ToldStaysTold) (book : BookValue K) (synced : ℕ) (served : ServedView P) (most : ℕ) (hired workers : List (WorkerValue P)) (places spare : ℕ)
     (are_done : AreDone panel book.board book.board.origin.first most hired workers) (all_numbers : book.next ≡ book.board.origin.first + length workers * most)
-    (reported : IsReported book start (with_unused (gathered_all (nothing places spare) workers)) served) (total : ℕ) (is_counted : All (λ (worker : WorkerValue P). worker.unrecorded ≤ total) workers) (is_failed : 0 < total → book.is_broken ≡ true) (first_is : book.board.origin.first ≡ greatest_of (entry_trees book.board.origin.opening) + 1) where
+    (reported : IsReported book (with_unused (gathered_all (nothing places spare) workers)) served) (total : ℕ) (is_counted : All (λ (worker : WorkerValue P). worker.unrecorded ≤ total) workers) (is_failed : 0 < total → book.is_broken ≡ true) (first_is : book.board.origin.first ≡ greatest_of (entry_trees book.board.origin.opening) + 1) where
   abbrev board : Identity Entry Head
   board = book.board
 
@@ -236,7 +236,7 @@ module _ {K P : Type 0} (panel : P → PanelHistory) (stays : ToldStaysTold) (bo
 
   -- the text has failed
   abbrev Failed : Type 0
-  Failed = Rose start.faults reported.sink_now.faults
+  Failed = Rose book.start_faults reported.sink_now.faults
 
   counted : All (λ (worker : WorkerValue P). 0 < worker.unrecorded → Failed) workers
   counted = All-weaker (λ (worker : WorkerValue P). worker.unrecorded ≤ total) (λ (worker : WorkerValue P). 0 < worker.unrecorded → Failed)
@@ -266,5 +266,5 @@ module _ {K P : Type 0} (panel : P → PanelHistory) (stays : ToldStaysTold) (bo
       (subst (λ rs. IsServed board.origin.setting board.origin.opening es Failed most (doors_of hired) (doors_of workers) (map panel (panels_of hired)) (map panel (panels_of workers)) rs served.end) (sym handed) is_served))
 
   -- what was reported is what a service hands back
-  pub finished : Serves panel most board.origin.setting board.origin.opening start (doors_of hired) (panels_of hired) served
+  pub finished : Serves panel most board.origin.setting board.origin.opening (record { sent = book.start; synced = synced; faults = book.start_faults }) (doors_of hired) (panels_of hired) served
   finished = done es reported.sink_now reported.journal reported.sink all_served reported.text

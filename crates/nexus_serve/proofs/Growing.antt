@@ -51,7 +51,7 @@ module _ (stays : ToldStaysTold) (board : Identity Entry Head) (es : List Entry)
       }
 
   from_met : (report : ReportView) (link : LinkView) → HasComeFrom link report → HasComeFrom link (met_report board es known report)
-  from_met report link from = record { bytes = from.bytes; place = from.place; toward = from.toward; over = from.over; closed = from.closed; faults = from.faults }
+  from_met report link from = record { bytes = from.bytes; place = from.place; toward = from.toward; over = from.over; closed = from.closed; admitted = from.admitted; faults = from.faults }
 
   -- all sessions of a worker, once their passes were met again
   works_met : (first : ℕ) (door : DoorView) (panel : PanelHistory) (reports : List ReportView) (door_now : DoorView) (panel_now : PanelHistory)

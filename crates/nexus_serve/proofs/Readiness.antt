@@ -5,7 +5,7 @@ use Rattle.std.proofs.lemmas.List.{append-nil, length-map, replicate-append-repl
 use Rattle.std.proofs.lemmas.List.Elements.{All-map, All-weaker}
 use Rattle.std.specs.List.{flat_map}
 use Rattle.std.specs.Prelude.{All, map}
-use Rattle.nx_io.specs.DoorCalls.{DoorCall, DoorOrigin, address_in, listened, no_room_to_share, not_shared, share_of, shared}
+use Rattle.nx_io.specs.DoorCalls.{DoorCall, DoorOrigin, Listening, listening_in, listened, no_room_to_share, not_shared, share_of, shared}
 use Rattle.authority_ask.specs.PanelCalls.{PanelCall, PanelHistory, Placed, place_in, with_call}
 use Rattle.authority_ask.specs.PanelCalls as panels
 use Rattle.policy_history.specs.declared.events.Entry.{Entry}
@@ -15,7 +15,7 @@ use Rattle.nexus_serve.specs.declared.shares.Unready.{Unready}
 use Rattle.nexus_serve.specs.declared.shares.Unready.TheVariants.{Panel, Door, Memory}
 use Rattle.nexus_serve.specs.Views.{DoorView, LinkView}
 use Rattle.nexus_serve.specs.Services.{SinkView}
-use Rattle.nexus_serve.specs.Hosting.{HasCalled, HasCalledPanel, HostedView, Hosts, IsDoorShare, IsIdle, IsPanelShare, Plan, no_door, not_heard, not_made, panel_calls, ready_calls, unheard, unreached, unready}
+use Rattle.nexus_serve.specs.Hosting.{HasCalled, HasCalledPanel, HostedView, Hosts, IsDoorShare, IsIdle, IsPanelShare, Plan, listening_of, no_door, not_heard, not_made, panel_calls, ready_calls, unheard, unreached, unready}
 use Rattle.nexus_serve.specs.Inner.Sharing.{IsMade, IsShareOf, ReadiesDoor, SharesDoor, unready_status}
 
 -- ---- Shares of a door
@@ -26,26 +26,26 @@ shared_more calls now n e =
     ap (λ cs. cs ++ shared ∷ []) e ∙ append_assoc calls (replicate n shared) (shared ∷ [])
     ∙ ap (λ cs. calls ++ cs) (replicate-append-replicate n 1 shared)
 
--- by shares a door listens at no other address
-nowhere_else : (n : ℕ) → flat_map address_in (replicate n shared) ≡ []
+-- by shares a door listens nowhere else
+nowhere_else : (n : ℕ) → flat_map listening_in (replicate n shared) ≡ []
 nowhere_else zero = refl
 nowhere_else (suc n) = nowhere_else n
 
-still_nowhere : (n : ℕ) (last : DoorCall) → address_in last ≡ [] → flat_map address_in (replicate n shared ++ last ∷ []) ≡ []
-still_nowhere zero last none = ap (λ addresses. addresses ++ []) none
+still_nowhere : (n : ℕ) (last : DoorCall) → listening_in last ≡ [] → flat_map listening_in (replicate n shared ++ last ∷ []) ≡ []
+still_nowhere zero last none = ap (λ places. places ++ []) none
 still_nowhere (suc n) last none = still_nowhere n last none
 
-nowhere : {A : Type 0} (r : Result A Unready) (count made : ℕ) (more : List DoorCall) → SharesDoor r count made more → flat_map address_in more ≡ []
-nowhere (Ok a) count made more is = ap (flat_map address_in) is.1 ∙ nowhere_else made
+nowhere : {A : Type 0} (r : Result A Unready) (count made : ℕ) (more : List DoorCall) → SharesDoor r count made more → flat_map listening_in more ≡ []
+nowhere (Ok a) count made more is = ap (flat_map listening_in) is.1 ∙ nowhere_else made
 nowhere (Err Panel) count made more is = absurd is
-nowhere (Err Door) count made more is = ap (flat_map address_in) is.1 ∙ still_nowhere made not_shared refl
-nowhere (Err Memory) count made more is = ap (flat_map address_in) is.1 ∙ still_nowhere made no_room_to_share refl
+nowhere (Err Door) count made more is = ap (flat_map listening_in) is.1 ∙ still_nowhere made not_shared refl
+nowhere (Err Memory) count made more is = ap (flat_map listening_in) is.1 ∙ still_nowhere made no_room_to_share refl
 
--- what is a share of a door is one of the door behind calls by which it listens at no other address
-same_share : (o : DoorOrigin) (calls more : List DoorCall) → flat_map address_in more ≡ [] → share_of o (calls ++ more) ≡ share_of o calls
+-- what is a share of a door is one of the door behind calls by which it listens nowhere else
+same_share : (o : DoorOrigin) (calls more : List DoorCall) → flat_map listening_in more ≡ [] → share_of o (calls ++ more) ≡ share_of o calls
 same_share o calls more none =
-    ap (λ addresses. record { depth = o.depth + 1; listened_at = o.listened_at ++ addresses })
-    (flat_map-append address_in calls more ∙ ap (λ addresses. flat_map address_in calls ++ addresses) none ∙ append-nil (flat_map address_in calls))
+    ap (λ places. record { depth = o.depth + 1; listened_at = o.listened_at ++ places })
+    (flat_map-append listening_in calls more ∙ ap (λ places. flat_map listening_in calls ++ places) none ∙ append-nil (flat_map listening_in calls))
 
 module _ {X : Type 0} (origin : X → DoorOrigin) (calls : X → List DoorCall) where
   -- what is made as a share of a door that has shares already is a share of it
@@ -68,11 +68,11 @@ module _ {X : Type 0} (origin : X → DoorOrigin) (calls : X → List DoorCall) 
       xs shares
 
 -- a door that listens, and was to be shared
-pub readies : {A : Type 0} (r : Result A Unready) (address : List ℕ) (count made : ℕ) (more : List DoorCall) → SharesDoor r count made more → ReadiesDoor r address count made (listened address ∷ more)
-readies (Ok a) address count made more is = (is.0, ap (λ cs. listened address ∷ cs) is.1)
-readies (Err Panel) address count made more is = is
-readies (Err Door) address count made more is = inr (is.0, ap (λ cs. listened address ∷ cs) is.1)
-readies (Err Memory) address count made more is = (is.0, ap (λ cs. listened address ∷ cs) is.1)
+pub readies : {A : Type 0} (r : Result A Unready) (listening : Listening) (count made : ℕ) (more : List DoorCall) → SharesDoor r count made more → ReadiesDoor r listening count made (listened listening ∷ more)
+readies (Ok a) listening count made more is = (is.0, ap (λ cs. listened listening ∷ cs) is.1)
+readies (Err Panel) listening count made more is = is
+readies (Err Door) listening count made more is = inr (is.0, ap (λ cs. listened listening ∷ cs) is.1)
+readies (Err Memory) listening count made more is = (is.0, ap (λ cs. listened listening ∷ cs) is.1)
 
 -- ---- Shares of a panel
 
@@ -122,11 +122,11 @@ module _ {P X : Type 0} (panel : P → PanelHistory) (links : X → Option (List
     seen cs = HasCalled cs (view d) (view d_now)
 
     -- what was made once the door was to be shared
-    pub door_made : {A : Type 0} (r : Result A Unready) → ReadiesDoor r plan.address plan.workers (length xs) more → All (IsShareOf origin calls d_now) xs
+    pub door_made : {A : Type 0} (r : Result A Unready) → ReadiesDoor r (listening_of plan) plan.workers (length xs) more → All (IsShareOf origin calls d_now) xs
         → IsMade panel plan h (view d) (view d_now) asked asked_now (map view xs) ps r
     door_made (Ok a) made shares = record {
       reached = reached;
-      called = subst (λ n. seen (ready_calls plan.address n)) made.0 (subst seen made.1 called);
+      called = subst (λ n. seen (ready_calls (listening_of plan) n)) made.0 (subst seen made.1 called);
       door_count = length-map xs view ∙ made.0;
       door_shares = doors_viewed d_now xs shares;
       panel_count = count;
@@ -137,11 +137,11 @@ module _ {P X : Type 0} (panel : P → PanelHistory) (links : X → Option (List
     door_made (Err Door) (inr made) shares = record {
       all_shared = count;
       reached = reached;
-      failed = not_made (subst (λ n. n < plan.workers) (sym (length-map xs view)) made.0) (subst (λ n. seen (ready_calls plan.address n ++ not_shared ∷ [])) (sym (length-map xs view)) (subst seen made.1 called));
+      failed = not_made (subst (λ n. n < plan.workers) (sym (length-map xs view)) made.0) (subst (λ n. seen (ready_calls (listening_of plan) n ++ not_shared ∷ [])) (sym (length-map xs view)) (subst seen made.1 called));
     }
     door_made (Err Memory) made shares =
         no_door (subst (λ n. n < plan.workers) (sym (length-map xs view)) made.0) count
-        (subst (λ n. seen (ready_calls plan.address n ++ no_room_to_share ∷ [])) (sym (length-map xs view)) (subst seen made.1 called))
+        (subst (λ n. seen (ready_calls (listening_of plan) n ++ no_room_to_share ∷ [])) (sym (length-map xs view)) (subst seen made.1 called))
         (subst (λ n. HasCalledPanel (panel_calls h n) asked asked_now) (sym count) reached)
 
 -- how a service ends that is not ready

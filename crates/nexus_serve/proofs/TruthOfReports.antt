@@ -80,10 +80,10 @@ same_head (Some journal) h h2 es es2 is is2 = sym is2.0 ∙ is.0
 -- the same, by the head and the entries of the journal that is handed back
 handed_true : {P : Type 0} {panel : P → PanelHistory} {sessions : ℕ} {h : Head} {opening : List Entry} {sink : SinkView} {doors : List DoorView} {panels : List P} {served : ServedView P} (h2 : Head) (es : List Entry)
     → Serves panel sessions h opening sink doors panels served → IsJournal served.journal h2 es → AreTrue h2 (entry_trees es) (length opening) served.reports
-handed_true {h = h} {opening = opening} {served = served} h2 es (service.done es2 sink_now journal sink_is is_served text) is =
+handed_true {h = h} {opening = opening} {sink = sink} {served = served} h2 es (service.done es2 sink_now journal sink_is is_served text) is =
     let same = same_head served.journal h2 h es es2 is journal in
     subst (λ (x : Head). AreTrue x (entry_trees es) (length opening) served.reports) same
-    (serves_true es (service.done es2 sink_now journal sink_is is_served text) (subst (λ (x : Head). IsJournal served.journal x es) (sym same) is))
+    (serves_true {sink = sink} es (service.done es2 sink_now journal sink_is is_served text) (subst (λ (x : Head). IsJournal served.journal x es) (sym same) is))
 handed_true {opening = opening} h2 es (service.unopened sink_now journal sink_is sends rose none doors_are panels_are written ends) is = none_true h2 (entry_trees es) (length opening) _ none
 handed_true {opening = opening} h2 es (service.no_memory journal sink_is none doors_are panels_are written ends) is = none_true h2 (entry_trees es) (length opening) _ none
 

@@ -24,16 +24,16 @@ gives_viewed view (NextLink link) old new gives = ap (option_map (map view)) giv
 gives_viewed view NextNoMore old new gives = (ap (option_map (map view)) gives.0, none_viewed view old gives.1)
 gives_viewed view NextFailed old new gives = ap (option_map (map view)) gives
 
-module _ {L D : Type 0} (left : L → Option (List ℕ)) (taken sent : L → List ℕ) (over closed : L → Bool) (place : L → ℕ) (toward : L → Option (List ℕ)) (faults : L → ℕ)
+module _ {L D : Type 0} (left : L → Option (List ℕ)) (taken sent : L → List ℕ) (over closed admitted : L → Bool) (place : L → ℕ) (toward : L → Option (List ℕ)) (faults : L → ℕ)
     (links : D → Option (List L)) (origin : D → DoorOrigin) (calls : D → List DoorCall) where
   abbrev pub view : L → LinkView
-  view = link_view left taken sent over closed place toward faults
+  view = link_view left taken sent over closed admitted place toward faults
 
   abbrev pub door : D → DoorView
-  door = door_view (link_view left taken sent over closed place toward faults) links origin calls
+  door = door_view (link_view left taken sent over closed admitted place toward faults) links origin calls
 
   -- what a door answered, by what it tells
-  pub answered_viewed : (given : Next L) (d d_now : D) → IfGiven given (λ (link : L). IsFreshLink (taken link) (sent link) (over link) (closed link) (faults link))
+  pub answered_viewed : (given : Next L) (d d_now : D) → IfGiven given (λ (link : L). IsFreshLink (taken link) (sent link) (over link) (closed link) (admitted link) (faults link))
       → IfGiven given (λ (link : L). place link ≡ gave_in (calls d_now)) → IfGiven given (λ (link : L). toward link ≡ None) → Gives given (links d) (links d_now)
       → calls d_now ≡ calls d ++ next_call given ∷ [] → origin d_now ≡ origin d → HasAnswered (next_view view given) (door d) (door d_now)
   answered_viewed (NextLink link) d d_now fresh place toward gives called same =

@@ -1,6 +1,6 @@
 -- A service at an address: what was made ready for it, and how it ended.
 use Rattle.std.specs.Prelude.{◌≡◌, ◌<◌, ℕ, List, [], ◌∷◌, ◌++◌, length, map, replicate, All, Bool, true, false, Some, None}
-use Rattle.nx_io.specs.DoorCalls.{DoorCall, listened, no_room_to_share, not_listened, not_shared, share_of, shared}
+use Rattle.nx_io.specs.DoorCalls.{DoorCall, Listening, listened, no_room_to_share, not_listened, not_shared, share_of, shared}
 use Rattle.nx_io.specs.declared.streams.Reach.TheVariants.{Failed}
 use Rattle.authority_ask.specs.PanelCalls.{PanelCall, PanelHistory}
 use Rattle.authority_ask.specs.PanelCalls as panels
@@ -19,11 +19,16 @@ pub record HostedView (P : Type 0) : Type 0 where
   pub panel : P
   pub served : ServedView P
 
--- where a service listens, how many workers it has, and how many sessions each of them serves at most
+-- where a service listens, how many seconds a link may wait there for a peer that is admitted, how many workers the service has, and how many sessions each of them serves at most
 pub record Plan : Type 0 where
   pub address : List ℕ
+  pub patience : ℕ
   pub workers : ℕ
   pub sessions : ℕ
+
+-- where a service listens, and with what patience
+abbrev pub listening_of : Plan → Listening
+listening_of plan = record { address = plan.address; patience = plan.patience }
 
 -- A share of a door, and no share of a share: it listens where the door does, and was asked nothing yet
 pub record IsDoorShare (door share : DoorView) : Type 0 where
@@ -52,13 +57,13 @@ abbrev pub HasCalled : List DoorCall → DoorView → DoorView → Type 0
 HasCalled calls door door_now = door_now ≡ record door { calls = door.calls ++ calls }
 
 -- the calls by which a door listens at an address and so many shares of it are made
-abbrev pub ready_calls : List ℕ → ℕ → List DoorCall
-ready_calls address shares = listened address ∷ replicate shares shared
+abbrev pub ready_calls : Listening → ℕ → List DoorCall
+ready_calls listening shares = listened listening ∷ replicate shares shared
 
 -- so many shares were made, and then the door failed: it could not listen at the address, or not be shared once more
-pub data HasFailed (address : List ℕ) (workers shares : ℕ) (door door_now : DoorView) : Type 0 where
-  not_heard : shares ≡ 0 → HasCalled (not_listened address ∷ []) door door_now → HasFailed address workers shares door door_now
-  not_made : shares < workers → HasCalled (ready_calls address shares ++ not_shared ∷ []) door door_now → HasFailed address workers shares door door_now
+pub data HasFailed (listening : Listening) (workers shares : ℕ) (door door_now : DoorView) : Type 0 where
+  not_heard : shares ≡ 0 → HasCalled (not_listened listening ∷ []) door door_now → HasFailed listening workers shares door door_now
+  not_made : shares < workers → HasCalled (ready_calls listening shares ++ not_shared ∷ []) door door_now → HasFailed listening workers shares door door_now
 
 -- So many shares of the door and of the panel were made, and then there was no memory: for the lists of shares, so that none was made; for one
 -- share more of the panel, so that nothing was asked of the door; or for one share more of the door
@@ -66,7 +71,7 @@ pub data IsHeld (plan : Plan) (h : Head) (doors shares : ℕ) (door door_now : D
   no_lists : doors ≡ 0 → shares ≡ 0 → door_now ≡ door → HasCalledPanel (panel_calls h 0) panel panel_now → IsHeld plan h doors shares door door_now panel panel_now
   no_panel : doors ≡ 0 → shares < plan.workers → door_now ≡ door → HasCalledPanel (panel_calls h shares ++ panels.no_room_to_share ∷ []) panel panel_now
       → IsHeld plan h doors shares door door_now panel panel_now
-  no_door : doors < plan.workers → shares ≡ plan.workers → HasCalled (ready_calls plan.address doors ++ no_room_to_share ∷ []) door door_now
+  no_door : doors < plan.workers → shares ≡ plan.workers → HasCalled (ready_calls (listening_of plan) doors ++ no_room_to_share ∷ []) door door_now
       → HasCalledPanel (panel_calls h shares) panel panel_now → IsHeld plan h doors shares door door_now panel panel_now
 
 -- the status with which a service ends: 5 where its text was not written whole, then 7 where a door has failed, and else 0; but 6 where there was no memory
@@ -88,7 +93,7 @@ pub record IsIdle {P : Type 0} (panel : P → PanelHistory) (sink : SinkView) (d
 -- Everything is ready for a service: the authorities were reached, the door listens, and each worker has a share of both
 pub record AreReady {P : Type 0} (panel : P → PanelHistory) (plan : Plan) (h : Head) (door door_now : DoorView) (asked asked_now : PanelHistory) (doors : List DoorView) (shares : List P) : Type 0 where
   pub reached : HasCalledPanel (panel_calls h plan.workers) asked asked_now
-  pub called : HasCalled (ready_calls plan.address plan.workers) door door_now
+  pub called : HasCalled (ready_calls (listening_of plan) plan.workers) door door_now
   pub door_count : length doors ≡ plan.workers
   pub door_shares : All (IsDoorShare door_now) doors
   pub panel_count : length shares ≡ plan.workers
@@ -104,7 +109,7 @@ pub data Hosts {P : Type 0} (panel : P → PanelHistory) (plan : Plan) (h : Head
   unreached : hosted.status ≡ 8 → IsIdle panel sink hosted.door (panel hosted.panel) hosted.served → hosted.door ≡ door → hosted.served.doors ≡ []
       → HasFailedPanel h plan.workers (length hosted.served.panels) (panel asked) (panel hosted.panel) → Hosts panel plan h opening sink door asked hosted
   unheard : hosted.status ≡ 7 → IsIdle panel sink hosted.door (panel hosted.panel) hosted.served → length hosted.served.panels ≡ plan.workers
-      → HasCalledPanel (panel_calls h plan.workers) (panel asked) (panel hosted.panel) → HasFailed plan.address plan.workers (length hosted.served.doors) door hosted.door
+      → HasCalledPanel (panel_calls h plan.workers) (panel asked) (panel hosted.panel) → HasFailed (listening_of plan) plan.workers (length hosted.served.doors) door hosted.door
       → Hosts panel plan h opening sink door asked hosted
   unready : hosted.status ≡ 6 → IsIdle panel sink hosted.door (panel hosted.panel) hosted.served
       → IsHeld plan h (length hosted.served.doors) (length hosted.served.panels) door hosted.door (panel asked) (panel hosted.panel)

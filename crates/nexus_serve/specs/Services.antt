@@ -15,15 +15,16 @@ use Rattle.verdict_words.specs.Words.{first_words}
 use Rattle.verdict_words.specs.declared.views.AtomicStep.{AtomicStep}
 use Rattle.verdict_words.specs.declared.views.Item.{Item}
 use Rattle.verdict_words.specs.declared.views.Item.TheVariants.{Met}
-use Rattle.policy_book.specs.Books.{session_of}
+use Rattle.policy_book.specs.Books.{SendsFront, session_of}
 use Rattle.nexus_serve.specs.declared.service.ServeEnd.{ServeEnd}
 use Rattle.nexus_serve.specs.declared.service.ServeEnd.TheVariants.{Done, DoorFault, Memory}
 use Rattle.nexus_serve.specs.Views.{DoorView, ReportView}
 use Rattle.nexus_serve.specs.Workers.{HaveWorked, SomeFailed}
 
--- what a sink tells
+-- what a sink tells: what it was sent, how many bytes of its front a sync has brought to where they last, and how often it has failed
 pub record SinkView : Type 0 where
   pub sent : List ℕ
+  pub synced : ℕ
   pub faults : ℕ
 
 -- what a service hands back
@@ -83,13 +84,13 @@ pub record IsServed (h : Head) (opening es : List Entry) (Failed : Type 0) (sess
   pub made : All (λ (entry : Entry). Contains (sessions_of reports) entry.session) (drop (length opening) es)
   pub order : HaveOneOrder opening es reports
 
--- What a sink was sent of the policy text: all of it, where no write of it failed; or all but for its last line, and a proper part of one more entry's line or of the last
--- line, since the sink failed
-pub data IsTextSent (h : Head) (es : List EntryTree) (written : Bool) (sink sink_now : SinkView) : Type 0 where
-  whole : written ≡ true → Sends sink.sent sink_now.sent (policy_text h es) → sink_now.faults ≡ sink.faults → IsTextSent h es written sink sink_now
-  line_cut : (entry : EntryTree) → written ≡ false → IsAccepted h (replay h es) entry → SendsPart (sink.sent ++ front h es) sink_now.sent (line_of h entry)
-      → Rose sink.faults sink_now.faults → IsTextSent h es written sink sink_now
-  end_cut : written ≡ false → SendsPart (sink.sent ++ front h es) sink_now.sent (ended (codes "end")) → Rose sink.faults sink_now.faults → IsTextSent h es written sink sink_now
+-- What a sink was sent of the policy text, since it had sent `start` and had failed so often: all of it, and all was synced, where no write and no sync failed; or all but for its last line,
+-- and a front of one more entry's line or of the last line, maybe all of it, since the sink failed
+pub data IsTextSent (h : Head) (es : List EntryTree) (written : Bool) (start : List ℕ) (start_faults : ℕ) (sink_now : SinkView) : Type 0 where
+  whole : written ≡ true → Sends start sink_now.sent (policy_text h es) → sink_now.synced ≡ length sink_now.sent → sink_now.faults ≡ start_faults → IsTextSent h es written start start_faults sink_now
+  line_cut : (entry : EntryTree) → written ≡ false → IsAccepted h (replay h es) entry → SendsFront (start ++ front h es) sink_now.sent (line_of h entry)
+      → Rose start_faults sink_now.faults → IsTextSent h es written start start_faults sink_now
+  end_cut : written ≡ false → SendsFront (start ++ front h es) sink_now.sent (ended (codes "end")) → Rose start_faults sink_now.faults → IsTextSent h es written start start_faults sink_now
 
 -- `Serves panel sessions h opening sink doors panels served`: a service of so many sessions for each worker, over the journal with this head and these
 -- entries, this sink, and these doors and panels, hands this back. It was served, and a change was told not to be recorded only where the sink failed; or the front of the text could not be sent, so nobody was served; or there was no memory, and then nobody was
@@ -97,7 +98,7 @@ pub data IsTextSent (h : Head) (es : List EntryTree) (written : Bool) (sink sink
 pub data Serves {P : Type 0} (panel : P → PanelHistory) (sessions : ℕ) (h : Head) (opening : List Entry) (sink : SinkView) (doors : List DoorView) (panels : List P) (served : ServedView P) : Type 0 where
   done : (es : List Entry) (sink_now : SinkView) → IsJournal served.journal h es → served.sink ≡ Some sink_now
       → IsServed h opening es (Rose sink.faults sink_now.faults) sessions doors served.doors (map panel panels) (map panel served.panels) served.reports served.end
-      → IsTextSent h (entry_trees es) served.written sink sink_now → Serves panel sessions h opening sink doors panels served
+      → IsTextSent h (entry_trees es) served.written sink.sent sink.faults sink_now → Serves panel sessions h opening sink doors panels served
   unopened : (sink_now : SinkView) → IsJournal served.journal h opening → served.sink ≡ Some sink_now
       → SendsPart sink.sent sink_now.sent (front h (entry_trees opening)) → Rose sink.faults sink_now.faults
       → served.reports ≡ [] → served.doors ≡ doors → served.panels ≡ panels → served.written ≡ false → served.end ≡ Done → Serves panel sessions h opening sink doors panels served

@@ -11,13 +11,14 @@ use Rattle.session_core.specs.declared.ends.SessionEnd.{SessionEnd}
 use Rattle.session_core.specs.declared.board_serving.Report.{Report}
 use Rattle.session_core.specs.Served.{Reported}
 
--- what a link tells
+-- what a link tells; it is told to be admitted where its peer was
 pub record LinkView : Type 0 where
   pub left : Option (List ℕ)
   pub taken : List ℕ
   pub sent : List ℕ
   pub over : Bool
   pub closed : Bool
+  pub admitted : Bool
   pub place : ℕ
   pub toward : Option (List ℕ)
   pub faults : ℕ
@@ -48,7 +49,7 @@ reported report = record {
   trail = report.pass.trail;
 }
 
-module _ {L : Type 0} (left : L → Option (List ℕ)) (taken sent : L → List ℕ) (over closed : L → Bool) (place : L → ℕ) (toward : L → Option (List ℕ)) (faults : L → ℕ) where
+module _ {L : Type 0} (left : L → Option (List ℕ)) (taken sent : L → List ℕ) (over closed admitted : L → Bool) (place : L → ℕ) (toward : L → Option (List ℕ)) (faults : L → ℕ) where
   abbrev pub link_view : L → LinkView
   link_view link = record {
     left = left link;
@@ -56,6 +57,7 @@ module _ {L : Type 0} (left : L → Option (List ℕ)) (taken sent : L → List 
     sent = sent link;
     over = over link;
     closed = closed link;
+    admitted = admitted link;
     place = place link;
     toward = toward link;
     faults = faults link;

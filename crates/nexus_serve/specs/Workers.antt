@@ -1,5 +1,6 @@
 -- What workers do: each serves the links that its door gives, one after another, and its panel is asked for them.
 use Rattle.std.specs.Prelude.{◌≡◌, ◌<◌, ◌+◌, ◌⊎◌, ℕ, List, [], ◌∷◌, ◌++◌, length, Bool, true, None}
+use Rattle.std.specs.Option.{is_some}
 use Rattle.nx_io.specs.Streams.{Gave, MayRise, Rose}
 use Rattle.nx_io.specs.Links.{IsFreshLink}
 use Rattle.nx_io.specs.DoorCalls.{faults_in, gave_in, next_call}
@@ -15,21 +16,22 @@ use Rattle.nexus_serve.specs.Views.{DoorView, LinkView, ReportView, reported}
 -- What a door answered to `next`, which was its one call: a link that it gives is the first to come, is fresh, and has as its place the
 -- number of links that were given with it
 pub record HasAnswered (given : Next LinkView) (door door_now : DoorView) : Type 0 where
-  pub fresh : IfGiven given (λ (link : LinkView). IsFreshLink link.taken link.sent link.over link.closed link.faults)
+  pub fresh : IfGiven given (λ (link : LinkView). IsFreshLink link.taken link.sent link.over link.closed link.admitted link.faults)
   pub place : IfGiven given (λ (link : LinkView). link.place ≡ gave_in door_now.calls)
   pub toward : IfGiven given (λ (link : LinkView). link.toward ≡ None)
   pub links : Gives given door.links door_now.links
   pub calls : door_now.calls ≡ door.calls ++ next_call given ∷ []
   pub origin : door_now.origin ≡ door.origin
 
--- A link behind its session: it is the one that was given; what was taken of it was to come; it is closed; whether it is over, and how
--- often it has failed, is by the end of the session
+-- A link behind its session: it is the one that was given; what was taken of it was to come; it is closed; it was told that its peer is
+-- admitted exactly where somebody was; whether it is over, and how often it has failed, is by the end of the session
 pub record HasComeFrom (link : LinkView) (report : ReportView) : Type 0 where
   pub bytes : Gave link.left report.link.left link.taken report.link.taken
   pub place : report.link.place ≡ link.place
   pub toward : report.link.toward ≡ link.toward
   pub over : report.link.over ≡ is_over report.end
   pub closed : report.link.closed ≡ true
+  pub admitted : report.link.admitted ≡ is_some report.who
   pub faults : MayRise (faults_after_end report.end link.faults) report.link.faults
 
 -- A session was told what its report says, with what the panel was asked in it, and nothing else was made of the panel. The last `later`

@@ -52,9 +52,9 @@ impl<D: Door, P: Panel> Model for Gathered<D, P> {
     ghost coded = { Prim.hlevel (codes, t.the_row.coded, f.the_row.coded) };
 
     ghost view = { λ g. record {
-      doors = map (door_view (link_view D.Link.left D.Link.taken D.Link.sent D.Link.over D.Link.closed D.Link.place D.Link.toward D.Link.faults) D.links D.origin D.calls) g.doors.items;
+      doors = map (door_view (link_view D.Link.left D.Link.taken D.Link.sent D.Link.over D.Link.closed D.Link.admitted D.Link.place D.Link.toward D.Link.faults) D.links D.origin D.calls) g.doors.items;
       panels = g.panels.items;
-      rests = map (rest_view (link_view D.Link.left D.Link.taken D.Link.sent D.Link.over D.Link.closed D.Link.place D.Link.toward D.Link.faults)) g.rests.items;
+      rests = map (rest_view (link_view D.Link.left D.Link.taken D.Link.sent D.Link.over D.Link.closed D.Link.admitted D.Link.place D.Link.toward D.Link.faults)) g.rests.items;
       passes = g.passes.items;
       unused = g.unused.items;
       has_failed = g.has_failed;

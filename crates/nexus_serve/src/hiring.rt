@@ -131,7 +131,7 @@ fn seat_one<D: Door, P: Panel, T: Ledger>(
     door: D,
     panel: P,
 ) -> Worker<D, P, T>
-    ensures { result ≡ seated_at desk (door_view (link_view D.Link.left D.Link.taken D.Link.sent D.Link.over D.Link.closed D.Link.place D.Link.toward D.Link.faults) D.links D.origin D.calls door) panel }
+    ensures { result ≡ seated_at desk (door_view (link_view D.Link.left D.Link.taken D.Link.sent D.Link.over D.Link.closed D.Link.admitted D.Link.place D.Link.toward D.Link.faults) D.links D.origin D.calls door) panel }
 {
     let Desk {
         first,
@@ -163,7 +163,7 @@ where
     requires panels { length panels.items ≡ length desks.items }
     requires none { workers.items ≡ [] }
     requires room { length desks.items ≤ vec_capacity workers }
-    ensures { result.items ≡ seated desks.items (map (door_view (link_view D.Link.left D.Link.taken D.Link.sent D.Link.over D.Link.closed D.Link.place D.Link.toward D.Link.faults) D.links D.origin D.calls) doors.items) panels.items }
+    ensures { result.items ≡ seated desks.items (map (door_view (link_view D.Link.left D.Link.taken D.Link.sent D.Link.over D.Link.closed D.Link.admitted D.Link.place D.Link.toward D.Link.faults) D.links D.origin D.calls) doors.items) panels.items }
 {
     let mut workers = workers;
     let mut desks = VecDeque::from(desks);

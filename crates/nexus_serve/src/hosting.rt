@@ -12,6 +12,7 @@ use authority_ask::Panel;
 use nx_io::{Door, Gate, Link, Sink};
 use policy_history::Journal;
 use std::alloc::Global;
+use std::fs::Files;
 use std::marker::Model;
 use std::net::{Net, TcpListener, TcpStream};
 use std::rt::Clock;
@@ -45,16 +46,16 @@ impl<D: Door, P: Panel, K: Sink> Model for Hosted<D, P, K> {
 
     ghost view = { λ h. record {
       status = h.status;
-      door = door_view (link_view D.Link.left D.Link.taken D.Link.sent D.Link.over D.Link.closed D.Link.place D.Link.toward D.Link.faults) D.links D.origin D.calls h.door;
+      door = door_view (link_view D.Link.left D.Link.taken D.Link.sent D.Link.over D.Link.closed D.Link.admitted D.Link.place D.Link.toward D.Link.faults) D.links D.origin D.calls h.door;
       panel = h.panel;
       served = h.served;
     } };
 }
 
 /// Hosts a service over a journal: it reaches the authorities of its head, listens at the address, and lets so many workers
-/// serve so many sessions each, with shares of the door and of the panel. The policy text goes to the sink as the journal grows.
+/// serve so many sessions each, with shares of the door and of the panel. A link waits so many seconds for a peer that is admitted. The policy text goes to the sink as the journal grows.
 ///
-/// The status is 0 where all was done, 5 where the text was not written whole, which comes only where the sink failed, 6
+/// The status is 0 where all was done, 5 where the text was not written whole and synced, which comes only where the sink failed, 6
 /// where there was no memory, so that nobody was served, 7 where the door, or else a share of it, has failed, and 8 where an
 /// authority could not be reached, or the panel not be shared. `docs/FORMATS.md`, "Statuses", states this.
 pub fn host<D, P, K, G, R>(
@@ -68,6 +69,7 @@ pub fn host<D, P, K, G, R>(
     address: &[u8],
     workers: u64,
     sessions: u64,
+    patience: u64,
 ) -> Hosted<D, P, K>
 where
     D: Door + Send + Drop,
@@ -75,11 +77,22 @@ where
     P: Panel + Send + Drop,
     K: Sink + Send + Drop,
     G: Gate + Sync,
-    R: Net<Listener = TcpListener, Stream = TcpStream> + Clock + Wait + Threads + Sync,
-    requires workers { (1 ≤ workers) × (workers ≤ 64) }
+    R: Net<Listener = TcpListener, Stream = TcpStream> + Clock + Files + Wait + Threads + Sync,
+    requires workers { (1 ≤ workers) × (workers ≤ 1024) }
     requires sessions { (1 ≤ sessions) × (sessions ≤ 65536) }
     requires numbers { greatest_of (entry_trees journal.entries) + workers * sessions ≤ 2 ^ 64 - 2 }
-    ensures hosted { Hosts P.history (record { address = address.now; workers = workers; sessions = sessions }) journal.head journal.entries (record { sent = K.sent sink; faults = K.faults sink }) (door_view (link_view D.Link.left D.Link.taken D.Link.sent D.Link.over D.Link.closed D.Link.place D.Link.toward D.Link.faults) D.links D.origin D.calls door) panel result }
+    ensures hosted { Hosts P.history (record {
+      address = address.now;
+      patience = patience;
+      workers = workers;
+      sessions = sessions;
+    }) journal.head journal.entries (record {
+      sent = K.sent sink;
+      synced = K.synced sink;
+      faults = K.faults sink;
+    }) (door_view (link_view D.Link.left D.Link.taken D.Link.sent D.Link.over
+        D.Link.closed D.Link.admitted D.Link.place D.Link.toward D.Link.faults) D.links D.origin D.calls door)
+        panel result }
 {
     let mut door = door;
     let mut panel = panel;
@@ -94,6 +107,7 @@ where
         &mut doors,
         &mut panel,
         &mut panels,
+        patience,
     );
     match ready {
         Ok(()) => {
@@ -151,10 +165,10 @@ fn idle<D: Door + Drop, P: Panel + Drop, K: Sink + Drop>(
 where
     D::Link: Drop,
     ensures journal { result.journal ≡ None }
-    ensures sink { result.sink ≡ Some (record { sent = K.sent sink; faults = K.faults sink }) }
+    ensures sink { result.sink ≡ Some (record { sent = K.sent sink; synced = K.synced sink; faults = K.faults sink }) }
     ensures back { IsHandedBack
         (map (door_view (link_view D.Link.left D.Link.taken D.Link.sent D.Link.over
-        D.Link.closed D.Link.place D.Link.toward D.Link.faults) D.links D.origin D.calls) doors.items)
+        D.Link.closed D.Link.admitted D.Link.place D.Link.toward D.Link.faults) D.links D.origin D.calls) doors.items)
         panels.items result }
 {
     Served {

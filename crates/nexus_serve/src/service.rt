@@ -21,7 +21,7 @@ use crate::worker::Worker;
 use authority_ask::Panel;
 use journal_text::print_policy;
 use nx_io::{Bytes, Door, Gate, Link, Reach, Sink, send_all};
-use policy_book::{Book, BookNaming, NalMatter, Shelf};
+use policy_book::{Book, BookNaming, NalMatter, SharedBook};
 use policy_history::Journal;
 use session_core::{Report, what_was_told_stays_told};
 use std::alloc::{AllocError, Global};
@@ -29,7 +29,7 @@ use std::marker::{Brand, Model};
 use std::net::{Net, TcpListener, TcpStream};
 use std::rt::Clock;
 use std::sync::ledger::{Blank, Ledger, Total};
-use std::sync::{Mutex, Wait, ledger};
+use std::sync::{Wait, ledger};
 use std::thread;
 use std::thread::Threads;
 use verdict_words::Board;
@@ -53,7 +53,7 @@ pub struct Served<D: Door, P: Panel, K: Sink> {
     pub reports: Vec<Report<D::Link>>,
     pub doors: Vec<D>,
     pub panels: Vec<P>,
-    /// Whether the whole policy text was written.
+    /// Whether the whole policy text was written, so that it lasts.
     pub written: bool,
     pub end: ServeEnd,
 }
@@ -72,9 +72,9 @@ impl<D: Door, P: Panel, K: Sink> Model for Served<D, P, K> {
 
     ghost view = { λ s. record {
       journal = s.journal;
-      sink = option_map (λ k. record { sent = K.sent k; faults = K.faults k }) s.sink;
-      reports = map (report_view (link_view D.Link.left D.Link.taken D.Link.sent D.Link.over D.Link.closed D.Link.place D.Link.toward D.Link.faults)) s.reports.items;
-      doors = map (door_view (link_view D.Link.left D.Link.taken D.Link.sent D.Link.over D.Link.closed D.Link.place D.Link.toward D.Link.faults) D.links D.origin D.calls) s.doors.items;
+      sink = option_map (λ k. record { sent = K.sent k; synced = K.synced k; faults = K.faults k }) s.sink;
+      reports = map (report_view (link_view D.Link.left D.Link.taken D.Link.sent D.Link.over D.Link.closed D.Link.admitted D.Link.place D.Link.toward D.Link.faults)) s.reports.items;
+      doors = map (door_view (link_view D.Link.left D.Link.taken D.Link.sent D.Link.over D.Link.closed D.Link.admitted D.Link.place D.Link.toward D.Link.faults) D.links D.origin D.calls) s.doors.items;
       panels = s.panels.items;
       written = s.written;
       end = s.end;
@@ -100,13 +100,14 @@ struct Prepared<D: Door, P: Panel, T: Ledger> {
 }
 
 /// Lets the workers work, each in a thread, over a book that is lent to all of them. The book is handed back when all have
-/// stopped, with how many changes were not recorded in all. It takes no memory.
-fn let_work<D, P, K, G, N, T, R>(
+/// stopped, with how many changes were not recorded in all. The blank ledger is that of the writers. It takes no memory.
+fn let_work<D, P, K, G, N, T, W, R>(
     rt: &R,
     alloc: Global,
     board: &Board<NalMatter>,
     book: Book<K>,
     tickets: ledger::Book<T>,
+    turns: Blank,
     workers: &mut [Worker<D, P, T>],
     gate: &G,
 ) -> (Book<K>, Total<T>)
@@ -118,10 +119,12 @@ where
     G: Gate + Sync,
     N: BookNaming + Send + Sync,
     T: Ledger + Send + Sync,
+    W: Ledger + Send + Sync,
     R: Net<Listener = TcpListener, Stream = TcpStream> + Clock + Wait + Threads + Sync,
     requires named { N.board ≡ Some board.now }
     requires book { (book.is_open ≡ true) × IsNamed N.board N.next N.start N.start_faults book }
     requires tickets { tickets.total ≡ 0 }
+    requires turns { (turns.name ≡ W.name) × (turns.parts ≡ W.parts) × (0 < W.parts) }
     requires hired { All (λ worker. IsHired board.now worker.first (length worker.passes) worker) workers.old }
     ensures book { (result.0.is_open ≡ true) × IsNamed N.board N.next N.start N.start_faults result.0 }
     ensures failed { 0 < result.1.amount → result.0.is_broken ≡ true }
@@ -130,25 +133,32 @@ where
         → IsDone P.history board.now (slice_index_or workers.new i d).unrecorded
         (slice_index_or workers.old i d) (slice_index_or workers.new i d) }
 {
-    let shelf: Mutex<Shelf<K, N, T>> = Mutex::new(Shelf::new(book, tickets));
+    let shared: SharedBook<K, N, T, W> = SharedBook::new(book, tickets, turns);
     thread::for_each_mut(
         rt,
         workers,
-        64,
+        1024,
         &|_: usize, worker: &mut Worker<D, P, T>|
-            requires { (N.board ≡ Some board.now) × IsHired board.now worker.old.first (length worker.old.passes) worker.old }
+            requires { (N.board ≡ Some board.now) × IsHired board.now worker.old.first (length worker.old.passes)
+                worker.old }
             ensures { IsDone P.history board.entry.now worker.new.unrecorded worker.old worker.new }
-        { worker.work_behind_lock(rt, alloc, board, &shelf, gate) },
+        { worker.work_behind_locks(rt, alloc, board, &shared, gate) },
     );
-    let (book, tickets) = shelf.into_inner().into_parts();
+    let (book, tickets) = shared.into_parts();
     (book, tickets.close())
 }
 
-/// Writes the last line of the policy text, unless a write of it has failed. Whether the whole text was written.
+/// Writes the last line of the policy text and syncs it, unless a write or a sync of it has failed. Whether the whole text was written,
+/// so that it lasts.
 fn write_end<K: Sink + Drop>(book: Book<K>) -> (Journal, K, bool)
     requires opened { book.is_open ≡ true }
     ensures journal { (result.0.head ≡ head_of book) × (result.0.entries ≡ book.entries) }
-    ensures text { IsTextSent (head_of book) (trees_of book) result.2 (record { sent = book.start; faults = book.start_faults }) (record { sent = K.sent result.1; faults = K.faults result.1 }) }
+    ensures text { IsTextSent (head_of book) (trees_of book) result.2 book.start book.start_faults (record {
+      sent =
+          K.sent result.1;
+      synced = K.synced result.1;
+      faults = K.faults result.1;
+    }) }
     ensures failed { book.is_broken ≡ true → Rose book.start_faults (K.faults result.1) }
     ensures legal { IsLegalBook book }
     ensures numbered { IsNumbered book }
@@ -159,16 +169,26 @@ fn write_end<K: Sink + Drop>(book: Book<K>) -> (Journal, K, bool)
     (journal, sink, written)
 }
 
-/// Sends the last line of a policy text, unless the text is broken off. Whether it was sent.
+/// Sends and syncs the last line of a policy text, unless the text is broken off. Whether both were done.
 fn end_unless<K: Sink + Drop>(is_broken: bool, sink: K) -> (K, bool)
     ensures broken { is_broken ≡ true → (result.0 ≡ sink) × (result.1 ≡ false) }
-    ensures sent { is_broken ≡ false → IsEnded result.1 (record { sent = K.sent sink; faults = K.faults sink }) (record { sent = K.sent result.0; faults = K.faults result.0 }) }
+    ensures sent { is_broken ≡ false → IsEnded result.1 (record {
+      sent = K.sent sink;
+      synced = K.synced sink;
+      faults = K.faults sink;
+    }) (record {
+      sent = K.sent result.0;
+      synced = K.synced result.0;
+      faults = K.faults
+          result.0;
+    }) }
 {
     if is_broken {
         return (sink, false);
     }
     let mut sink = sink;
-    let written = matches!(send_all(&mut sink, b"end\n"), Reach::Ready);
+    let written = matches!(send_all(&mut sink, b"end\n"), Reach::Ready)
+        && matches!(sink.sync(), Reach::Ready);
     (sink, written)
 }
 
@@ -183,7 +203,10 @@ fn close<D: Door + Drop, P: Panel + Drop, K: Sink + Drop>(
 where
     D::Link: Drop,
     requires opened { book.is_open ≡ true }
-    ensures closed { IsClosed book (record { sent = book.start; faults = book.start_faults }) (map (door_view (link_view D.Link.left D.Link.taken D.Link.sent D.Link.over D.Link.closed D.Link.place D.Link.toward D.Link.faults) D.links D.origin D.calls) doors.items) panels.items (map (report_view (link_view D.Link.left D.Link.taken D.Link.sent D.Link.over D.Link.closed D.Link.place D.Link.toward D.Link.faults)) reports.items) has_failed result }
+    ensures closed { IsClosed book (map (door_view (link_view D.Link.left D.Link.taken D.Link.sent D.Link.over
+        D.Link.closed D.Link.admitted D.Link.place D.Link.toward D.Link.faults) D.links D.origin D.calls)
+        doors.items) panels.items (map (report_view (link_view D.Link.left D.Link.taken D.Link.sent D.Link.over
+        D.Link.closed D.Link.admitted D.Link.place D.Link.toward D.Link.faults)) reports.items) has_failed result }
 {
     let (journal, sink, written) = write_end(book);
     Served {
@@ -212,7 +235,7 @@ where
     requires opened { book.is_open ≡ true }
     requires board { book.board ≡ board.now }
     requires passes { All (λ pass. pass.board ≡ board.now) (with_unused gathered).passes }
-    ensures reported { IsReported book (record { sent = book.start; faults = book.start_faults }) (with_unused gathered) result }
+    ensures reported { IsReported book (with_unused gathered) result }
 {
     let Gathered {
         doors,
@@ -247,8 +270,14 @@ where
     requires first { board.now.origin.first ≡ greatest_of (entry_trees board.now.origin.opening) + 1 }
     requires room { IsRoomFor workers.items room }
     requires used { All (λ worker. AreOfBoard board.now worker) workers.items }
-    ensures served { (most : ℕ) (hired : List (WorkerValue P)) → AreDone P.history board.now board.now.origin.first most hired workers.items → book.next ≡ board.now.origin.first + length workers.items * most
-        → Serves P.history most board.now.origin.setting board.now.origin.opening (record { sent = book.start; faults = book.start_faults }) (doors_of hired) (panels_of hired) result }
+    ensures served { (most synced : ℕ) (hired : List (WorkerValue P))
+        → AreDone P.history board.now board.now.origin.first most hired workers.items
+        → book.next ≡ board.now.origin.first + length workers.items * most
+        → Serves P.history most board.now.origin.setting board.now.origin.opening (record {
+          sent = book.start;
+          synced = synced;
+          faults = book.start_faults;
+        }) (doors_of hired) (panels_of hired) result }
 {
     what_was_told_stays_told();
     report(board, book, room.gather(workers, total))
@@ -279,16 +308,22 @@ where
     requires tickets { tickets.total ≡ 0 }
     requires hired { All (λ worker. IsHired board.now worker.first (length worker.passes) worker) workers.items }
     requires room { IsRoomFor workers.items room }
-    ensures served { (most : ℕ) → AreHired board.now board.now.origin.first most workers.items → book.next ≡ board.now.origin.first + length workers.items * most
-        → Serves P.history most board.now.origin.setting board.now.origin.opening (record { sent = book.start; faults = book.start_faults }) (doors_of workers.items) (panels_of workers.items) result }
+    ensures served { (most synced : ℕ) → AreHired board.now board.now.origin.first most workers.items
+        → book.next ≡ board.now.origin.first + length workers.items * most
+        → Serves P.history most board.now.origin.setting board.now.origin.opening (record {
+          sent = book.start;
+          synced = synced;
+          faults = book.start_faults;
+        }) (doors_of workers.items) (panels_of workers.items) result }
 {
     let mut workers = workers;
-    let (book, total) = let_work::<D, P, K, G, Brand, T, R>(
+    let (book, total) = let_work::<D, P, K, G, Brand, T, Brand, R>(
         rt,
         alloc,
         board,
         book,
         tickets,
+        Blank::new(1),
         workers.as_mut_slice(),
         gate,
     );
@@ -305,8 +340,15 @@ fn unopened<D: Door + Drop, P: Panel + Drop, K: Sink + Drop>(
 where
     D::Link: Drop,
     ensures journal { IsJournal result.journal (head_of book) book.entries }
-    ensures sink { result.sink ≡ Some (record { sent = K.sent book.sink; faults = K.faults book.sink }) }
-    ensures back { IsHandedBack (map (door_view (link_view D.Link.left D.Link.taken D.Link.sent D.Link.over D.Link.closed D.Link.place D.Link.toward D.Link.faults) D.links D.origin D.calls) doors.items) panels.items result }
+    ensures sink { result.sink ≡ Some (record {
+      sent = K.sent book.sink;
+      synced = K.synced book.sink;
+      faults =
+          K.faults book.sink;
+    }) }
+    ensures back { IsHandedBack (map (door_view (link_view D.Link.left D.Link.taken D.Link.sent D.Link.over
+        D.Link.closed D.Link.admitted D.Link.place D.Link.toward D.Link.faults) D.links D.origin D.calls)
+        doors.items) panels.items result }
     ensures end { result.end ≡ ServeEnd.Done }
 {
     let (journal, sink) = book.into_parts();
@@ -332,8 +374,10 @@ fn unserved<D: Door + Drop, P: Panel + Drop, K: Sink + Drop>(
 where
     D::Link: Drop,
     ensures journal { IsJournal result.journal journal.head journal.entries }
-    ensures sink { result.sink ≡ Some (record { sent = K.sent sink; faults = K.faults sink }) }
-    ensures back { IsHandedBack (map (door_view (link_view D.Link.left D.Link.taken D.Link.sent D.Link.over D.Link.closed D.Link.place D.Link.toward D.Link.faults) D.links D.origin D.calls) doors.items) panels.items result }
+    ensures sink { result.sink ≡ Some (record { sent = K.sent sink; synced = K.synced sink; faults = K.faults sink }) }
+    ensures back { IsHandedBack (map (door_view (link_view D.Link.left D.Link.taken D.Link.sent D.Link.over
+        D.Link.closed D.Link.admitted D.Link.place D.Link.toward D.Link.faults) D.links D.origin D.calls)
+        doors.items) panels.items result }
     ensures end { result.end ≡ ServeEnd.Memory }
 {
     Served {
@@ -384,8 +428,14 @@ where
     requires workers { (prepared.workers.items ≡ []) × (length doors.items ≤ vec_capacity prepared.workers) }
     requires room { prepared.room ≡ nothing (length doors.items) (length doors.items * sessions) }
     requires tickets { prepared.tickets.total ≡ 0 }
-    ensures served { Serves P.history sessions board.now.origin.setting board.now.origin.opening (record { sent = K.sent book.sink; faults = K.faults book.sink })
-        (map (door_view (link_view D.Link.left D.Link.taken D.Link.sent D.Link.over D.Link.closed D.Link.place D.Link.toward D.Link.faults) D.links D.origin D.calls) doors.items) panels.items result }
+    ensures served { Serves P.history sessions board.now.origin.setting board.now.origin.opening (record {
+      sent =
+          K.sent book.sink;
+      synced = K.synced book.sink;
+      faults = K.faults book.sink;
+    })
+        (map (door_view (link_view D.Link.left D.Link.taken D.Link.sent D.Link.over D.Link.closed D.Link.admitted
+        D.Link.place D.Link.toward D.Link.faults) D.links D.origin D.calls) doors.items) panels.items result }
 {
     let Prepared {
         text,
@@ -417,7 +467,7 @@ where
 /// on. A worker stops early where its door has no more links or fails, which ends no other worker. When all have stopped, the
 /// journal, the sink, the doors, the panels, and the reports of all sessions are handed back. `docs/LOGIC.md`, "The service",
 /// says what was then promised to each session; `docs/ARCHITECTURE.md`, "Workers", how it is done. A change is told not to be
-/// recorded only where a write of the policy text has failed.
+/// recorded only where a write or a sync of the policy text has failed.
 ///
 /// All memory but what sessions want is taken before the first byte is sent. At want of it the end is `Memory`: nobody was served,
 /// nothing was written, and the journal, the sink, the doors and the panels are handed back as they were handed in.
@@ -439,12 +489,19 @@ where
     G: Gate + Sync,
     R: Net<Listener = TcpListener, Stream = TcpStream> + Clock + Wait + Threads + Sync,
     requires pairs { length panels.items ≡ length doors.items }
-    requires workers { (1 ≤ length doors.items) × (length doors.items ≤ 64) }
+    requires workers { (1 ≤ length doors.items) × (length doors.items ≤ 1024) }
     requires sessions { (1 ≤ sessions) × (sessions ≤ 65536) }
     requires numbers { greatest_of (entry_trees journal.entries) + length doors.items * sessions ≤ 2 ^ 64 - 2 }
-    ensures served { Serves P.history sessions journal.head journal.entries (record { sent = K.sent sink; faults = K.faults sink })
-        (map (door_view (link_view D.Link.left D.Link.taken D.Link.sent D.Link.over D.Link.closed D.Link.place D.Link.toward D.Link.faults) D.links D.origin D.calls) doors.items) panels.items result }
-    ensures earned { (es : List Entry) → IsJournal result.journal journal.head es → AreTrue journal.head (entry_trees es) (length journal.entries) result.reports }
+    ensures served { Serves P.history sessions journal.head journal.entries (record {
+      sent = K.sent sink;
+      synced =
+          K.synced sink;
+      faults = K.faults sink;
+    })
+        (map (door_view (link_view D.Link.left D.Link.taken D.Link.sent D.Link.over D.Link.closed D.Link.admitted
+        D.Link.place D.Link.toward D.Link.faults) D.links D.origin D.calls) doors.items) panels.items result }
+    ensures earned { (es : List Entry) → IsJournal result.journal journal.head es
+        → AreTrue journal.head (entry_trees es) (length journal.entries) result.reports }
 {
     let blank = Blank::new(doors.len() as u64);
     let shift = Shift { sessions, blank };
@@ -471,14 +528,15 @@ where
     T: Ledger + Send + Sync,
     R: Net<Listener = TcpListener, Stream = TcpStream> + Clock + Wait + Threads + Sync,
     requires pairs { length panels.items ≡ length doors.items }
-    requires workers { (1 ≤ length doors.items) × (length doors.items ≤ 64) }
+    requires workers { (1 ≤ length doors.items) × (length doors.items ≤ 1024) }
     requires sessions { (1 ≤ shift.sessions) × (shift.sessions ≤ 65536) }
     requires numbers { greatest_of (entry_trees journal.entries) + length doors.items * shift.sessions ≤ 2 ^ 64 - 2 }
     requires blank { (shift.blank.name ≡ T.name) × (shift.blank.parts ≡ T.parts)
         × (length doors.items ≤ shift.blank.parts) }
     ensures served { Serves P.history shift.sessions journal.head journal.entries
-        (record { sent = K.sent sink; faults = K.faults sink })
-        (map (door_view (link_view D.Link.left D.Link.taken D.Link.sent D.Link.over D.Link.closed D.Link.place
+        (record { sent = K.sent sink; synced = K.synced sink; faults = K.faults sink })
+        (map (door_view (link_view D.Link.left D.Link.taken D.Link.sent D.Link.over D.Link.closed D.Link.admitted
+        D.Link.place
         D.Link.toward D.Link.faults) D.links D.origin D.calls) doors.items) panels.items result }
     ensures earned { (es : List Entry) → IsJournal result.journal journal.head es
         → AreTrue journal.head (entry_trees es) (length journal.entries) result.reports }
@@ -529,9 +587,10 @@ where
     requires first { book.old.next ≡ first }
     requires board { book.old.board ≡ board.now }
     requires numbers { first + workers * sessions ≤ 2 ^ 64 - 1 }
-    requires few { (workers ≤ 64) × (sessions ≤ 65536) }
+    requires few { (workers ≤ 1024) × (sessions ≤ 65536) }
     ensures text { IfOk result (λ r. r.text ≡ text) }
-    ensures desks { IfOk result (λ r. AreLaid board.now first sessions r.desks.items × (length r.desks.items ≡ workers)) }
+    ensures desks { IfOk result (λ r. AreLaid board.now first sessions r.desks.items
+        × (length r.desks.items ≡ workers)) }
     ensures workers { IfOk result (λ r. (r.workers.items ≡ []) × (workers ≤ vec_capacity r.workers)) }
     ensures room { IfOk result (λ r. r.room ≡ nothing workers (workers * sessions)) }
     ensures tickets { IfOk result (λ r. r.tickets.total ≡ 0) }

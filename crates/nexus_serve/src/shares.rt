@@ -11,6 +11,7 @@ use authority_ask::Panel;
 use nx_io::{Door, Reach, Shared};
 use policy_history::Head;
 use session_core::reach_all;
+use std::fs::Files;
 use std::net::{Net, TcpListener, TcpStream};
 use std::rt::Clock;
 
@@ -31,7 +32,7 @@ fn make_room<D: Drop, P: Drop>(
     panels: &mut Vec<P>,
     count: u64,
 ) -> Result<(), Unready>
-    requires few { count ≤ 64 }
+    requires few { count ≤ 1024 }
     ensures items { (doors.new.items ≡ doors.old.items) × (panels.new.items ≡ panels.old.items) }
     ensures room { IfOk result (λ _. (vec_len doors.new + count ≤ vec_capacity doors.new)
         × (vec_len panels.new + count ≤ vec_capacity panels.new)) }
@@ -90,13 +91,17 @@ fn share_panel<P: Panel + Drop>(
     Ok(())
 }
 
-/// Listens at an address, and shares the door. The list has room for the shares.
-fn listen_and_share<D: Door + Drop, R: Net<Listener = TcpListener, Stream = TcpStream> + Clock>(
+/// Listens at an address with this patience, and shares the door. The list has room for the shares.
+fn listen_and_share<
+    D: Door + Drop,
+    R: Net<Listener = TcpListener, Stream = TcpStream> + Clock + Files,
+>(
     rt: &R,
     address: &[u8],
     count: u64,
     door: &mut D,
     shares: &mut Vec<D>,
+    patience: u64,
 ) -> Result<(), Unready>
 where
     D::Link: Drop,
@@ -104,22 +109,23 @@ where
     requires room { count ≤ vec_capacity shares.old }
     ensures shared { All (IsShareOf D.origin D.calls door.new) shares.new.items }
     ensures calls { (more : List DoorCall) × (D.calls door.new ≡ D.calls door.old ++ more)
-        × ReadiesDoor result address.now count (length shares.new.items) more }
+        × ReadiesDoor result (record { address = address.now; patience = patience }) count (length
+        shares.new.items) more }
     ensures links { D.links door.new ≡ D.links door.old }
     ensures origin { D.origin door.new ≡ D.origin door.old }
 {
-    match door.listen(rt, address) {
+    match door.listen(rt, address, patience) {
         Reach::Ready => share_door(door, count, shares),
         Reach::Failed => Err(Unready::Door),
     }
 }
 
-/// Reaches the authorities of a head, shares the panel, listens at an address, and shares the door, in this order. The shares that were
+/// Reaches the authorities of a head, shares the panel, listens at an address with this patience, and shares the door, in this order. The shares that were
 /// made are in the lists, whatever comes.
 pub fn make_ready<
     D: Door + Drop,
     P: Panel + Drop,
-    R: Net<Listener = TcpListener, Stream = TcpStream> + Clock,
+    R: Net<Listener = TcpListener, Stream = TcpStream> + Clock + Files,
 >(
     rt: &R,
     head: &Head,
@@ -129,12 +135,25 @@ pub fn make_ready<
     doors: &mut Vec<D>,
     panel: &mut P,
     panels: &mut Vec<P>,
+    patience: u64,
 ) -> Result<(), Unready>
 where
     D::Link: Drop,
     requires none { (doors.old.items ≡ []) × (panels.old.items ≡ []) }
-    requires few { workers ≤ 64 }
-    ensures made { (sessions : ℕ) → IsMade P.history (record { address = address.now; workers = workers; sessions = sessions }) head.now (door_view (link_view D.Link.left D.Link.taken D.Link.sent D.Link.over D.Link.closed D.Link.place D.Link.toward D.Link.faults) D.links D.origin D.calls door.old) (door_view (link_view D.Link.left D.Link.taken D.Link.sent D.Link.over D.Link.closed D.Link.place D.Link.toward D.Link.faults) D.links D.origin D.calls door.new) (P.history panel.old) (P.history panel.new) (map (door_view (link_view D.Link.left D.Link.taken D.Link.sent D.Link.over D.Link.closed D.Link.place D.Link.toward D.Link.faults) D.links D.origin D.calls) doors.new.items) panels.new.items result }
+    requires few { workers ≤ 1024 }
+    ensures made { (sessions : ℕ) → IsMade P.history (record {
+      address = address.now;
+      patience = patience;
+      workers
+          = workers;
+      sessions = sessions;
+    }) head.now (door_view (link_view D.Link.left D.Link.taken D.Link.sent
+        D.Link.over D.Link.closed D.Link.admitted D.Link.place D.Link.toward D.Link.faults) D.links D.origin
+        D.calls door.old) (door_view (link_view D.Link.left D.Link.taken D.Link.sent D.Link.over D.Link.closed
+        D.Link.admitted D.Link.place D.Link.toward D.Link.faults) D.links D.origin D.calls door.new) (P.history
+        panel.old) (P.history panel.new) (map (door_view (link_view D.Link.left D.Link.taken D.Link.sent
+        D.Link.over D.Link.closed D.Link.admitted D.Link.place D.Link.toward D.Link.faults) D.links D.origin
+        D.calls) doors.new.items) panels.new.items result }
     ensures doors_shared { All (IsShareOf D.origin D.calls door.new) doors.new.items }
     ensures panels_shared { All (λ share. IsPanelShare (P.history panel.new) (P.history share)) panels.new.items }
 {
@@ -142,7 +161,7 @@ where
         Reach::Ready => {
             make_room(doors, panels, workers)?;
             share_panel(panel, workers, panels)?;
-            listen_and_share(rt, address, workers, door, doors)
+            listen_and_share(rt, address, workers, door, doors, patience)
         }
         Reach::Failed => Err(Unready::Panel),
     }

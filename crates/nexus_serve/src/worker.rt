@@ -6,15 +6,15 @@ ghost use Rattle.nexus_serve.specs.Inner.Working.{HasServedOne, IsDone, IsHired,
 
 use authority_ask::Panel;
 use nx_io::{Door, Gate, Next, Sink};
-use policy_book::{BookAccess, BookNaming, LockedBook, NalMatter, Shelf};
+use policy_book::{BookAccess, BookNaming, LockedBook, NalMatter, SharedBook};
 use session_core::{Report, serve_link};
 use std::alloc::Global;
 use std::collections::VecDeque;
 use std::marker::Model;
 use std::net::{Net, TcpListener, TcpStream};
 use std::rt::Clock;
+use std::sync::Wait;
 use std::sync::ledger::{Ledger, Share};
-use std::sync::{Mutex, Wait};
 use verdict_words::{Board, Pass};
 
 /// A worker: the number of its first session, its door and its panel, the passes that it has not used, the reports of its
@@ -45,10 +45,10 @@ impl<D: Door, P: Panel, T: Ledger> Model for Worker<D, P, T> {
 
     ghost view = { λ w. record {
       first = w.first;
-      door = door_view (link_view D.Link.left D.Link.taken D.Link.sent D.Link.over D.Link.closed D.Link.place D.Link.toward D.Link.faults) D.links D.origin D.calls w.door;
+      door = door_view (link_view D.Link.left D.Link.taken D.Link.sent D.Link.over D.Link.closed D.Link.admitted D.Link.place D.Link.toward D.Link.faults) D.links D.origin D.calls w.door;
       panel = w.panel;
       passes = w.passes.items;
-      reports = map (report_view (link_view D.Link.left D.Link.taken D.Link.sent D.Link.over D.Link.closed D.Link.place D.Link.toward D.Link.faults)) w.reports.items;
+      reports = map (report_view (link_view D.Link.left D.Link.taken D.Link.sent D.Link.over D.Link.closed D.Link.admitted D.Link.place D.Link.toward D.Link.faults)) w.reports.items;
       spare = vec_capacity w.reports - vec_len w.reports;
       has_failed = w.has_failed;
       parts = w.mark.parts;
@@ -60,10 +60,11 @@ impl<D: Door, P: Panel, T: Ledger> Worker<D, P, T>
 where
     D::Link: Drop,
 {
-    /// Works over a book behind its lock. The worker's share counts the changes that its sessions were told not to be recorded.
-    pub fn work_behind_lock<
+    /// Works over a book behind its locks. The worker's share counts the changes that its sessions were told not to be recorded.
+    pub fn work_behind_locks<
         K: Sink,
         N: BookNaming,
+        W: Ledger,
         G: Gate,
         R: Net<Listener = TcpListener, Stream = TcpStream> + Clock + Wait,
     >(
@@ -71,14 +72,14 @@ where
         rt: &R,
         alloc: Global,
         board: &Board<NalMatter>,
-        shelf: &Mutex<Shelf<K, N, T>>,
+        shared: &SharedBook<K, N, T, W>,
         gate: &G,
     )
         requires named { N.board ≡ Some board.now }
         requires hired { IsHired board.now self.old.first (length self.old.passes) self.old }
         ensures done { IsDone P.history board.now self.new.unrecorded self.old self.new }
     {
-        let mut book = LockedBook::new(rt, board, shelf, self.mark.split_off(1, 0));
+        let mut book = LockedBook::new(rt, board, shared, self.mark.split_off(1, 0));
         self.work(rt, alloc, board, &mut book, gate);
         self.mark.merge(book.into_mark());
     }
@@ -157,9 +158,9 @@ where
         requires some { 0 < length self.old.passes }
         requires unused { All (IsUnused board.now) self.old.passes }
         requires room { length self.old.passes ≤ self.old.spare }
-        requires fresh { IsFreshLink (D.Link.taken link) (D.Link.sent link) (D.Link.over link) (D.Link.closed link) (D.Link.faults link) }
+        requires fresh { IsFreshLink (D.Link.taken link) (D.Link.sent link) (D.Link.over link) (D.Link.closed link) (D.Link.admitted link) (D.Link.faults link) }
         ensures served { HasServedOne P.history board.now (B.unrecorded book.old) (B.unrecorded book.new)
-            (link_view D.Link.left D.Link.taken D.Link.sent D.Link.over D.Link.closed D.Link.place D.Link.toward D.Link.faults link)
+            (link_view D.Link.left D.Link.taken D.Link.sent D.Link.over D.Link.closed D.Link.admitted D.Link.place D.Link.toward D.Link.faults link)
             self.old self.new }
         ensures book { B.board book.new ≡ B.board book.old }
     {

@@ -10,10 +10,15 @@ use Rattle.nx_io.specs.declared.doors.Next.TheVariants.{Link as NextLink, NoMore
 use Rattle.nx_io.specs.declared.doors.Dial.{Dial}
 use Rattle.nx_io.specs.declared.doors.Dial.TheVariants.{Link as DialLink, Failed as DialFailed}
 
+-- an address, and how many seconds a link may wait there for a peer that is admitted
+pub record Listening : Type 0 where
+  pub address : List ℕ
+  pub patience : ℕ
+
 -- a call, and how it went
 pub data DoorCall : Type 0 where
-  listened : List ℕ → DoorCall
-  not_listened : List ℕ → DoorCall
+  listened : Listening → DoorCall
+  not_listened : Listening → DoorCall
   shared : DoorCall
   not_shared : DoorCall
   no_room_to_share : DoorCall
@@ -24,10 +29,10 @@ pub data DoorCall : Type 0 where
   not_dialed : List ℕ → DoorCall
 
 -- Where a door came from: its depth, which is 0 where it is no share, and else one more than that of the door that it is a share of; and the
--- addresses at which it listened as it was made
+-- addresses at which it listened as it was made, with its patience there
 pub record DoorOrigin : Type 0 where
   pub depth : ℕ
-  pub listened_at : List (List ℕ)
+  pub listened_at : List Listening
 
 -- a door, by where it came from, and its calls since, in order
 pub record DoorCalls : Type 0 where
@@ -35,9 +40,9 @@ pub record DoorCalls : Type 0 where
   pub calls : List DoorCall
 
 -- each call, by what it answered
-abbrev pub listen_call : List ℕ → Reach → DoorCall
-listen_call address ReachReady = listened address
-listen_call address ReachFailed = not_listened address
+abbrev pub listen_call : List ℕ → ℕ → Reach → DoorCall
+listen_call address patience ReachReady = listened (record { address = address; patience = patience })
+listen_call address patience ReachFailed = not_listened (record { address = address; patience = patience })
 
 abbrev pub share_call : {A : Type 0} → Shared A → DoorCall
 share_call (SharedMade share) = shared
@@ -60,16 +65,16 @@ is_gift _ = false
 
 -- the call has failed
 abbrev pub is_fault : DoorCall → Bool
-is_fault (not_listened address) = true
+is_fault (not_listened listening) = true
 is_fault not_shared = true
 is_fault not_given = true
 is_fault (not_dialed address) = true
 is_fault _ = false
 
--- the address at which the door listens since this call
-abbrev pub address_in : DoorCall → List (List ℕ)
-address_in (listened address) = address ∷ []
-address_in _ = []
+-- where the door listens since this call
+abbrev pub listening_in : DoorCall → List Listening
+listening_in (listened listening) = listening ∷ []
+listening_in _ = []
 
 -- how many of these calls are such, up to the end of a count's type
 abbrev pub counted : (DoorCall → Bool) → List DoorCall → ℕ
@@ -83,9 +88,9 @@ gave_in calls = counted is_gift calls
 abbrev pub faults_in : List DoorCall → ℕ
 faults_in calls = counted is_fault calls
 
--- where a door listens that listened at these addresses, behind these calls
-abbrev pub listened_in : List (List ℕ) → List DoorCall → List (List ℕ)
-listened_in addresses calls = addresses ++ flat_map address_in calls
+-- where a door has listened that listened there, behind these calls
+abbrev pub listened_in : List Listening → List DoorCall → List Listening
+listened_in before calls = before ++ flat_map listening_in calls
 
 -- no share of any door
 abbrev pub new_origin : DoorOrigin

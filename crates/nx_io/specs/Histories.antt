@@ -15,8 +15,8 @@ bytes_of (Then' shape before byte) = bytes_of before ++ byte ∷ []
 
 -- a call that was logged
 abbrev pub call_of : LoggedCall → DoorCall
-call_of (logged.Listened address) = listened (bytes_of address)
-call_of (logged.NotListened address) = not_listened (bytes_of address)
+call_of (logged.Listened address patience) = listened (record { address = bytes_of address; patience = patience })
+call_of (logged.NotListened address patience) = not_listened (record { address = bytes_of address; patience = patience })
 call_of logged.Shared = shared
 call_of logged.NotShared = not_shared
 call_of logged.Gave = gave

@@ -18,10 +18,11 @@ pub record KeepsGoing (sent sent_now : List ℕ) (closed closed_now : Bool) : Ty
   pub sent_is : sent_now ≡ sent
   pub closed_is : closed_now ≡ closed
 
--- nothing was taken or sent, and the link is neither over nor closed and has not failed
-pub record IsFreshLink (taken sent : List ℕ) (over closed : Bool) (faults : ℕ) : Type 0 where
+-- nothing was taken or sent, and the link is neither over nor closed, its peer is not admitted, and it has not failed
+pub record IsFreshLink (taken sent : List ℕ) (over closed admitted : Bool) (faults : ℕ) : Type 0 where
   pub taken_is : taken ≡ []
   pub sent_is : sent ≡ []
   pub over_is : over ≡ false
   pub closed_is : closed ≡ false
+  pub admitted_is : admitted ≡ false
   pub faults_is : faults ≡ 0

@@ -1,5 +1,5 @@
 -- Sources and sinks in memory, as contracts see them, and what their calls do.
-use Rattle.std.specs.Prelude.{◌≡◌, ◌↔◌, ◌⊎◌, ℕ, ◌-◌, min, List, length, Bool}
+use Rattle.std.specs.Prelude.{◌≡◌, ◌↔◌, ◌⊎◌, ℕ, ◌-◌, min, List, [], length, Bool}
 use Rattle.std.specs.List.{Contains}
 use Rattle.nx_io.specs.Streams.{faults_after_read, faults_after_write, one_more}
 use Rattle.nx_io.specs.declared.streams.Got.{Got}
@@ -18,15 +18,34 @@ pub record Supply : Type 0 where
   pub calls : ℕ
   pub faults : ℕ
 
--- a sink: the bytes that it holds and their greatest number, the greatest size of a piece, the numbers of the calls
--- that fail, the calls so far, and the faults
+-- a sink: the bytes that it holds and their greatest number, the greatest size of a piece, the numbers of the writes
+-- that fail, the writes so far; how many bytes were synced, the numbers of the syncs that fail, the syncs so far; and the faults of
+-- both
 pub record Store : Type 0 where
   pub sent : List ℕ
   pub room : ℕ
   pub piece : ℕ
   pub fails : List ℕ
   pub calls : ℕ
+  pub synced : ℕ
+  pub sync_fails : List ℕ
+  pub syncs : ℕ
   pub faults : ℕ
+
+-- a sink with this room and greatest size of a piece, and these numbers of writes and of syncs that fail, of which nothing was asked
+-- yet
+abbrev pub new_store : ℕ → ℕ → List ℕ → List ℕ → Store
+new_store room piece fails sync_fails = record {
+  sent = [];
+  room = room;
+  piece = piece;
+  fails = fails;
+  calls = 0;
+  synced = 0;
+  sync_fails = sync_fails;
+  syncs = 0;
+  faults = 0;
+}
 
 -- a read of bytes gives this many
 abbrev pub ReadsCount : Got → ℕ → Type 0
@@ -54,6 +73,9 @@ pub record Stores (put : Put) (old new : Store) (given : List ℕ) : Type 0 wher
   pub piece : new.piece ≡ old.piece
   pub fails : new.fails ≡ old.fails
   pub calls : new.calls ≡ one_more old.calls
+  pub synced : new.synced ≡ old.synced
+  pub sync_fails : new.sync_fails ≡ old.sync_fails
+  pub syncs : new.syncs ≡ old.syncs
   pub faults : new.faults ≡ faults_after_write put old.faults
   pub failed : (put ≡ PutFailed) ↔ (Contains old.fails new.calls ⊎ (length old.sent ≡ old.room))
   pub count : WritesCount put (min (min (length given) old.piece) (old.room - length old.sent))

@@ -33,7 +33,7 @@ plan_of plan = record { links = plan.links.items; fails = plan.fails.items }
 
 -- a link in memory is fresh
 abbrev pub IsFreshWire : Wire → Type 0
-IsFreshWire w = IsFreshLink w.supply.given w.store.sent w.supply.over w.closed w.faults
+IsFreshWire w = IsFreshLink w.supply.given w.store.sent w.supply.over w.closed w.admitted w.faults
 
 -- each link of the plan is
 abbrev pub IsFreshPlan : DoorPlan → Type 0

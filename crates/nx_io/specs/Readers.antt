@@ -15,11 +15,17 @@ pub record Reading : Type 0 where
   pub over : Bool
   pub faults : ℕ
 
--- a sink: the bytes that its writer holds, where std knows them, those that were sent, and the faults
+-- a sink: the bytes that its writer holds, where std knows them, those that were sent, how many of them were synced, and the faults
 pub record Writing : Type 0 where
   pub contents : Option (List ℕ)
   pub sent : List ℕ
+  pub synced : ℕ
   pub faults : ℕ
+
+-- a sink that keeps nothing: the bytes that were sent, and how many of them were synced
+pub record Discarded : Type 0 where
+  pub sent : List ℕ
+  pub synced : ℕ
 
 -- what a read does to the known bytes of the reader: it hands them on
 abbrev pub HandsOn : Got → Option (List ℕ) → Option (List ℕ) → List ℕ → Type 0

@@ -37,6 +37,11 @@ abbrev pub faults_after_reach : Reach → ℕ → ℕ
 faults_after_reach ReachReady faults = faults
 faults_after_reach ReachFailed faults = one_more faults
 
+-- how many bytes of a sink's front last, after a sync: all at `Ready`, and as many as before at `Failed`
+abbrev pub synced_after : Reach → List ℕ → ℕ → ℕ
+synced_after ReachReady sent synced = length sent
+synced_after ReachFailed sent synced = synced
+
 -- what a history gained between two moments
 abbrev pub gained : {A : Type 0} → List A → List A → List A
 gained before now = drop (length before) now

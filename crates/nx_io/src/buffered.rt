@@ -59,8 +59,10 @@ impl<S: Duplex> Buffered<S> {
         ensures shut { S.shut self.new.stream ≡ S.shut self.old.stream }
         ensures order { InOrder (S.given self.new.stream) (S.sent self.new.stream) self.new.taken self.new.sent }
         ensures end { result ≡ Got.End → self.new.taken ≡ S.given self.new.stream }
-        ensures first { (result ≡ Got.End ⊎ S.given self.new.stream ≢ S.given self.old.stream) → S.sent self.new.stream ≡ self.new.sent }
-        ensures blame { S.shut self.old.stream ≡ false → S.faults self.new.stream ≡ faults_after_read result (S.faults self.old.stream) }
+        ensures first { (result ≡ Got.End ⊎ S.given self.new.stream ≢ S.given self.old.stream)
+            → S.sent self.new.stream ≡ self.new.sent }
+        ensures blame { S.shut self.old.stream ≡ false → S.faults self.new.stream ≡ faults_after_read result
+            (S.faults self.old.stream) }
     {
         if self.stream.is_shut() {
             return Got::Failed;
@@ -83,9 +85,11 @@ impl<S: Duplex> Buffered<S> {
         ensures within { WritesWithin result piece.now }
         ensures sent { Writes result self.old.sent self.new.sent piece.now }
         ensures taken { self.new.taken ≡ self.old.taken }
-        ensures others { AreSame (S.given self.old.stream) (S.given self.new.stream) (S.shut self.old.stream) (S.shut self.new.stream) }
+        ensures others { AreSame (S.given self.old.stream) (S.given self.new.stream) (S.shut self.old.stream)
+            (S.shut self.new.stream) }
         ensures order { InOrder (S.given self.new.stream) (S.sent self.new.stream) self.new.taken self.new.sent }
-        ensures blame { S.shut self.old.stream ≡ false → S.faults self.new.stream ≡ faults_after_write result (S.faults self.old.stream) }
+        ensures blame { S.shut self.old.stream ≡ false → S.faults self.new.stream ≡ faults_after_write result
+            (S.faults self.old.stream) }
     {
         if self.stream.is_shut() {
             return Put::Failed;
@@ -107,14 +111,27 @@ impl<S: Duplex> Buffered<S> {
         self.stream.is_shut()
     }
 
+    /// Tells the stream that its peer is admitted.
+    pub(crate) fn admit(&mut self)
+        ensures same { (self.new.taken ≡ self.old.taken) × (self.new.sent ≡ self.old.sent) }
+        ensures stream { (S.given self.new.stream ≡ S.given self.old.stream)
+            × (S.sent self.new.stream ≡ S.sent self.old.stream) }
+        ensures shut { S.shut self.new.stream ≡ S.shut self.old.stream }
+        ensures faults { S.faults self.new.stream ≡ S.faults self.old.stream }
+    {
+        self.stream.admit();
+    }
+
     /// Writes what waits, and shuts the stream. It is `Failed` where that could not be written.
     pub(crate) fn close(&mut self) -> Reach
         ensures shut { S.shut self.new.stream ≡ true }
-        ensures same { (self.new.taken ≡ self.old.taken) × (self.new.sent ≡ self.old.sent) × (S.given self.new.stream ≡ S.given self.old.stream) }
+        ensures same { (self.new.taken ≡ self.old.taken) × (self.new.sent ≡ self.old.sent)
+            × (S.given self.new.stream ≡ S.given self.old.stream) }
         ensures order { InOrder (S.given self.new.stream) (S.sent self.new.stream) self.new.taken self.new.sent }
         ensures ready { result ≡ Reach.Ready → S.shut self.old.stream ≡ false → S.sent self.new.stream ≡ self.new.sent }
         ensures blame { S.faults self.new.stream ≡ faults_after_reach result (S.faults self.old.stream) }
-        ensures again { S.shut self.old.stream ≡ true → (result ≡ Reach.Ready) × (S.sent self.new.stream ≡ S.sent self.old.stream) }
+        ensures again { S.shut self.old.stream ≡ true → (result ≡ Reach.Ready)
+            × (S.sent self.new.stream ≡ S.sent self.old.stream) }
     {
         if self.stream.is_shut() {
             return Reach::Ready;
@@ -129,7 +146,8 @@ impl<S: Duplex> Buffered<S> {
 fn fetch<S: Duplex>(stream: &mut S, ahead: &mut Queue, behind: &mut Queue) -> Got
     requires { S.shut stream.old ≡ false }
     ensures waits { (count : ℕ) → result ≡ Got.Bytes count → ahead.new.waiting ≢ [] }
-    ensures read { (taken : List ℕ) → S.given stream.old ≡ taken ++ ahead.old.waiting → S.given stream.new ≡ taken ++ ahead.new.waiting }
+    ensures read { (taken : List ℕ) → S.given stream.old ≡ taken ++ ahead.old.waiting
+        → S.given stream.new ≡ taken ++ ahead.new.waiting }
     ensures written { S.sent stream.new ++ behind.new.waiting ≡ S.sent stream.old ++ behind.old.waiting }
     ensures end { result ≡ Got.End → ahead.new.waiting ≡ [] }
     ensures first { (result ≡ Got.End ⊎ S.given stream.new ≢ S.given stream.old) → behind.new.waiting ≡ [] }

@@ -10,10 +10,10 @@ use std::snapshot::Snapshot;
 /// A call of a door, and how it went.
 #[derive(Drop)]
 pub(crate) enum LoggedCall {
-    /// It listens at this address.
-    Listened { address: History },
+    /// It listens at this address, with this patience.
+    Listened { address: History, patience: u64 },
     /// It could not listen there.
-    NotListened { address: History },
+    NotListened { address: History, patience: u64 },
     /// A share was made.
     Shared,
     /// No share could be made.

@@ -7,6 +7,7 @@ ghost use Rattle.nx_io.specs.Doors.{Gives, IfDialed, IfGiven, IfMade};
 
 use crate::links::Link;
 use crate::streams::{Reach, Shared};
+use std::fs::Files;
 use std::net::{Net, TcpListener, TcpStream};
 use std::rt::Clock;
 
@@ -45,13 +46,15 @@ pub trait Door {
     /// Its calls, with how each went, in order. A share begins with none. Every door tells them.
     ghost calls: { Self → List DoorCall };
 
-    /// Listens at an address, for peers to connect. `Failed` comes only where the door failed in this call.
-    fn listen<R: Net<Listener = TcpListener, Stream = TcpStream> + Clock>(
+    /// Listens at an address, for peers to connect. A link that is given from then on, also by a share that is made from then on, has
+    /// failed where its peer is admitted and lets it wait for so many seconds. `Failed` comes only where the door failed in this call.
+    fn listen<R: Net<Listener = TcpListener, Stream = TcpStream> + Clock + Files>(
         &mut self,
         rt: &R,
         address: &[u8],
+        patience: u64,
     ) -> Reach
-        ensures calls { calls self.new ≡ calls self.old ++ listen_call address.now result ∷ [] }
+        ensures calls { calls self.new ≡ calls self.old ++ listen_call address.now patience result ∷ [] }
         ensures links { links self.new ≡ links self.old }
         ensures origin { origin self.new ≡ origin self.old };
 
@@ -75,7 +78,7 @@ pub trait Door {
         &mut self,
         rt: &R,
     ) -> Next<Self::Link>
-        ensures fresh { IfGiven result (λ link. IsFreshLink (Self.Link.taken link) (Self.Link.sent link) (Self.Link.over link) (Self.Link.closed link) (Self.Link.faults link)) }
+        ensures fresh { IfGiven result (λ link. IsFreshLink (Self.Link.taken link) (Self.Link.sent link) (Self.Link.over link) (Self.Link.closed link) (Self.Link.admitted link) (Self.Link.faults link)) }
         ensures place { IfGiven result (λ link. Self.Link.place link ≡ gave_in (calls self.new)) }
         ensures toward { IfGiven result (λ link. Self.Link.toward link ≡ None) }
         ensures links { Gives result (links self.old) (links self.new) }
@@ -88,7 +91,7 @@ pub trait Door {
         rt: &R,
         address: &[u8],
     ) -> Dial<Self::Link>
-        ensures fresh { IfDialed result (λ link. IsFreshLink (Self.Link.taken link) (Self.Link.sent link) (Self.Link.over link) (Self.Link.closed link) (Self.Link.faults link)) }
+        ensures fresh { IfDialed result (λ link. IsFreshLink (Self.Link.taken link) (Self.Link.sent link) (Self.Link.over link) (Self.Link.closed link) (Self.Link.admitted link) (Self.Link.faults link)) }
         ensures place { IfDialed result (λ link. Self.Link.place link ≡ 0) }
         ensures toward { IfDialed result (λ link. Self.Link.toward link ≡ Some address.now) }
         ensures calls { calls self.new ≡ calls self.old ++ dial_call address.now result ∷ [] }

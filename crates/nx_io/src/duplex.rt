@@ -3,7 +3,7 @@
 ghost use Rattle.std.specs.Prelude.{◌↔◌, ◌<◌, ◌≡◌, [], Bool, IsTrue, List, false, length, true, ℕ};
 ghost use Rattle.nx_io.specs.Duplexes.{AreSame, new_stream};
 ghost use Rattle.nx_io.specs.Readers.{HandsOn, HandsTo};
-ghost use Rattle.nx_io.specs.Streams.{ReadsWithin, Writes, WritesWithin, faults_after_read, faults_after_write, given_after};
+ghost use Rattle.nx_io.specs.Streams.{ReadsWithin, Writes, WritesWithin, faults_after_read, faults_after_write, given_after, one_more};
 
 use crate::history::History;
 use crate::standard::{read_uninterrupted, write_uninterrupted};
@@ -44,6 +44,13 @@ pub trait Duplex {
         ensures bytes { Writes result (sent self.old) (sent self.new) piece.now }
         ensures others { AreSame (given self.old) (given self.new) (shut self.old) (shut self.new) }
         ensures count { faults self.new ≡ faults_after_write result (faults self.old) };
+
+    /// Tells the stream that its peer is admitted.
+    fn admit(&mut self)
+        ensures given { given self.new ≡ given self.old }
+        ensures sent { sent self.new ≡ sent self.old }
+        ensures shut { shut self.new ≡ shut self.old }
+        ensures count { faults self.new ≡ faults self.old };
 
     /// Shuts the stream, once for all. What it gave and took is told on.
     fn shut(&mut self)
@@ -95,6 +102,18 @@ impl<S: Read + Write> StdDuplex<S> {
             sent: History::Start,
             faults: 0,
         }
+    }
+
+    /// The stream itself, until it is shut.
+    pub(crate) fn stream(&self) -> Option<&S> {
+        self.stream.as_ref()
+    }
+
+    /// Counts a fault.
+    pub(crate) fn fail(&mut self)
+        ensures { self.new ≡ record self.old { faults = one_more self.old.faults } }
+    {
+        self.faults = self.faults.saturating_add(1);
     }
 }
 
@@ -157,6 +176,11 @@ impl<S: Read + Write + Drop> Duplex for StdDuplex<S> {
             }
         }
     }
+
+    /// As of any stream. It does nothing.
+    fn admit(&mut self)
+        ensures { self.new ≡ self.old }
+    {}
 
     /// As of any stream.
     fn shut(&mut self)

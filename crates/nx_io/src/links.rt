@@ -23,6 +23,9 @@ pub trait Link {
     /// Whether it was closed.
     ghost closed: { Self → Bool };
 
+    /// Whether it was told that its peer is admitted. `admit` alone sets it.
+    ghost admitted: { Self → Bool };
+
     /// The number of the link among those that its door gave by `next`, from 1, and 0 for one that was dialed. No call
     /// changes it.
     ghost place: { Self → ℕ };
@@ -47,6 +50,7 @@ pub trait Link {
         ensures over { over self.new ≡ over_after result (over self.old) }
         ensures going { KeepsGoing (sent self.old) (sent self.new) (closed self.old) (closed self.new) }
         ensures origin { KeepsOrigin (place self.old) (place self.new) (toward self.old) (toward self.new) }
+        ensures admitted { admitted self.new ≡ admitted self.old }
         ensures later { faults self.old ≤ faults self.new }
         ensures count { faults self.new ≡ faults_after_read result (faults self.old) };
 
@@ -61,18 +65,31 @@ pub trait Link {
         ensures within { WritesWithin result piece.now }
         ensures bytes { Writes result (sent self.old) (sent self.new) piece.now }
         ensures closed { closed self.new ≡ closed self.old }
-        ensures coming { KeepsComing (left self.old) (left self.new) (taken self.old) (taken self.new) (over self.old) (over self.new) }
+        ensures coming { KeepsComing (left self.old) (left self.new) (taken self.old) (taken self.new) (over
+            self.old) (over self.new) }
         ensures origin { KeepsOrigin (place self.old) (place self.new) (toward self.old) (toward self.new) }
+        ensures admitted { admitted self.new ≡ admitted self.old }
         ensures later { faults self.old ≤ faults self.new }
         ensures count { faults self.new ≡ faults_after_write result (faults self.old) };
+
+    /// Tells the link that its peer is admitted. A link of the system is more patient from then on.
+    fn admit(&mut self)
+        ensures admitted { admitted self.new ≡ true }
+        ensures coming { KeepsComing (left self.old) (left self.new) (taken self.old) (taken self.new) (over
+            self.old) (over self.new) }
+        ensures going { KeepsGoing (sent self.old) (sent self.new) (closed self.old) (closed self.new) }
+        ensures origin { KeepsOrigin (place self.old) (place self.new) (toward self.old) (toward self.new) }
+        ensures count { faults self.new ≡ faults self.old };
 
     /// Closes the link: what it accepted is put out, and its buffers are given back. The count of faults rises by one
     /// where that could not be put out, and else stands still.
     fn close(&mut self)
         ensures closed { closed self.new ≡ true }
         ensures sent { sent self.new ≡ sent self.old }
-        ensures coming { KeepsComing (left self.old) (left self.new) (taken self.old) (taken self.new) (over self.old) (over self.new) }
+        ensures coming { KeepsComing (left self.old) (left self.new) (taken self.old) (taken self.new) (over
+            self.old) (over self.new) }
         ensures origin { KeepsOrigin (place self.old) (place self.new) (toward self.old) (toward self.new) }
+        ensures admitted { admitted self.new ≡ admitted self.old }
         ensures later { faults self.old ≤ faults self.new }
         ensures count { MayRise (faults self.old) (faults self.new) };
 }
@@ -85,8 +102,10 @@ pub fn send_whole<L: Link>(link: &mut L, piece: &[u8]) -> Reach
     requires open { L.closed link.old ≡ false }
     ensures bytes { SendsAll result (L.sent link.old) (L.sent link.new) piece.now }
     ensures closed { L.closed link.new ≡ L.closed link.old }
-    ensures coming { KeepsComing (L.left link.old) (L.left link.new) (L.taken link.old) (L.taken link.new) (L.over link.old) (L.over link.new) }
+    ensures coming { KeepsComing (L.left link.old) (L.left link.new) (L.taken link.old) (L.taken link.new) (L.over
+        link.old) (L.over link.new) }
     ensures origin { KeepsOrigin (L.place link.old) (L.place link.new) (L.toward link.old) (L.toward link.new) }
+    ensures admitted { L.admitted link.new ≡ L.admitted link.old }
     ensures later { L.faults link.old ≤ L.faults link.new }
     ensures count { L.faults link.new ≡ faults_after_reach result (L.faults link.old) }
 {

@@ -1,11 +1,11 @@
 // A source and a sink in memory, which fail at the calls that they are told.
 ghost use Rattle.std.specs.Prelude.{◌<◌, ◌≡◌, ◌↔◌, ◌≤◌, [], false, length, IfOk, IsTrue, Some};
 ghost use Rattle.std.specs.List.{Contains};
-ghost use Rattle.nx_io.specs.Streams.{Reads, ReadsWithin, Writes, WritesWithin, faults_after_read, faults_after_write, given_after, one_more, over_after};
-ghost use Rattle.nx_io.specs.Memory.{Stores, Supplies};
+ghost use Rattle.nx_io.specs.Streams.{Reads, ReadsWithin, Writes, WritesWithin, faults_after_reach, faults_after_read, faults_after_write, given_after, one_more, over_after, synced_after};
+ghost use Rattle.nx_io.specs.Memory.{Stores, Supplies, new_store};
 
 use crate::scripts::Script;
-use crate::streams::{Got, Put, Sink, Source};
+use crate::streams::{Got, Put, Reach, Sink, Source};
 use std::alloc::{AllocError, Global};
 use std::marker::Model;
 
@@ -118,6 +118,8 @@ pub struct MemSink {
     room: usize,
     piece: usize,
     script: Script,
+    synced: usize,
+    syncs: Script,
 }
 
 impl Model for MemSink {
@@ -133,6 +135,9 @@ impl Model for MemSink {
       piece = s.piece;
       fails = s.script.fails.items;
       calls = s.script.calls;
+      synced = s.synced;
+      sync_fails = s.syncs.fails.items;
+      syncs = s.syncs.calls;
       faults = s.script.faults;
     } };
 
@@ -140,23 +145,26 @@ impl Model for MemSink {
 }
 
 impl MemSink {
-    /// A sink that holds at most `room` bytes and takes at most `piece` in a call. The calls whose numbers `fails`
-    /// lists fail, the first being 1, and so does a call where no room is left. An `Err` is want of memory: all that
-    /// the sink will need is taken here.
+    /// A sink that holds at most `room` bytes and takes at most `piece` in a write. The writes whose numbers `fails`
+    /// lists fail, the first being 1, and so does a write where no room is left; the syncs whose numbers `sync_fails` lists fail.
+    /// An `Err` is want of memory: all that the sink will need is taken here.
     pub fn new(
         alloc: Global,
         room: usize,
         piece: usize,
         fails: &[u64],
+        sync_fails: &[u64],
     ) -> Result<MemSink, AllocError>
         requires { 1 ≤ piece }
-        ensures { IfOk result (λ sink. sink ≡ record { sent = []; room = room; piece = piece; fails = fails.now; calls = 0; faults = 0 }) }
+        ensures { IfOk result (λ sink. sink ≡ new_store room piece fails.now sync_fails.now) }
     {
         Ok(MemSink {
             sent: Vec::with_capacity(alloc, room)?,
             room,
             piece,
             script: Script::new(alloc, fails)?,
+            synced: 0,
+            syncs: Script::new(alloc, sync_fails)?,
         })
     }
 
@@ -165,6 +173,13 @@ impl MemSink {
         ensures { result.now ≡ self.now.sent }
     {
         self.sent.as_slice()
+    }
+
+    /// How many of them the last sync that did not fail has covered.
+    pub fn synced(&self) -> usize
+        ensures { result ≡ self.now.synced }
+    {
+        self.synced
     }
 
     /// How often the sink has failed.
@@ -178,6 +193,8 @@ impl MemSink {
 impl Sink for MemSink {
     ghost sent = { λ s. s.sent };
 
+    ghost synced = { λ s. s.synced };
+
     ghost faults = { λ s. s.faults };
 
     /// As of any sink. A call fails where its number is listed or no room is left, and nowhere else.
@@ -185,6 +202,7 @@ impl Sink for MemSink {
         requires { 0 < length piece.now }
         ensures within { WritesWithin result piece.now }
         ensures bytes { Writes result self.old.sent self.new.sent piece.now }
+        ensures synced { self.new.synced ≡ self.old.synced }
         ensures later { self.old.faults ≤ self.new.faults }
         ensures count { self.new.faults ≡ faults_after_write result self.old.faults }
         ensures exact { Stores result self.old self.new piece.now }
@@ -203,5 +221,22 @@ impl Sink for MemSink {
                 Put::Failed
             }
         }
+    }
+
+    /// As of any sink. A call fails where its number is listed, and nowhere else.
+    fn sync(&mut self) -> Reach
+        ensures sent { self.new.sent ≡ self.old.sent }
+        ensures synced { self.new.synced ≡ synced_after result self.old.sent self.old.synced }
+        ensures later { self.old.faults ≤ self.new.faults }
+        ensures count { self.new.faults ≡ faults_after_reach result self.old.faults }
+        ensures failed { (result ≡ Reach.Failed) ↔ Contains self.old.sync_fails self.new.syncs }
+        ensures others { self.new ≡ record self.old { synced = self.new.synced; syncs = one_more self.old.syncs; faults = self.new.faults } }
+    {
+        if self.syncs.call_fails() {
+            self.script.fault();
+            return Reach::Failed;
+        }
+        self.synced = self.sent.len();
+        Reach::Ready
     }
 }

@@ -15,6 +15,7 @@ use crate::scripts::Script;
 use crate::streams::{Reach, Shared};
 use std::alloc::{AllocError, Global};
 use std::collections::VecDeque;
+use std::fs::Files;
 use std::marker::Model;
 use std::net::{Net, TcpListener, TcpStream};
 use std::rt::Clock;
@@ -137,12 +138,13 @@ impl Door for MemDoor {
     ghost calls = { λ d. d.calls };
 
     /// As of any door. It fails where its call's number is listed, and nowhere else.
-    fn listen<R: Net<Listener = TcpListener, Stream = TcpStream> + Clock>(
+    fn listen<R: Net<Listener = TcpListener, Stream = TcpStream> + Clock + Files>(
         &mut self,
         _rt: &R,
         address: &[u8],
+        patience: u64,
     ) -> Reach
-        ensures calls { self.new.calls ≡ self.old.calls ++ listen_call address.now result ∷ [] }
+        ensures calls { self.new.calls ≡ self.old.calls ++ listen_call address.now patience result ∷ [] }
         ensures links { Some self.new.links ≡ Some self.old.links }
         ensures origin { self.new.origin ≡ self.old.origin }
         ensures failed { (result ≡ Reach.Failed) ↔ Contains self.old.fails self.new.number }
@@ -150,10 +152,16 @@ impl Door for MemDoor {
     {
         let told = History::of(address);
         if self.call_fails() {
-            self.history.add(LoggedCall::NotListened { address: told });
+            self.history.add(LoggedCall::NotListened {
+                address: told,
+                patience,
+            });
             return Reach::Failed;
         }
-        self.history.add(LoggedCall::Listened { address: told });
+        self.history.add(LoggedCall::Listened {
+            address: told,
+            patience,
+        });
         Reach::Ready
     }
 

@@ -19,6 +19,7 @@ pub struct MemLink {
     source: MemSource,
     sink: MemSink,
     closed: bool,
+    admitted: bool,
     place: u64,
     toward: Option<History>,
     faults: u64,
@@ -35,6 +36,7 @@ impl Model for MemLink {
       supply = l.source;
       store = l.sink;
       closed = l.closed;
+      admitted = l.admitted;
       place = l.place;
       toward = option_map bytes_of l.toward;
       faults = l.faults;
@@ -58,8 +60,9 @@ impl MemLink {
     {
         Ok(MemLink {
             source: MemSource::new(alloc, left, piece, take_fails)?,
-            sink: MemSink::new(alloc, room, piece, send_fails)?,
+            sink: MemSink::new(alloc, room, piece, send_fails, &[])?,
             closed: false,
+            admitted: false,
             place: 0,
             toward: None,
             faults: 0,
@@ -85,6 +88,13 @@ impl MemLink {
         ensures { result ≡ self.now.closed }
     {
         self.closed
+    }
+
+    /// Whether the link was told that its peer is admitted.
+    pub fn is_admitted(&self) -> bool
+        ensures { result ≡ self.now.admitted }
+    {
+        self.admitted
     }
 
     /// The number of the link among those that its door gave by `next`, from 1, and else 0.
@@ -137,6 +147,8 @@ impl Link for MemLink {
 
     ghost closed = { λ l. l.closed };
 
+    ghost admitted = { λ l. l.admitted };
+
     ghost place = { λ l. l.place };
 
     ghost toward = { λ l. l.toward };
@@ -153,6 +165,7 @@ impl Link for MemLink {
         ensures over { self.new.supply.over ≡ over_after result self.old.supply.over }
         ensures going { KeepsGoing self.old.store.sent self.new.store.sent self.old.closed self.new.closed }
         ensures origin { KeepsOrigin self.old.place self.new.place self.old.toward self.new.toward }
+        ensures admitted { self.new.admitted ≡ self.old.admitted }
         ensures later { self.old.faults ≤ self.new.faults }
         ensures count { self.new.faults ≡ faults_after_read result self.old.faults }
         ensures exact { Supplies result self.old.supply self.new.supply into.new }
@@ -174,6 +187,7 @@ impl Link for MemLink {
         ensures closed { self.new.closed ≡ self.old.closed }
         ensures coming { KeepsComing (Some self.old.supply.left) (Some self.new.supply.left) self.old.supply.given self.new.supply.given self.old.supply.over self.new.supply.over }
         ensures origin { KeepsOrigin self.old.place self.new.place self.old.toward self.new.toward }
+        ensures admitted { self.new.admitted ≡ self.old.admitted }
         ensures later { self.old.faults ≤ self.new.faults }
         ensures count { self.new.faults ≡ faults_after_write result self.old.faults }
         ensures exact { Stores result self.old.store self.new.store piece.now }
@@ -186,12 +200,20 @@ impl Link for MemLink {
         put
     }
 
+    /// As of any link.
+    fn admit(&mut self)
+        ensures { self.new ≡ record self.old { admitted = true } }
+    {
+        self.admitted = true;
+    }
+
     /// As of any link. Nothing waits in it, so it doesn't fail here.
     fn close(&mut self)
         ensures closed { self.new.closed ≡ true }
         ensures sent { self.new.store.sent ≡ self.old.store.sent }
         ensures coming { KeepsComing (Some self.old.supply.left) (Some self.new.supply.left) self.old.supply.given self.new.supply.given self.old.supply.over self.new.supply.over }
         ensures origin { KeepsOrigin self.old.place self.new.place self.old.toward self.new.toward }
+        ensures admitted { self.new.admitted ≡ self.old.admitted }
         ensures later { self.old.faults ≤ self.new.faults }
         ensures count { MayRise self.old.faults self.new.faults }
         ensures others { self.new ≡ record self.old { closed = true } }

@@ -4,12 +4,13 @@ ghost use Rattle.std.specs.Io.{ReadsAtMost, WritesAtMost};
 ghost use Rattle.std.specs.Io.KnownBytes.{Appends, Consumes, IsAtEnd, Keeps};
 ghost use Rattle.std.specs.IoError.{error_kind};
 ghost use Rattle.nx_io.specs.Readers.{HandsOn, HandsTo};
-ghost use Rattle.nx_io.specs.Streams.{Reads, ReadsWithin, Writes, WritesWithin, faults_after_read, faults_after_write, given_after, over_after};
+ghost use Rattle.nx_io.specs.Streams.{Reads, ReadsWithin, Writes, WritesWithin, faults_after_read, faults_after_write, given_after, one_more, over_after};
 
 use crate::history::History;
-use crate::streams::{Got, Put, Sink, Source};
+use crate::streams::{Got, Put, Reach, Sink, Source};
 use std::io::{self, ErrorKind, Read, Write};
 use std::marker::Model;
+use std::snapshot::Snapshot;
 
 /// A source over a reader, which counts the reads that fail. What a file or a socket has left is not known, so it
 /// tells only what it gave. A read hands on those bytes that std knows the reader to have.
@@ -111,31 +112,42 @@ pub(crate) fn read_uninterrupted<R: Read>(reader: &mut R, into: &mut [u8]) -> io
 }
 
 /// A sink over a writer, which counts the writes that fail. A writer that takes nothing has failed. A write hands the
-/// piece to those bytes that std knows the writer to hold, and keeps nothing back.
+/// piece to those bytes that std knows the writer to hold, and keeps nothing back. It knows no disk: a sync does nothing. [`FileSink`]
+/// is a sink over a file.
+///
+/// [`FileSink`]: crate::FileSink
 #[derive(Drop)]
 pub struct StdSink<W: Write> {
     writer: W,
     sent: History,
+    synced: Snapshot<History>,
     faults: u64,
 }
 
 impl<W: Write> Model for StdSink<W> {
+    ghost use Rattle.std.specs.Prelude.{length};
     ghost use Rattle.nx_io.specs.Histories.{bytes_of};
     ghost use Rattle.nx_io.specs.Readers.{Writing};
 
     ghost Value = { Writing };
 
-    ghost view = { λ s. record { contents = W.contents s.writer; sent = bytes_of s.sent; faults = s.faults } };
+    ghost view = { λ s. record {
+      contents = W.contents s.writer;
+      sent = bytes_of s.sent;
+      synced = length (bytes_of s.synced.value);
+      faults = s.faults;
+    } };
 }
 
 impl<W: Write> StdSink<W> {
     /// A sink that was sent nothing and has not failed yet.
     pub fn new(writer: W) -> StdSink<W>
-        ensures { result ≡ record { contents = W.contents writer; sent = []; faults = 0 } }
+        ensures { result ≡ record { contents = W.contents writer; sent = []; synced = 0; faults = 0 } }
     {
         StdSink {
             writer,
             sent: History::Start,
+            synced: Snapshot::of(&History::Start),
             faults: 0,
         }
     }
@@ -146,10 +158,20 @@ impl<W: Write> StdSink<W> {
     {
         self.faults
     }
+
+    /// Counts a fault.
+    pub(crate) fn fail(&mut self)
+        ensures counted { self.new ≡ record self.old { faults = one_more self.old.faults } }
+        ensures later { self.old.faults ≤ self.new.faults }
+    {
+        self.faults = self.faults.saturating_add(1);
+    }
 }
 
 impl<W: Write> Sink for StdSink<W> {
     ghost sent = { λ s. s.sent };
+
+    ghost synced = { λ s. s.synced };
 
     ghost faults = { λ s. s.faults };
 
@@ -158,6 +180,7 @@ impl<W: Write> Sink for StdSink<W> {
         requires { 0 < length piece.now }
         ensures within { WritesWithin result piece.now }
         ensures bytes { Writes result self.old.sent self.new.sent piece.now }
+        ensures synced { self.new.synced ≡ self.old.synced }
         ensures later { self.old.faults ≤ self.new.faults }
         ensures count { self.new.faults ≡ faults_after_write result self.old.faults }
         ensures handed { HandsTo result self.old.contents self.new.contents piece.now }
@@ -172,6 +195,15 @@ impl<W: Write> Sink for StdSink<W> {
                 Put::Failed
             }
         }
+    }
+
+    /// Does nothing: where the writer's bytes last is not known.
+    fn sync(&mut self) -> Reach
+        ensures ready { result ≡ Reach.Ready }
+        ensures others { self.new ≡ record self.old { synced = length self.old.sent } }
+    {
+        self.synced = Snapshot::of(&self.sent);
+        Reach::Ready
     }
 }
 

@@ -20,6 +20,7 @@ use std::marker::Model;
 pub struct StreamLink<S: Duplex> {
     traffic: Buffered<S>,
     over: bool,
+    admitted: bool,
     place: u64,
     toward: Option<History>,
     faults: u64,
@@ -37,6 +38,7 @@ impl<S: Duplex> Model for StreamLink<S> {
       taken = l.traffic.taken;
       sent = l.traffic.sent;
       over = l.over;
+      admitted = l.admitted;
       place = l.place;
       toward = option_map bytes_of l.toward;
       faults = l.faults;
@@ -53,6 +55,7 @@ impl<S: Duplex> StreamLink<S> {
         StreamLink {
             traffic: Buffered::new(stream),
             over: false,
+            admitted: false,
             place,
             toward,
             faults: 0,
@@ -94,6 +97,8 @@ impl<S: Duplex> Link for StreamLink<S> {
 
     ghost closed = { λ l. S.shut l.stream };
 
+    ghost admitted = { λ l. l.admitted };
+
     ghost place = { λ l. l.place };
 
     ghost toward = { λ l. l.toward };
@@ -110,12 +115,15 @@ impl<S: Duplex> Link for StreamLink<S> {
         ensures over { self.new.over ≡ over_after result self.old.over }
         ensures going { KeepsGoing self.old.sent self.new.sent (S.shut self.old.stream) (S.shut self.new.stream) }
         ensures origin { KeepsOrigin self.old.place self.new.place self.old.toward self.new.toward }
+        ensures admitted { self.new.admitted ≡ self.old.admitted }
         ensures later { self.old.faults ≤ self.new.faults }
         ensures count { self.new.faults ≡ faults_after_read result self.old.faults }
         ensures order { InOrder (S.given self.new.stream) (S.sent self.new.stream) self.new.taken self.new.sent }
         ensures end { result ≡ Got.End → self.new.taken ≡ S.given self.new.stream }
-        ensures first { (result ≡ Got.End ⊎ S.given self.new.stream ≢ S.given self.old.stream) → S.sent self.new.stream ≡ self.new.sent }
-        ensures blame { S.shut self.old.stream ≡ false → S.faults self.new.stream ≡ faults_after_read result (S.faults self.old.stream) }
+        ensures first { (result ≡ Got.End ⊎ S.given self.new.stream ≢ S.given self.old.stream)
+            → S.sent self.new.stream ≡ self.new.sent }
+        ensures blame { S.shut self.old.stream ≡ false → S.faults self.new.stream ≡ faults_after_read result
+            (S.faults self.old.stream) }
     {
         let got = self.traffic.take(into);
         match got {
@@ -134,11 +142,13 @@ impl<S: Duplex> Link for StreamLink<S> {
         ensures closed { S.shut self.new.stream ≡ S.shut self.old.stream }
         ensures coming { KeepsComing None None self.old.taken self.new.taken self.old.over self.new.over }
         ensures origin { KeepsOrigin self.old.place self.new.place self.old.toward self.new.toward }
+        ensures admitted { self.new.admitted ≡ self.old.admitted }
         ensures later { self.old.faults ≤ self.new.faults }
         ensures count { self.new.faults ≡ faults_after_write result self.old.faults }
         ensures order { InOrder (S.given self.new.stream) (S.sent self.new.stream) self.new.taken self.new.sent }
         ensures reads_nothing { S.given self.new.stream ≡ S.given self.old.stream }
-        ensures blame { S.shut self.old.stream ≡ false → S.faults self.new.stream ≡ faults_after_write result (S.faults self.old.stream) }
+        ensures blame { S.shut self.old.stream ≡ false → S.faults self.new.stream ≡ faults_after_write result
+            (S.faults self.old.stream) }
     {
         let put = self.traffic.send(piece);
         match put {
@@ -148,6 +158,21 @@ impl<S: Duplex> Link for StreamLink<S> {
         put
     }
 
+    /// As of any link. The stream is told it too.
+    fn admit(&mut self)
+        ensures admitted { self.new.admitted ≡ true }
+        ensures coming { KeepsComing None None self.old.taken self.new.taken self.old.over self.new.over }
+        ensures going { KeepsGoing self.old.sent self.new.sent (S.shut self.old.stream) (S.shut self.new.stream) }
+        ensures origin { KeepsOrigin self.old.place self.new.place self.old.toward self.new.toward }
+        ensures count { self.new.faults ≡ self.old.faults }
+        ensures stream { (S.given self.new.stream ≡ S.given self.old.stream)
+            × (S.sent self.new.stream ≡ S.sent self.old.stream) }
+        ensures blame { S.faults self.new.stream ≡ S.faults self.old.stream }
+    {
+        self.admitted = true;
+        self.traffic.admit();
+    }
+
     /// As of any link. All that was sent is written to the stream, or the stream has failed and the count rises; then the stream
     /// is shut. A closed link stays as it is.
     fn close(&mut self)
@@ -155,12 +180,17 @@ impl<S: Duplex> Link for StreamLink<S> {
         ensures sent { self.new.sent ≡ self.old.sent }
         ensures coming { KeepsComing None None self.old.taken self.new.taken self.old.over self.new.over }
         ensures origin { KeepsOrigin self.old.place self.new.place self.old.toward self.new.toward }
+        ensures admitted { self.new.admitted ≡ self.old.admitted }
         ensures later { self.old.faults ≤ self.new.faults }
         ensures count { MayRise self.old.faults self.new.faults }
         ensures order { InOrder (S.given self.new.stream) (S.sent self.new.stream) self.new.taken self.new.sent }
         ensures reads_nothing { S.given self.new.stream ≡ S.given self.old.stream }
-        ensures written { S.shut self.old.stream ≡ false → ((S.sent self.new.stream ≡ self.new.sent) × (S.faults self.new.stream ≡ S.faults self.old.stream) × (self.new.faults ≡ self.old.faults)) ⊎ ((S.faults self.new.stream ≡ one_more (S.faults self.old.stream)) × (self.new.faults ≡ one_more self.old.faults)) }
-        ensures again { S.shut self.old.stream ≡ true → (S.sent self.new.stream ≡ S.sent self.old.stream) × (S.faults self.new.stream ≡ S.faults self.old.stream) × (self.new.faults ≡ self.old.faults) }
+        ensures written { S.shut self.old.stream ≡ false → ((S.sent self.new.stream ≡ self.new.sent)
+            × (S.faults self.new.stream ≡ S.faults self.old.stream) × (self.new.faults ≡ self.old.faults))
+            ⊎ ((S.faults self.new.stream ≡ one_more (S.faults self.old.stream))
+            × (self.new.faults ≡ one_more self.old.faults)) }
+        ensures again { S.shut self.old.stream ≡ true → (S.sent self.new.stream ≡ S.sent self.old.stream)
+            × (S.faults self.new.stream ≡ S.faults self.old.stream) × (self.new.faults ≡ self.old.faults) }
     {
         match self.traffic.close() {
             Reach::Ready => {}

@@ -1,7 +1,7 @@
 // Sources and sinks, by the histories of what they gave and took, and by a count of their faults.
 // `docs/ARCHITECTURE.md`, "What contracts see of the outside", states the form that all such traits have.
 ghost use Rattle.std.specs.Prelude.{◌≡◌, ◌<◌, ◌≤◌, Bool, List, Option, ℕ, length};
-ghost use Rattle.nx_io.specs.Streams.{Reads, ReadsWithin, SendsAll, Writes, WritesWithin, faults_after_reach, faults_after_read, faults_after_write, given_after, over_after};
+ghost use Rattle.nx_io.specs.Streams.{Reads, ReadsWithin, SendsAll, Writes, WritesWithin, faults_after_reach, faults_after_read, faults_after_write, given_after, over_after, synced_after};
 
 /// What a read answers.
 #[derive(Clone, Copy, Debug, PartialEq, Eq)]
@@ -77,6 +77,9 @@ pub trait Sink {
     /// The bytes that its writes have taken, in order. Every sink tells them.
     ghost sent: { Self → List ℕ };
 
+    /// How many of them the last sync has brought to where they last, which are those at the front.
+    ghost synced: { Self → ℕ };
+
     /// How often the sink has failed. The count stands still at its type's end.
     ghost faults: { Self → ℕ };
 
@@ -88,8 +91,18 @@ pub trait Sink {
         requires { 0 < length piece.now }
         ensures within { WritesWithin result piece.now }
         ensures bytes { Writes result (sent self.old) (sent self.new) piece.now }
+        ensures synced { synced self.new ≡ synced self.old }
         ensures later { faults self.old ≤ faults self.new }
         ensures count { faults self.new ≡ faults_after_write result (faults self.old) };
+
+    /// Brings all that was sent to where it lasts: of a file, to its disk. What has no such place is `Ready` at once.
+    ///
+    /// `Failed` comes only where the sink failed in this call. The count of faults rises by one at `Failed` and at no other answer.
+    fn sync(&mut self) -> Reach
+        ensures sent { sent self.new ≡ sent self.old }
+        ensures synced { synced self.new ≡ synced_after result (sent self.old) (synced self.old) }
+        ensures later { faults self.old ≤ faults self.new }
+        ensures count { faults self.new ≡ faults_after_reach result (faults self.old) };
 }
 
 /// Sends a whole piece, in as many writes as it takes. It takes no memory.
@@ -98,6 +111,7 @@ pub trait Sink {
 /// a proper part of the piece was sent.
 pub fn send_all<K: Sink>(sink: &mut K, piece: &[u8]) -> Reach
     ensures bytes { SendsAll result (K.sent sink.old) (K.sent sink.new) piece.now }
+    ensures synced { K.synced sink.new ≡ K.synced sink.old }
     ensures later { K.faults sink.old ≤ K.faults sink.new }
     ensures count { K.faults sink.new ≡ faults_after_reach result (K.faults sink.old) }
 {

@@ -1,28 +1,31 @@
--- What a session learns by a call on a book, from what the call says of the book.
-use Rattle.std.proofs.Common.{◌≡◌, ◌≢◌, ◌<◌, ◌+◌, ◌⊎◌, inl, inr, ℕ, Bool, true, false, List, [], ◌∷◌, ◌++◌, Some, None, Err, IsOk, refl, sym, ap, ◌∙◌, subst, arith}
+-- What a session learns by a call on a book, from what is done at the journal.
+use Rattle.std.proofs.Common.{◌≡◌, ◌≢◌, ◌<◌, ◌⊎◌, inl, inr, ℕ, Bool, true, false, List, [], ◌∷◌, ◌++◌, length, Some, None, Ok, Err, IsOk, refl, sym, ap, ◌∙◌, subst, arith}
 use Rattle.std.specs.List.{find}
 use Rattle.std.specs.declared.option.Option.{Option}
+use Rattle.std.specs.declared.result.Result.{Result}
+use Rattle.policy_history.specs.declared.events.Due.{Due}
 use Rattle.policy_history.specs.declared.events.Entry.{Entry}
 use Rattle.policy_history.specs.declared.events.Event.{Event}
 use Rattle.policy_history.specs.declared.events.Refusal.{Refusal}
 use Rattle.policy_history.specs.declared.events.Refusal.TheVariants.{NoSuchPrincipal, NotYourPrincipal, NoSuchLabel, NotHolder, NoSuchObject, NameTaken, NotOwner, NoGoal, NoSuchProof, NoBinding, BadPort, BadFormula, BadProof, Quota, ObjectsFull, CasesFull, NotRecorded}
 use Rattle.policy_history.specs.declared.heads.Head.{Head}
-use Rattle.policy_history.specs.Events.{EventTree, event_tree}
+use Rattle.policy_history.specs.Events.{EventTree}
 use Rattle.policy_history.specs.Machine.{applies, refusal_of, refusals}
 use Rattle.policy_history.specs.States.{State}
 use Rattle.policy_history.specs.Values.{decision}
 use Rattle.policy_history.proofs.Acceptance.{never_unrecorded}
 use Rattle.verdict_words.specs.Histories.{IsPrefix}
 use Rattle.verdict_words.specs.declared.views.AtomicStep.{AtomicStep}
+use Rattle.verdict_words.specs.Settling.{AreGathered}
 use Rattle.verdict_words.specs.Values.{Identity, PassValue}
-use Rattle.policy_book.specs.Access.{HasMet, HasSnapped, IsAnswered, unrecorded_by}
-use Rattle.policy_book.specs.Books.{AreGatheredIn, BookValue, IsMetIn, decided, head_of, met_at, met_in, state_of, trees_of}
-use Rattle.policy_book.specs.Snaps.{IsSnap}
-use Rattle.policy_book.specs.Writes.{IsAnsweredBy, IsCutShort, IsUnrecorded}
-use Rattle.policy_book.specs.declared.snapping.Snapped.{Snapped}
+use Rattle.verdict_words.proofs.ForCallers.{prefix_through}
+use Rattle.policy_book.specs.Access.{HasMet, HasMetTwice, IsAnswered, unrecorded_by}
+use Rattle.policy_book.specs.Books.{IsMetAt, decided_at, met_at}
+use Rattle.policy_book.specs.Inner.Visits.{IsDraft, IsDraftOf, IsFinished}
+use Rattle.policy_book.specs.declared.drafts.Draft.{Draft}
 use Rattle.policy_book.specs.declared.writing.Written.{Written}
 use Rattle.policy_book.specs.declared.writing.Written.TheVariants.{Done, Refused, NoMemory}
-use Rattle.policy_book.proofs.ForCallers.{gathered_knows, written_knows}
+use Rattle.policy_book.proofs.Meeting.{gathered_knows}
 
 -- what is found passes the test
 found_passes : {X : Type 0} (p : X → Bool) (xs : List X) (x : X) → find p xs ≡ Some x → p x ≡ true
@@ -45,7 +48,7 @@ never_decided h s session p e is = of (refusal_of h s session p e) refl
         cc (there, never_unrecorded h s session p e)
 
 -- so a refusal that was decided counts nothing
-decided_counts : (h : Head) (s : State) (session p : ℕ) (e : EventTree) (at : ℕ) (refusal : Refusal) → decision h s session p e ≡ Err refusal → unrecorded_by (Refused at refusal) ≡ 0
+pub decided_counts : (h : Head) (s : State) (session p : ℕ) (e : EventTree) (at : ℕ) (refusal : Refusal) → decision h s session p e ≡ Err refusal → unrecorded_by (Refused at refusal) ≡ 0
 decided_counts h s session p e at NoSuchPrincipal is = refl
 decided_counts h s session p e at NotYourPrincipal is = refl
 decided_counts h s session p e at NoSuchLabel is = refl
@@ -64,79 +67,84 @@ decided_counts h s session p e at ObjectsFull is = refl
 decided_counts h s session p e at CasesFull is = refl
 decided_counts h s session p e at NotRecorded is = absurd (never_decided h s session p e is)
 
-module _ {K : Type 0} where
-  module _ (book : BookValue K) (known : List AtomicStep) (pass pass_new : PassValue Entry Head) (pass_is : pass_new ≡ met_in book known pass) (met : IsMetIn book pass) (gathered : AreGatheredIn book (pass ∷ []) known) where
-    known_is : pass_new.known ≡ known
-    known_is = ap (λ (p : PassValue Entry Head). p.known) pass_is
+-- what was decided is accepted
+accepted_is_ok : {E : Type 0} (decided : Result Due E) (due : Due) → decided ≡ Ok due → IsOk decided
+accepted_is_ok decided due is = subst IsOk (sym is) refl
 
-    has_met_here : HasMet book.board book.entries pass pass_new
-    has_met_here = record {
-      next = book.next;
-      met = met;
-      pass_is = pass_is ∙ ap (λ (l : List AtomicStep). met_at book.board book.entries l pass) (sym known_is);
-      knows = subst (IsPrefix pass.known) (sym known_is) (gathered_knows book pass known gathered);
-    }
+module _ (board : Identity Entry Head) where
+  -- a pass that was met at the end of a journal
+  pub has_met : (next : ℕ) (entries : List Entry) (before known : List AtomicStep) (pass pass_new : PassValue Entry Head) → pass_new ≡ met_at board entries known pass → IsMetAt board next entries pass → AreGathered board next entries before (pass ∷ []) known
+      → HasMet board entries pass pass_new
+  has_met next entries before known pass pass_new pass_is met gathered =
+      let known_is : pass_new.known ≡ known = ap (λ (p : PassValue Entry Head). p.known) pass_is in
+      record {
+        next = next;
+        met = met;
+        pass_is = pass_is ∙ ap (λ (l : List AtomicStep). met_at board entries l pass) (sym known_is);
+        knows = subst (IsPrefix pass.known) (sym known_is) (gathered_knows board next entries before known pass gathered);
+      }
 
-    -- a pass that the book met
-    pub has_met : (board : Identity Entry Head) → book.board ≡ board → HasMet board book.entries pass pass_new
-    has_met board same = subst (λ (b : Identity Entry Head). HasMet b book.entries pass pass_new) same has_met_here
+  module _ (pass pass_new : PassValue Entry Head) (principal : ℕ) (event : Event) where
+    -- a change that the policy refuses
+    pub refused_answer : (entries : List Entry) (refusal : Refusal) (written : Written) → written ≡ Refused (length entries) refusal → decided_at board entries pass.session principal event ≡ Err refusal → HasMet board entries pass pass_new
+        → IsAnswered board pass pass_new principal event written
+    refused_answer entries refusal written is decided met =
+        subst (IsAnswered board pass pass_new principal event) (sym is) (record { entries = entries; why = inl decided; at_is = refl; met = inl met })
 
-    -- a case that was copied from the book
-    pub has_snapped : (board : Identity Entry Head) (principal : ℕ) (op object : List ℕ) (snapped : Snapped) → book.board ≡ board → IsSnap board.origin.setting (trees_of book) principal op object snapped
-        → HasSnapped board principal op object pass pass_new snapped
-    has_snapped board principal op object snapped same snap = record { entries = book.entries; met = has_met board same; snap = snap }
+    -- a change that is accepted, in a book that is broken
+    pub unrecorded_answer : (entries : List Entry) (due : Due) (written : Written) → written ≡ Refused (length entries) NotRecorded → decided_at board entries pass.session principal event ≡ Ok due → HasMet board entries pass pass_new
+        → IsAnswered board pass pass_new principal event written
+    unrecorded_answer entries due written is decided met =
+        subst (IsAnswered board pass pass_new principal event) (sym is) (record { entries = entries; why = inr (refl, accepted_is_ok _ due decided); at_is = refl; met = inl met })
 
-  module _ (sent : K → List ℕ) (faults : K → ℕ) (old new : BookValue K) (pass pass_new : PassValue Entry Head) (principal : ℕ) (event : Event) (line : List ℕ) where
-    answered_here : (answer : Written) → IsAnsweredBy sent faults old new pass pass_new principal event line answer → IsAnswered old.board pass pass_new principal event answer
-    answered_here (Done at number) done =
-        let e : Entry = record { session = pass.session; principal = principal; event = event } in
-        let known : pass_new.known ≡ new.known = ap (λ (p : PassValue Entry Head). p.known) done.pass_is in
-        let board : new.board ≡ old.board = ap (λ (b : BookValue K). b.board) done.book in
-        let entries : new.entries ≡ old.entries ++ e ∷ [] = ap (λ (b : BookValue K). b.entries) done.book in
+    -- a change that was visited twice
+    pub finished_answer : (draft : Draft) (is_broken : Bool) (written : Written) → IsDraft board draft → IsDraftOf board pass principal event draft → IsFinished board draft pass_new is_broken written
+        → IsAnswered board pass pass_new principal event written
+    finished_answer draft false (Done at number) is of done =
+        let session : draft.pass.session ≡ pass.session = ap (λ (p : PassValue Entry Head). p.session) of.pass_is in
         record {
-          entries = old.entries;
-          next = old.next;
-          bytes = done.accepted.0;
-          accepted = done.accepted.1;
+          entries = draft.pass.seen;
+          next = of.next;
+          bytes = is.bytes;
+          accepted = (λ i. decided_at board draft.pass.seen (sym session i) (sym of.same.0 i) (sym of.same.1 i)) ∙ is.accepted ∙ (λ i. Ok (record { number = sym done.number_is i; bytes = is.bytes }));
           at_is = done.at_is;
-          met = done.met;
-          pass_is = done.pass_is ∙ (λ i. met_at (board i) (entries i) (sym known i) (met_at old.board old.entries pass_new.known pass));
-          knows = written_knows sent faults old new pass pass_new principal event line (Done at number) done;
+          met = of.met;
+          pass_is = done.pass_is ∙ (λ i. met_at board (draft.pass.seen ++ (record { session = session i; principal = of.same.0 i; event = of.same.1 i }) ∷ []) pass_new.known (met_at board draft.pass.seen pass_new.known (of.pass_is i)));
+          knows = prefix_through pass.known draft.pass.known pass_new.known of.knows done.knows;
         }
-    answered_here (Refused at refusal) refused = record {
-      entries = old.entries;
-      why = why_of refused.why;
-      at_is = refused.at_is;
-      met = has_met_here old new.known pass pass_new refused.pass_is refused.met refused.gathered;
-    }
-      where
-        why_of : ((decided old pass.session principal event ≡ Err refusal) × (new ≡ record old { known = new.known })) ⊎ ((refusal ≡ NotRecorded) × IsUnrecorded sent faults old new pass pass_new principal event line)
-            → (decided old pass.session principal event ≡ Err refusal) ⊎ ((refusal ≡ NotRecorded) × IsOk (decided old pass.session principal event))
-        why_of (inl why) = inl why.0
-        why_of (inr why) = inr (why.0, why.1.accepted)
-    answered_here NoMemory unchanged = unchanged.pass_is
+    finished_answer draft true (Refused at refusal) is of left =
+        let session : draft.pass.session ≡ pass.session = ap (λ (p : PassValue Entry Head). p.session) of.pass_is in
+        let accepted = (λ i. decided_at board draft.pass.seen (sym session i) (sym of.same.0 i) (sym of.same.1 i)) ∙ is.accepted in
+        let twice : HasMetTwice board draft.pass.seen pass pass_new = record {
+          next = of.next;
+          met = of.met;
+          pass_is = left.pass_is ∙ (λ i. met_at board draft.pass.seen pass_new.known (of.pass_is i));
+          knows = prefix_through pass.known draft.pass.known pass_new.known of.knows left.knows;
+        } in
+        record {
+          entries = draft.pass.seen;
+          why = inr (left.refusal_is, accepted_is_ok _ _ accepted);
+          at_is = left.at_is;
+          met = inr (left.refusal_is, twice);
+        }
+    finished_answer draft true (Done at number) is of left = absurd left
+    finished_answer draft true NoMemory is of left = absurd left
+    finished_answer draft false (Refused at refusal) is of left = absurd left
+    finished_answer draft false NoMemory is of left = absurd left
 
-    -- what a session learns of a change that it handed to the book
-    pub is_answered : (board : Identity Entry Head) (answer : Written) → old.board ≡ board → IsAnsweredBy sent faults old new pass pass_new principal event line answer → IsAnswered board pass pass_new principal event answer
-    is_answered board answer same answered = subst (λ (b : Identity Entry Head). IsAnswered b pass pass_new principal event answer) same (answered_here answer answered)
-
-    -- where a change was answered that it was not recorded, before or now, the book is broken
-    pub stays_told : (answer : Written) (count : ℕ) → IsAnsweredBy sent faults old new pass pass_new principal event line answer → (0 < count → old.is_broken ≡ true) → 0 < count + unrecorded_by answer → new.is_broken ≡ true
-    stays_told (Done at number) count done told some =
-        let before : 0 < count = omega (arith, some) in
-        absurd (cc (told before, done.unbroken))
-    stays_told (Refused at refusal) count refused told some = why_of refused.why
+    -- the pass that is given back is of the board, and of the session that it was of
+    pub answered_pass : (written : Written) → pass.board ≡ board → IsAnswered board pass pass_new principal event written → (pass_new.board ≡ pass.board) × (pass_new.session ≡ pass.session)
+    answered_pass (Done at number) same added = (ap (λ (p : PassValue Entry Head). p.board) added.pass_is ∙ sym same, ap (λ (p : PassValue Entry Head). p.session) added.pass_is)
+    answered_pass (Refused at refusal) same refused = of refused.met
       where
-        why_of : ((decided old pass.session principal event ≡ Err refusal) × (new ≡ record old { known = new.known })) ⊎ ((refusal ≡ NotRecorded) × IsUnrecorded sent faults old new pass pass_new principal event line) → new.is_broken ≡ true
-        why_of (inl (why, same)) =
-            let none = decided_counts (head_of old) (state_of old) pass.session principal (event_tree event) at refusal why in
-            let before : 0 < count = omega (arith, none, some) in
-            ap (λ (b : BookValue K). b.is_broken) same ∙ told before
-        why_of (inr (is, unrecorded)) = rose unrecorded.why
-          where
-            rose : ((old.is_broken ≡ true) × (new ≡ record old { known = new.known })) ⊎ IsCutShort sent faults old new pass pass_new principal event line → new.is_broken ≡ true
-            rose (inl (broken, same)) = ap (λ (b : BookValue K). b.is_broken) same ∙ broken
-            rose (inr cut) = ap (λ (b : BookValue K). b.is_broken) cut.book
-    stays_told NoMemory count unchanged told some =
-        let before : 0 < count = omega (arith, some) in
-        absurd (cc (told before, unchanged.unbroken))
+        of : HasMet board refused.entries pass pass_new ⊎ ((refusal ≡ NotRecorded) × HasMetTwice board refused.entries pass pass_new) → (pass_new.board ≡ pass.board) × (pass_new.session ≡ pass.session)
+        of (inl met) = (ap (λ (p : PassValue Entry Head). p.board) met.pass_is ∙ sym same, ap (λ (p : PassValue Entry Head). p.session) met.pass_is)
+        of (inr (is, met)) = (ap (λ (p : PassValue Entry Head). p.board) met.pass_is ∙ sym same, ap (λ (p : PassValue Entry Head). p.session) met.pass_is)
+    answered_pass NoMemory same unchanged = (ap (λ (p : PassValue Entry Head). p.board) unchanged, ap (λ (p : PassValue Entry Head). p.session) unchanged)
+
+  -- where a change was answered at the second visit that it was not recorded, the pen is broken
+  pub finished_count : (draft : Draft) (pass_new : PassValue Entry Head) (is_broken : Bool) (written : Written) → IsFinished board draft pass_new is_broken written → 0 < unrecorded_by written → is_broken ≡ true
+  finished_count draft pass_new true written finished some = refl
+  finished_count draft pass_new false (Done at number) finished some = absurd (omega (arith, some))
+  finished_count draft pass_new false (Refused at refusal) finished some = absurd finished
+  finished_count draft pass_new false NoMemory finished some = absurd finished

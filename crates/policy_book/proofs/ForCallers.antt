@@ -1,7 +1,6 @@
--- Laws for crates that use a book: verdicts that may be kept, the numbers of a kept one, the entries of a session, and the front of a text.
-use Rattle.std.proofs.Common.{◌≡◌, ◌≤◌, ◌-◌, ℕ, zero, suc, Bool, List, [], ◌∷◌, ◌++◌, filter, length, Option, Some, None, codes, option_map, take, unwrap_or, refl, sym, ap, ◌∙◌, subst, arith, length-append}
+-- Laws for crates that use a book: verdicts that may be kept, the numbers of a kept one, and the front of a text.
+use Rattle.std.proofs.Common.{◌≡◌, ◌≤◌, ◌-◌, ℕ, zero, suc, Bool, List, [], filter, length, Option, Some, None, codes, option_map, take, unwrap_or, refl, sym, ap, ◌∙◌, subst, arith, length-append}
 use Rattle.std.proofs.Math.Seq.{take-append_seam}
-use Rattle.std.proofs.lemmas.List.{append-nil}
 use Rattle.std.proofs.lemmas.Option.{slice_get_within}
 use Rattle.proof_lines.specs.Lines.{LineTree}
 use Rattle.nal_rules.specs.Asking.{case_tree, lines_of}
@@ -14,8 +13,6 @@ use Rattle.nal_rules.specs.declared.verdicts.Cause.TheVariants.{GoalUnset, NoPro
 use Rattle.nal_rules.specs.declared.verdicts.Verdict.{Verdict}
 use Rattle.nal_rules.specs.declared.verdicts.Verdict.TheVariants.{Allowed, Denied}
 use Rattle.proof_store.specs.Cases.{number_of as case_number}
-use Rattle.policy_history.specs.declared.events.Entry.{Entry}
-use Rattle.policy_history.specs.declared.events.Event.{Event}
 use Rattle.policy_history.specs.declared.heads.Head.{Head}
 use Rattle.policy_history.specs.Events.{EntryTree}
 use Rattle.policy_history.specs.Judged.{IsLasting, IsRight, case_at, case_of_row}
@@ -24,17 +21,8 @@ use Rattle.policy_history.specs.PolicyTexts.{ended, front, policy_text}
 use Rattle.policy_history.proofs.ForCallers.{case_there, lasting_alone}
 use Rattle.verdict_words.specs.declared.places.CasePlace.{CasePlace}
 use Rattle.verdict_words.specs.declared.places.Held.{Held}
-use Rattle.verdict_words.specs.Histories.{IsPrefix, own}
-use Rattle.verdict_words.specs.Orders.{publishes}
-use Rattle.verdict_words.specs.declared.views.AtomicStep.{AtomicStep}
-use Rattle.verdict_words.specs.Values.{PassValue, met_seen}
-use Rattle.verdict_words.proofs.ForCallers.{gathers_grow, met_seen_now, own_snoc, prefix_through, prefix_whole}
-use Rattle.policy_book.specs.Books.{AreGatheredIn, BookValue, met_in, session_of}
 use Rattle.policy_book.specs.Matter.{IsHeldRight, IsOfProof, StandsFor}
 use Rattle.policy_book.specs.Snaps.{IsSnapOf}
-use Rattle.policy_book.specs.Writes.{IsAnsweredBy, added_by}
-use Rattle.policy_book.specs.declared.writing.Written.{Written}
-use Rattle.policy_book.specs.declared.writing.Written.TheVariants.{Done, Refused, NoMemory}
 
 module _ (h : Head) (es : List EntryTree) (subject : ℕ) (op object : List ℕ) (at : ℕ) (case : RawCase) (place : CasePlace) (n : ℕ) (snap : IsSnapOf h es subject op object at case (Some place) n) where
   right_of : (o : Option ℕ) → case_number (replay h es).cases subject op n ≡ o → Some place ≡ option_map (λ k. record { case = k; object = n; store = subject }) o
@@ -87,38 +75,6 @@ lasts_where c (Denied (Line k fault)) held stands unasked = tt
 lasts_where c (Denied (LabelMissing k)) held stands unasked = absurd stands
 lasts_where c (Denied (NotBound k)) held stands unasked = absurd stands
 lasts_where c (Denied (AuthorityNo k)) held stands unasked = absurd stands
-
-module _ {K : Type 0} where
-  -- a pass that was just met
-  pub met_now : (book : BookValue K) (known : List AtomicStep) (pass : PassValue Entry Head) → met_seen (met_in book known pass) ≡ book.entries
-  met_now book known pass = met_seen_now (met_in book known pass) pass.trail refl
-
-  -- what a pass knew begins what is known once it was met
-  pub gathered_knows : (book : BookValue K) (pass : PassValue Entry Head) (known : List AtomicStep) → AreGatheredIn book (pass ∷ []) known → IsPrefix pass.known known
-  gathered_knows book pass known gathered = (gathers_grow book.known (pass.known ∷ []) (length book.entries) known gathered.behind).1 0 pass.known (omega arith)
-
-  module _ (sent : K → List ℕ) (faults : K → ℕ) (old new : BookValue K) (pass pass_new : PassValue Entry Head) (principal : ℕ) (event : Event) (line : List ℕ) where
-    -- what a session knows to be its own grows by the entry that it was told of, if any
-    pub own_written : (answer : Written) → IsAnsweredBy sent faults old new pass pass_new principal event line answer
-        → own session_of (met_seen pass_new) pass.session ≡ own session_of (met_seen pass) pass.session ++ added_by answer (record { session = pass.session; principal = principal; event = event })
-    own_written (Done at number) done =
-        let e : Entry = record { session = pass.session; principal = principal; event = event } in
-        let seen : met_seen pass_new ≡ old.entries ++ e ∷ [] = ap met_seen done.pass_is ∙ met_now new new.known (met_in old old.known pass) ∙ ap (λ (b : BookValue K). b.entries) done.book in
-        ap (λ (es : List Entry). own session_of es pass.session) seen ∙ own_snoc session_of old.entries e pass.session refl
-        ∙ ap (λ (es : List Entry). es ++ e ∷ []) done.met.own_met
-    own_written (Refused at refusal) refused =
-        let seen : met_seen pass_new ≡ old.entries = ap met_seen refused.pass_is ∙ met_now old new.known pass in
-        ap (λ (es : List Entry). own session_of es pass.session) seen ∙ refused.met.own_met ∙ sym (append-nil (own session_of (met_seen pass) pass.session))
-    own_written NoMemory unchanged =
-        ap (λ (p : PassValue Entry Head). own session_of (met_seen p) pass.session) unchanged.pass_is ∙ sym (append-nil (own session_of (met_seen pass) pass.session))
-
-    -- what the pass knew begins what it knows then
-    pub written_knows : (answer : Written) → IsAnsweredBy sent faults old new pass pass_new principal event line answer → IsPrefix pass.known pass_new.known
-    written_knows (Done at number) done =
-        subst (IsPrefix pass.known) (sym (ap (λ (p : PassValue Entry Head). p.known) done.pass_is))
-        (prefix_through pass.known done.published.before new.known done.published.behind_pass (publishes (length old.entries) ∷ done.published.after, done.published.is))
-    written_knows (Refused at refusal) refused = subst (IsPrefix pass.known) (sym (ap (λ (p : PassValue Entry Head). p.known) refused.pass_is)) (gathered_knows old pass new.known refused.gathered)
-    written_knows NoMemory unchanged = subst (IsPrefix pass.known) (sym (ap (λ (p : PassValue Entry Head). p.known) unchanged.pass_is)) (prefix_whole pass.known)
 
 -- the text of a policy without its last line
 pub front_of_text : (h : Head) (es : List EntryTree) → take (length (policy_text h es) - 4) (policy_text h es) ≡ front h es

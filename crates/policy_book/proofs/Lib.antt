@@ -1,8 +1,8 @@
 pub mod Sessions
 pub mod Spelled
+pub mod Deciding
 pub mod Texts
 pub mod Snaps
 pub mod Meeting
-pub mod Deciding
 pub mod ForCallers
 pub mod Accessing

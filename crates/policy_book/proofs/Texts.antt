@@ -1,14 +1,21 @@
--- The text that a book has written.
-use Rattle.std.proofs.Common.{◌≡◌, ◌≤◌, ℕ, Bool, true, false, List, [], ◌∷◌, ◌++◌, take, sym, ap, ◌∙◌, subst, append_assoc, arith}
+-- The text that a book has written, with one more line.
+use Rattle.std.proofs.Common.{◌≡◌, ◌≤◌, ℕ, Bool, true, false, List, [], ◌∷◌, ◌++◌, take, refl, sym, ap, ◌∙◌, subst, append_assoc, arith}
 use Rattle.std.specs.List.{flat_map}
 use Rattle.std.proofs.lemmas.Grind.{flat_map-append}
-use Rattle.std.proofs.lemmas.List.{append-nil}
-use Rattle.nx_io.specs.Streams.{SendsPart, one_more}
+use Rattle.std.proofs.lemmas.List.{append-nil, map-append}
+use Rattle.policy_history.specs.declared.events.Entry.{Entry}
 use Rattle.policy_history.specs.declared.heads.Head.{Head}
-use Rattle.policy_history.specs.Events.{EntryTree}
+use Rattle.policy_history.specs.Events.{EntryTree, entry_tree, event_tree}
 use Rattle.policy_history.specs.Machine.{IsAccepted, replay}
 use Rattle.policy_history.specs.PolicyTexts.{front, head_text, line_of}
-use Rattle.policy_book.specs.Books.{BookValue, HasText, IsWritten, head_of, state_of, trees_of}
+use Rattle.policy_history.specs.Values.{entry_trees}
+use Rattle.verdict_words.specs.Values.{Identity}
+use Rattle.policy_book.specs.Books.{HasWritten, SendsFront, entry_of}
+use Rattle.policy_book.specs.Inner.Visits.{IsDraft, IsPut, drafted, entries_after}
+use Rattle.policy_book.specs.Writes.{IsLineFor}
+use Rattle.policy_book.specs.declared.drafts.Draft.{Draft}
+use Rattle.policy_book.proofs.Deciding.{free_where}
+use Rattle.policy_book.proofs.Spelled.{accepted_is_spelled}
 
 -- the front of the text with one more entry
 pub front_more : (h : Head) (es : List EntryTree) (e : EntryTree) → front h (es ++ e ∷ []) ≡ front h es ++ line_of h e
@@ -16,24 +23,48 @@ front_more h es e =
     ap (λ (xs : List ℕ). head_text h ++ xs) (flat_map-append (line_of h) es (e ∷ []) ∙ ap (λ (xs : List ℕ). flat_map (line_of h) es ++ xs) (append-nil (line_of h e)))
     ∙ sym (append_assoc (head_text h) (flat_map (line_of h) es) (line_of h e))
 
--- a part of the line of one more change
-cut_text : (is_open is_broken : Bool) (h : Head) (es : List EntryTree) (e : EntryTree) (start sent sent_new : List ℕ) → is_open ≡ true → is_broken ≡ false → HasText is_open is_broken h es start sent
-    → IsAccepted h (replay h es) e → SendsPart sent sent_new (line_of h e) → HasText is_open true h es start sent_new
-cut_text true false h es e start sent sent_new opened unbroken text accepted (n, short, part) = (e, accepted, (n, short, part ∙ ap (λ (xs : List ℕ). xs ++ take n (line_of h e)) text))
-cut_text false is_broken h es e start sent sent_new opened unbroken text accepted part = absurd (cc opened)
-cut_text true true h es e start sent sent_new opened unbroken text accepted part = absurd (cc unbroken)
+module _ {K : Type 0} (sent : K → List ℕ) (synced faults : K → ℕ) (board : Identity Entry Head) (draft : Draft) (line : List ℕ) (start : List ℕ) (start_faults : ℕ) (sink sink_now : K) where
+  abbrev h : Head
+  h = board.origin.setting
 
-module _ {K : Type 0} (sent : K → List ℕ) (faults : K → ℕ) where
-  -- a book whose next line was cut short
-  pub cut_book : (book : BookValue K) (sink : K) (e : EntryTree) (line : List ℕ) → book.is_open ≡ true → book.is_broken ≡ false → IsWritten sent faults book
-      → IsAccepted (head_of book) (state_of book) e → line ≡ line_of (head_of book) e → SendsPart (sent book.sink) (sent sink) line → faults book.sink ≤ faults sink → faults sink ≡ one_more (faults book.sink)
-      → IsWritten sent faults (record book { sink = sink; is_broken = true })
-  cut_book book sink e line opened unbroken written accepted line_is part later count =
-      let before = written.later in
+  abbrev before : List EntryTree
+  before = entry_trees draft.pass.seen
+
+  abbrev e : EntryTree
+  e = entry_of draft.pass.session draft.principal draft.event
+
+  more : front h (entry_trees (draft.pass.seen ++ drafted draft ∷ [])) ≡ front h before ++ line_of h e
+  more = ap (front h) (map-append entry_tree draft.pass.seen (drafted draft ∷ [])) ∙ front_more h before e
+
+  put_line : (is_broken : Bool) → HasWritten sent synced faults true false board draft.pass.seen start start_faults sink → IsAccepted h (replay h before) e → line ≡ line_of h e
+      → IsPut is_broken (sent sink) (sent sink_now) (synced sink_now) (faults sink) (faults sink_now) line → faults sink ≤ faults sink_now
+      → HasWritten sent synced faults true is_broken board (entries_after is_broken draft) start start_faults sink_now
+  put_line false written accepted line_is (sends, lasts, same) later =
+      let less = written.later in
       record {
-        text = cut_text book.is_open book.is_broken (head_of book) (trees_of book) e book.start (sent book.sink) (sent sink) opened unbroken written.text accepted (subst (λ (xs : List ℕ). SendsPart (sent book.sink) (sent sink) xs) line_is part);
-        unopened = written.unopened;
-        failed = λ _. omega (arith, before, later, count);
-        unbroken = λ broken. absurd (cc broken);
-        later = omega (arith, before, later, count);
+        text = sends ∙ ap (λ (xs : List ℕ). xs ++ line) written.text ∙ append_assoc start (front h before) line ∙ ap (λ (xs : List ℕ). start ++ xs) (ap (λ (xs : List ℕ). front h before ++ xs) line_is ∙ sym more);
+        unopened = λ closed. absurd (cc closed);
+        lasts = λ _ _. lasts;
+        failed = λ broken. absurd (cc broken);
+        unbroken = λ _. same ∙ written.unbroken refl;
+        later = omega (arith, less, later);
       }
+  put_line true written accepted line_is ((n, within, part), count) later =
+      let less = written.later in
+      let same = written.unbroken refl in
+      record {
+        text = (e, accepted, subst (λ (xs : List ℕ). SendsFront (start ++ front h before) (sent sink_now) xs) line_is (n, within, part ∙ ap (λ (xs : List ℕ). xs ++ take n line) written.text));
+        unopened = λ closed. absurd (cc closed);
+        lasts = λ unbroken. absurd (cc unbroken);
+        failed = λ _. omega (arith, same, count);
+        unbroken = λ unbroken. absurd (cc unbroken);
+        later = omega (arith, less, later);
+      }
+
+  -- the line of a draft was sent and synced, or one of both failed
+  pub draft_put : (is_broken : Bool) → IsDraft board draft → IsLineFor h e line → HasWritten sent synced faults true false board draft.pass.seen start start_faults sink
+      → IsPut is_broken (sent sink) (sent sink_now) (synced sink_now) (faults sink) (faults sink_now) line → faults sink ≤ faults sink_now
+      → HasWritten sent synced faults true is_broken board (entries_after is_broken draft) start start_faults sink_now
+  draft_put is_broken is line_for written put later =
+      let free = free_where h (replay h before) draft.pass.session draft.principal (event_tree draft.event) _ is.accepted in
+      put_line is_broken written (is.principal, free) (line_for.0 (accepted_is_spelled h (replay h before) draft.pass.session draft.principal (event_tree draft.event) free)) put later

@@ -22,8 +22,15 @@ module _ (board : Identity Entry Head) where
     pub pass_is : pass_new ≡ met_at board entries pass_new.known pass
     pub knows : IsPrefix pass.known pass_new.known
 
+  -- the pass was met twice at the end of the journal, which had these entries then and had not grown between
+  pub record HasMetTwice (entries : List Entry) (pass pass_new : PassValue Entry Head) : Type 0 where
+    pub next : ℕ
+    pub met : IsMetAt board next entries pass
+    pub pass_is : pass_new ≡ met_at board entries pass_new.known (met_at board entries pass_new.known pass)
+    pub knows : IsPrefix pass.known pass_new.known
+
   module _ (pass pass_new : PassValue Entry Head) (principal : ℕ) (event : Event) where
-    -- the change was accepted at the end of the journal, and is its next entry
+    -- the change was accepted at the end of the journal, which stayed as it was while its line was written, and it is the next entry
     pub record HasAdded (at number : ℕ) : Type 0 where
       pub entries : List Entry
       pub next : ℕ
@@ -31,15 +38,15 @@ module _ (board : Identity Entry Head) where
       pub accepted : decided_at board entries pass.session principal event ≡ Ok (record { number = number; bytes = bytes })
       pub at_is : at ≡ length entries + 1
       pub met : IsMetAt board next entries pass
-      pub pass_is : pass_new ≡ met_at board (entries ++ (record { session = pass.session; principal = principal; event = event }) ∷ []) pass_new.known (met_at board entries pass_new.known pass)
+      pub pass_is : pass_new ≡ met_at board (entries ++ (record { session = pass.session; principal = principal; event = event }) ∷ []) pass_new.known (met_at board entries pass_new.known (met_at board entries pass_new.known pass))
       pub knows : IsPrefix pass.known pass_new.known
 
-    -- the change was refused at the end of the journal: by the first refusal that applies there, or it was accepted and could not be recorded
+    -- the change was refused at the end of the journal: by the first refusal that applies there, or it was accepted and could not be recorded, in which case its line may have been tried meanwhile
     pub record HasRefused (at : ℕ) (refusal : Refusal) : Type 0 where
       pub entries : List Entry
       pub why : (decided_at board entries pass.session principal event ≡ Err refusal) ⊎ ((refusal ≡ NotRecorded) × IsOk (decided_at board entries pass.session principal event))
       pub at_is : at ≡ length entries
-      pub met : HasMet entries pass pass_new
+      pub met : HasMet entries pass pass_new ⊎ ((refusal ≡ NotRecorded) × HasMetTwice entries pass pass_new)
 
     -- what a session learns of a change by its answer; at want of memory nothing was done
     abbrev pub IsAnswered : Written → Type 0

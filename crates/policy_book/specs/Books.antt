@@ -1,5 +1,5 @@
 -- What contracts see of a book, what its sink was sent, and what it learns of a pass that it meets.
-use Rattle.std.specs.Prelude.{◌≡◌, ℕ, ◌<◌, ◌≤◌, Bool, true, false, List, [], ◌∷◌, ◌++◌, length, Option, Some, Result}
+use Rattle.std.specs.Prelude.{◌≡◌, ℕ, ◌<◌, ◌≤◌, Bool, true, false, List, [], ◌∷◌, ◌++◌, length, take, Option, Some, Result}
 use Rattle.nx_io.specs.Streams.{Rose, Sends, SendsPart}
 use Rattle.nx_io.specs.declared.streams.Reach.{Reach}
 use Rattle.nx_io.specs.declared.streams.Reach.TheVariants.{Ready, Failed}
@@ -21,7 +21,7 @@ use Rattle.verdict_words.specs.declared.views.AtomicStep.{AtomicStep}
 use Rattle.verdict_words.specs.declared.views.Item.TheVariants.{Met}
 
 -- A book: its board, the accepted changes, the number of the next session, what its sink had sent and how often it had failed
--- when the book was made, the sink, whether the front of the text was written, whether a write of it has failed, and a beginning
+-- when the book was made, the sink, whether the front of the text was written, whether a write or a sync of it has failed, and a beginning
 -- of the order of all atomic steps on the board
 pub record BookValue (K : Type 0) : Type 0 where
   pub board : Identity Entry Head
@@ -42,14 +42,18 @@ session_of e = e.session
 abbrev pub entry_of : ℕ → ℕ → Event → EntryTree
 entry_of session principal event = record { session = session; principal = principal; event = event_tree event }
 
+-- a front of the piece is appended, maybe all of it
+abbrev pub SendsFront : List ℕ → List ℕ → List ℕ → Type 0
+SendsFront old new piece = (n : ℕ) × (n ≤ length piece) × Sends old new (take n piece)
+
 -- What a sink was sent since it had sent `start`, the book being open or not, and broken or not. The policy text of the
 -- journal without its last line goes out whole before the book is open, and the line of each change before it is made; so a
--- part of it, or of the line of one more change, may stand there where a write failed, and nothing goes out after that
+-- part of it, or the line of one more change or a part of that, may stand there where a write or a sync failed, and nothing goes out after that
 abbrev pub HasText : Bool → Bool → Head → List EntryTree → List ℕ → List ℕ → Type 0
 HasText false false h es start sent = sent ≡ start
 HasText false true h es start sent = SendsPart start sent (front h es)
 HasText true false h es start sent = Sends start sent (front h es)
-HasText true true h es start sent = (e : EntryTree) × IsAccepted h (replay h es) e × SendsPart (start ++ front h es) sent (line_of h e)
+HasText true true h es start sent = (e : EntryTree) × IsAccepted h (replay h es) e × SendsFront (start ++ front h es) sent (line_of h e)
 
 -- what a call did that is done as a whole or fails
 abbrev pub is_ready : Reach → Bool
@@ -64,7 +68,7 @@ is_failed Failed = true
 abbrev pub met_at : Identity Entry Head → List Entry → List AtomicStep → PassValue Entry Head → PassValue Entry Head
 met_at board entries known pass = record pass { board = board; seen = entries; trail = pass.trail ++ Met (length entries) ∷ []; known = known }
 
--- What is learnt of a pass that is met at the end of a journal. What it had seen begins the journal, its session is one of the board's, and the journal has no entry of it beside those that it had seen, and those that it had seen when it was last met
+-- What is learnt of a pass that is met at the end of a journal. What it had seen begins the journal, its session is numbered as those of the board are, from its first number on and below some next one, and the journal has no entry of it beside those that it had seen, and those that it had seen when it was last met. Of `next` it is said by a book alone that it is the number of the next session; elsewhere there only is such a number
 pub record IsMetAt (board : Identity Entry Head) (next : ℕ) (entries : List Entry) (pass : PassValue Entry Head) : Type 0 where
   pub seen : IsPrefix pass.seen entries
   pub above : board.origin.first ≤ pass.session
@@ -75,6 +79,15 @@ pub record IsMetAt (board : Identity Entry Head) (next : ℕ) (entries : List En
 -- what a change of a principal comes to at the end of a journal: its first refusal, or its reply number and the length of its line
 abbrev pub decided_at : Identity Entry Head → List Entry → ℕ → ℕ → Event → Result Due Refusal
 decided_at board entries session principal event = decision board.origin.setting (replay board.origin.setting (entry_trees entries)) session principal (event_tree event)
+
+-- The text that was written of a journal to a sink, by what the sink has sent and synced and how often it has failed. Where none has failed, each change that was made is synced. A write or a sync has failed exactly where the count has risen
+pub record HasWritten {K : Type 0} (sent : K → List ℕ) (synced faults : K → ℕ) (is_open is_broken : Bool) (board : Identity Entry Head) (entries : List Entry) (start : List ℕ) (start_faults : ℕ) (sink : K) : Type 0 where
+  pub text : HasText is_open is_broken board.origin.setting (entry_trees entries) start (sent sink)
+  pub unopened : is_open ≡ false → entries ≡ board.origin.opening
+  pub lasts : is_broken ≡ false → length board.origin.opening < length entries → synced sink ≡ length (sent sink)
+  pub failed : is_broken ≡ true → Rose start_faults (faults sink)
+  pub unbroken : is_broken ≡ false → faults sink ≡ start_faults
+  pub later : start_faults ≤ faults sink
 
 module _ {K : Type 0} where
   -- a book as it was made, over this board and with this sink
@@ -114,13 +127,9 @@ module _ {K : Type 0} where
   abbrev pub IsNumbered : BookValue K → Type 0
   IsNumbered book = IsSeated session_of book.board.origin book.entries book.next 0
 
-  -- the text that was written, by what the sink has sent and how often it has failed
-  pub record IsWritten (sent : K → List ℕ) (faults : K → ℕ) (book : BookValue K) : Type 0 where
-    pub text : HasText book.is_open book.is_broken (head_of book) (trees_of book) book.start (sent book.sink)
-    pub unopened : book.is_open ≡ false → book.entries ≡ book.board.origin.opening
-    pub failed : book.is_broken ≡ true → Rose book.start_faults (faults book.sink)
-    pub unbroken : book.is_broken ≡ false → faults book.sink ≡ book.start_faults
-    pub later : book.start_faults ≤ faults book.sink
+  -- the text that was written, by what the sink has sent and synced and how often it has failed
+  abbrev pub IsWritten : (sent : K → List ℕ) (synced faults : K → ℕ) → BookValue K → Type 0
+  IsWritten sent synced faults book = HasWritten sent synced faults book.is_open book.is_broken book.board book.entries book.start book.start_faults book.sink
 
   -- the pass once the book met it
   abbrev pub met_in : BookValue K → List AtomicStep → PassValue Entry Head → PassValue Entry Head

@@ -2,3 +2,4 @@
 pub mod Staying
 pub mod Kept
 pub mod Adding
+pub mod Visits

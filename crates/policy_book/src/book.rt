@@ -1,31 +1,28 @@
 //! The book: how it is made, opened and given up, and how sessions get their passes.
-ghost use Rattle.std.specs.Prelude.{◌≡◌, ◌≢◌, ℕ, ◌+◌, ◌-◌, ◌^◌, ◌<◌, ◌≤◌, List, [], ◌∷◌, false, true, length, All, IfErr, IfOk, IfSome, MatchResult};
+ghost use Rattle.std.specs.Prelude.{◌≡◌, ◌≢◌, ℕ, ◌+◌, ◌-◌, ◌^◌, ◌<◌, List, [], false, true, All, IfErr, IfOk};
 ghost use Rattle.nx_io.specs.Streams.{SendsAll, faults_after_reach};
-ghost use Rattle.policy_history.specs.Events.{admitted};
 ghost use Rattle.policy_history.specs.PolicyTexts.{front};
 ghost use Rattle.policy_history.specs.Values.{entry_trees, greatest_of};
 ghost use Rattle.verdict_words.specs.Settling.{all_met};
-ghost use Rattle.policy_book.specs.Books.{AreGatheredIn, IsLegalBook, IsMetIn, IsNumbered, IsWritten, head_of, is_failed, is_ready, met_in, new_book, trees_of};
+ghost use Rattle.policy_book.specs.Books.{AreGatheredIn, IsLegalBook, IsMetIn, IsNumbered, IsWritten, head_of, is_failed, is_ready, new_book, trees_of};
 
 use crate::matter::NalMatter;
-use nal_term::{Name, Secret};
+use crate::pens::Pen;
+use crate::seated::SeatedJournal;
 use nx_io::{Reach, Sink, send_all};
 use policy_history::Journal;
 use std::alloc::{AllocError, Global};
 use std::marker::Model;
-use verdict_words::{Board, BookSeat, Mark, Pass};
+use verdict_words::{Board, Mark, Pass};
 
 /// The journal of a policy, the seat of its board, and the sink of its text. Contracts see the board, the entries, the
 /// number of the next session, the sink with what it had sent when the book was made, whether the book is open, and whether a
-/// write of the text has failed. `docs/ARCHITECTURE.md`, "The book", says how it is used.
+/// write or a sync of the text has failed. `docs/ARCHITECTURE.md`, "The book", says how it is used.
 #[derive(Drop)]
 pub struct Book<K: Sink> {
-    pub(crate) journal: Journal,
-    pub(crate) seat: BookSeat<NalMatter>,
-    pub(crate) sink: K,
-    pub(crate) start: Mark<K>,
+    pub(crate) seated: SeatedJournal,
+    pub(crate) pen: Pen<K>,
     pub(crate) is_open: bool,
-    pub(crate) is_broken: bool,
 }
 
 impl<K: Sink> Model for Book<K> {
@@ -38,11 +35,12 @@ impl<K: Sink> Model for Book<K> {
 
     ghost coded = { Prim.hlevel (codes, t.the_row.coded, f.the_row.coded) };
 
-    ghost use Rattle.policy_book.specs.Inner.Kept.{IsKept, value_of};
+    ghost use Rattle.policy_book.specs.Books.{HasWritten};
+    ghost use Rattle.policy_book.specs.Inner.Kept.{value_of};
 
-    ghost view = { λ b. value_of K.sent K.faults b.seat b.sink b.start.value b.is_open b.is_broken };
+    ghost view = { λ b. value_of K.sent K.faults b.seated b.pen.sink b.pen.start.value b.is_open b.pen.is_broken };
 
-    ghost invariant = { λ b. IsKept K.sent K.faults b.journal b.seat (value_of K.sent K.faults b.seat b.sink b.start.value b.is_open b.is_broken) };
+    ghost invariant = { λ b. HasWritten K.sent K.synced K.faults b.is_open b.pen.is_broken b.seated.board b.seated.entries (K.sent b.pen.start.value) (K.faults b.pen.start.value) b.pen.sink };
 }
 
 impl<K: Sink> Book<K> {
@@ -64,12 +62,13 @@ impl<K: Sink> Book<K> {
             Ok((board, seat)) => {
                 let start = Mark::of(&sink);
                 let book = Book {
-                    journal,
-                    seat,
-                    sink,
-                    start,
+                    seated: SeatedJournal { journal, seat },
+                    pen: Pen {
+                        sink,
+                        start,
+                        is_broken: false,
+                    },
                     is_open: false,
-                    is_broken: false,
                 };
                 Ok((board, book))
             }
@@ -88,28 +87,27 @@ impl<K: Sink> Book<K> {
         ensures bytes { SendsAll result (K.sent self.old.sink) (K.sent self.new.sink) text.now }
         ensures count { K.faults self.new.sink ≡ faults_after_reach result (K.faults self.old.sink) }
     {
-        match send_all(&mut self.sink, text) {
+        match send_all(&mut self.pen.sink, text) {
             Reach::Ready => {
                 self.is_open = true;
                 Reach::Ready
             }
             Reach::Failed => {
-                self.is_broken = true;
+                self.pen.is_broken = true;
                 Reach::Failed
             }
         }
     }
 
-    /// Whether a write of the policy text has failed. The other clauses say what always holds of a book.
+    /// Whether a write or a sync of the policy text has failed. The other clauses say what always holds of a book.
     pub fn broken(&self) -> bool
         ensures value { result ≡ self.now.is_broken }
         ensures legal { IsLegalBook self.now }
         ensures numbered { IsNumbered self.now }
-        ensures written { IsWritten K.sent K.faults self.now }
+        ensures written { IsWritten K.sent K.synced K.faults self.now }
     {
-        let _count = self.journal.count();
-        let _next = self.seat.next_session();
-        self.is_broken
+        let _count = self.seated.count();
+        self.pen.is_broken
     }
 
     /// A pass for a new session, which has seen the whole journal. It takes no memory.
@@ -120,28 +118,7 @@ impl<K: Sink> Book<K> {
         ensures unused { All (λ entry. entry.session ≢ self.old.next) self.old.entries }
         ensures book { self.new ≡ record self.old { next = self.old.next + 1 } }
     {
-        board.enter(&mut self.seat)
-    }
-
-    /// The number of the principal with this name and this secret. None exactly where nobody has both.
-    pub fn admit(&self, name: &Name, secret: &Secret) -> Option<u32>
-        ensures number { result ≡ admitted (head_of self.now).principals name.now secret.now }
-        ensures within { IfSome result (λ p. p < length (head_of self.now).principals) }
-    {
-        self.journal.principal_of(name, secret)
-    }
-
-    /// Lets a pass see the whole journal. It takes no memory.
-    pub fn meet(&mut self, board: &Board<NalMatter>, pass: Pass<NalMatter>) -> Pass<NalMatter>
-        requires opened { self.old.is_open ≡ true }
-        requires board { self.old.board ≡ board.now }
-        requires pass { pass.board ≡ board.now }
-        ensures pass { result ≡ met_in self.old self.new.known pass }
-        ensures met { IsMetIn self.old pass }
-        ensures known { AreGatheredIn self.old (pass ∷ []) self.new.known }
-        ensures book { self.new ≡ record self.old { known = self.new.known } }
-    {
-        board.meet(&mut self.seat, pass)
+        self.seated.enter(board)
     }
 
     /// Meets each of the passes, in order; but all are held before the first is given back. So there is one order of all
@@ -160,7 +137,7 @@ impl<K: Sink> Book<K> {
         ensures known { AreGatheredIn self.old passes.items self.new.known }
         ensures book { self.new ≡ record self.old { known = self.new.known } }
     {
-        board.settle(&mut self.seat, passes)
+        self.seated.settle(board, passes)
     }
 
     /// The journal and the sink, once the book is done with.
@@ -170,10 +147,12 @@ impl<K: Sink> Book<K> {
         ensures sink { result.1 ≡ self.sink }
         ensures legal { IsLegalBook self }
         ensures numbered { IsNumbered self }
-        ensures written { IsWritten K.sent K.faults self }
+        ensures written { IsWritten K.sent K.synced K.faults self }
     {
         let _broken = self.broken();
-        let Book { journal, sink, .. } = self;
+        let Book { seated, pen, .. } = self;
+        let SeatedJournal { journal, .. } = seated;
+        let Pen { sink, .. } = pen;
         (journal, sink)
     }
 }

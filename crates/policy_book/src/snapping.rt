@@ -1,13 +1,14 @@
-//! How a case is copied from the book.
-ghost use Rattle.std.specs.Prelude.{◌≡◌, ◌<◌, [], ◌∷◌, length, true, option_map};
-ghost use Rattle.policy_book.specs.Books.{AreGatheredIn, IsMetIn, head_of, met_in, trees_of};
+//! How a case is copied from the journal.
+ghost use Rattle.std.specs.Prelude.{◌≡◌, ◌<◌, [], ◌∷◌, length, option_map};
+ghost use Rattle.policy_history.specs.Values.{entry_trees};
+ghost use Rattle.verdict_words.specs.Settling.{AreGathered};
+ghost use Rattle.policy_book.specs.Books.{IsMetAt, met_at};
 ghost use Rattle.policy_book.specs.Snaps.{IsSnap};
 
-use crate::book::Book;
 use crate::matter::NalMatter;
+use crate::seated::SeatedJournal;
 use nal_rules::Case;
 use nal_term::Name;
-use nx_io::Sink;
 use policy_history::Found;
 use std::alloc::{AllocError, Global};
 use verdict_words::{Board, CasePlace, Pass};
@@ -30,10 +31,10 @@ pub enum Snapped {
     NoMemory,
 }
 
-impl<K: Sink> Book<K> {
+impl SeatedJournal {
     /// Meets the pass, and copies the case of this principal and an operation on the object with this name, as it is at the
     /// end of the journal. `NoObject` exactly where no object has the name, which takes no memory.
-    pub fn snap(
+    pub(crate) fn snap(
         &mut self,
         alloc: Global,
         board: &Board<NalMatter>,
@@ -42,15 +43,16 @@ impl<K: Sink> Book<K> {
         op: &Name,
         object: &Name,
     ) -> (Pass<NalMatter>, Snapped)
-        requires opened { self.old.is_open ≡ true }
         requires board { self.old.board ≡ board.now }
         requires pass { pass.board ≡ board.now }
-        requires principal { principal < length (head_of self.old).principals }
-        ensures snapped { IsSnap (head_of self.old) (trees_of self.old) principal op.now object.now result.1 }
-        ensures pass { result.0 ≡ met_in self.old self.new.known pass }
-        ensures met { IsMetIn self.old pass }
-        ensures known { AreGatheredIn self.old (pass ∷ []) self.new.known }
-        ensures book { self.new ≡ record self.old { known = self.new.known } }
+        requires principal { principal < length self.old.board.origin.setting.principals }
+        ensures snapped { IsSnap self.old.board.origin.setting (entry_trees self.old.entries) principal op.now
+            object.now result.1 }
+        ensures pass { result.0 ≡ met_at self.old.board self.old.entries self.new.known pass }
+        ensures met { IsMetAt self.old.board self.old.next self.old.entries pass }
+        ensures known { AreGathered self.old.board self.old.next self.old.entries self.old.known (pass ∷ [])
+            self.new.known }
+        ensures seated { self.new ≡ record self.old { known = self.new.known } }
     {
         let pass = self.meet(board, pass);
         (pass, self.case_of(alloc, principal, op, object))
@@ -58,8 +60,9 @@ impl<K: Sink> Book<K> {
 
     // The case at the end of the journal.
     fn case_of(&self, alloc: Global, principal: u32, op: &Name, object: &Name) -> Snapped
-        requires { principal < length (head_of self.now).principals }
-        ensures { IsSnap (head_of self.now) (trees_of self.now) principal op.now object.now result }
+        requires { principal < length self.now.board.origin.setting.principals }
+        ensures { IsSnap self.now.board.origin.setting (entry_trees self.now.entries) principal op.now object.now
+            result }
     {
         let at = self.journal.count();
         let _principals = self.journal.head().principals.count();

@@ -172,6 +172,36 @@ fn policies_are_compacted(rt: HostRuntime) -> Result<(), AllocError> {
     Ok(())
 }
 
+// What commands come to whose text could not be synced, and one that syncs nothing.
+const UNSYNCED: [(&str, &str); 4] = [
+    (
+        "compact",
+        "5 none:nexus 2|principal fs pf|1 fs say fs : a|end|+1 1|",
+    ),
+    (
+        "recover",
+        "5 none:nexus 2|principal fs pf|1 fs say fs : a|end|",
+    ),
+    (
+        "script",
+        "5 none:nexus 2|principal fs pf|1 fs say fs : a|end|",
+    ),
+    ("audit", "3 none:refused line 1|"),
+];
+
+#[test]
+fn policies_that_were_written_are_synced(rt: HostRuntime) -> Result<(), AllocError> {
+    let alloc = rt.alloc();
+    for (command, due) in UNSYNCED {
+        let streams = Streams {
+            sync_fails: 1,
+            ..pieces(7, 3)
+        };
+        comes_to(&rt, alloc, &[command], "", LABELLED, streams, due)?;
+    }
+    Ok(())
+}
+
 // Each row is words, ` -> ` and what comes of a run with them.
 fn play_words<R>(rt: &R, alloc: Global, rows: &str) -> Result<(), AllocError>
 where

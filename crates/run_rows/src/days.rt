@@ -13,6 +13,7 @@ use nx_io::{Bytes, Discard, DoorPlan, Gate, MemDoor, MemLink, MemSink, MemSource
 use session_core::{Report, SessionEnd};
 use session_wire::{ReplyRead, read_reply};
 use std::alloc::{AllocError, AllocGlobal, Global};
+use std::fs::Files;
 use std::mem;
 use std::net::{Net, TcpListener, TcpStream};
 use std::process::Abort;
@@ -22,7 +23,7 @@ use std::thread::Threads;
 
 // A service and what comes of it, as lines `name=value`, in which `|` stands for a line feed; what its own lines do not say is said by another text.
 //
-// `words`, and the input, `policy`; `answers` of authorities; `room` and `piece` of the streams; `write`, `reach`, `share`, `listen`, `next` and `send`,
+// `words`, and the input, `policy`; `answers` of authorities; `room` and `piece` of the streams; `write`, `sync`, `reach`, `share`, `listen`, `next` and `send`,
 // the number of the call that fails, 0 or nothing where none does. `talks`, the sessions of the first worker, and `others`, those of the second: `&`
 // stands between sessions, and `|` between the lines of one, which are request lines, `objects N`, which asks for so many objects, and `raw` with bytes.
 //
@@ -265,6 +266,7 @@ fn ended<R, G: Gate + Sync>(
 ) -> Result<Ended<MemDoor, MemPanel, MemSink>, AllocError>
 where
     R: Net<Listener = TcpListener, Stream = TcpStream>
+        + Files
         + AllocGlobal
         + Clock
         + Wait
@@ -288,6 +290,7 @@ fn ended_over<R, G: Gate + Sync>(
 ) -> Result<Ended<MemDoor, MemPanel, MemSink>, AllocError>
 where
     R: Net<Listener = TcpListener, Stream = TcpStream>
+        + Files
         + AllocGlobal
         + Clock
         + Wait
@@ -315,6 +318,7 @@ fn ended_by<R, G: Gate + Sync>(
 ) -> Result<Ended<MemDoor, MemPanel, MemSink>, AllocError>
 where
     R: Net<Listener = TcpListener, Stream = TcpStream>
+        + Files
         + AllocGlobal
         + Clock
         + Wait
@@ -343,13 +347,20 @@ fn ended_with<R, G: Gate + Sync>(
 ) -> Result<Ended<MemDoor, MemPanel, MemSink>, AllocError>
 where
     R: Net<Listener = TcpListener, Stream = TcpStream>
+        + Files
         + AllocGlobal
         + Clock
         + Wait
         + Threads
         + Sync,
 {
-    match MemSink::new(alloc, day.size("room"), 11, &[day.number("write")]) {
+    match MemSink::new(
+        alloc,
+        day.size("room"),
+        11,
+        &[day.number("write")],
+        &[day.number("sync")],
+    ) {
         Ok(sink) => Ok(run(
             rt,
             words,
@@ -403,6 +414,7 @@ pub fn try_day<R, G: Gate + Sync>(
 ) -> Result<(), AllocError>
 where
     R: Net<Listener = TcpListener, Stream = TcpStream>
+        + Files
         + AllocGlobal
         + Clock
         + Wait
@@ -420,6 +432,7 @@ where
 pub fn try_days<R>(rt: &R, alloc: Global, days: &str, other: &str) -> Result<(), AllocError>
 where
     R: Net<Listener = TcpListener, Stream = TcpStream>
+        + Files
         + AllocGlobal
         + Clock
         + Wait

@@ -10,14 +10,15 @@ use std::rt::Clock;
 use std::sync::Wait;
 use std::thread::Threads;
 
-// The pieces in which bytes are read and written, and the numbers of the read, the write, the write of a record and the reach that fail, 0
-// where none does.
+// The pieces in which bytes are read and written, and the numbers of the read, the write, the sync, the write of a record and the reach that
+// fail, 0 where none does.
 #[derive(Clone, Copy)]
 pub struct Streams {
     pub read: usize,
     pub write: usize,
     pub read_fails: u64,
     pub write_fails: u64,
+    pub sync_fails: u64,
     pub record_fails: u64,
     pub reach_fails: u64,
 }
@@ -29,6 +30,7 @@ pub const fn pieces(read: usize, write: usize) -> Streams {
         write,
         read_fails: 0,
         write_fails: 0,
+        sync_fails: 0,
         record_fails: 0,
         reach_fails: 0,
     }
@@ -158,7 +160,13 @@ fn told_from<R>(
 where
     R: Net<Listener = TcpListener, Stream = TcpStream> + Clock + Wait + Threads + Sync,
 {
-    let mut records = MemSink::new(alloc, 4096, streams.write.max(1), &[streams.record_fails])?;
+    let mut records = MemSink::new(
+        alloc,
+        4096,
+        streams.write.max(1),
+        &[streams.record_fails],
+        &[],
+    )?;
     let told = told_with(rt, alloc, words, answers, source, streams, &mut records);
     drop(records);
     told
@@ -178,7 +186,13 @@ where
     R: Net<Listener = TcpListener, Stream = TcpStream> + Clock + Wait + Threads + Sync,
 {
     let whole = source.left().len();
-    let mut sink = MemSink::new(alloc, 4096, streams.write.max(1), &[streams.write_fails])?;
+    let mut sink = MemSink::new(
+        alloc,
+        4096,
+        streams.write.max(1),
+        &[streams.write_fails],
+        &[streams.sync_fails],
+    )?;
     let status = status_of(
         rt,
         alloc,

@@ -33,7 +33,23 @@ words=serve 127.0.0.1:1 0 3
 status=2
 written=
 
-words=serve 127.0.0.1:1 65 3
+words=serve 127.0.0.1:1 1025 3
+status=2
+written=
+
+words=serve 127.0.0.1:1 2 3 0
+status=2
+written=
+
+words=serve 127.0.0.1:1 2 3 86401
+status=2
+written=
+
+words=serve 127.0.0.1:1 2 3 300 1
+status=2
+written=
+
+words=serve 127.0.0.1:1 2 3 x
 status=2
 written=
 
@@ -54,7 +70,7 @@ fn inputs_and_words_are_refused(rt: HostRuntime) -> Result<(), AllocError> {
     try_days(&rt, rt.alloc(), REFUSED, POLICY)
 }
 
-// At the last a piece of 11 bytes was taken.
+// At the third a piece of 11 bytes was taken; at the last all was written, and the sync behind it failed.
 const FAULTS: &str = "reach=1
 status=8
 written=
@@ -65,11 +81,47 @@ written=
 
 write=2
 status=5
-written=nexus 2|pri";
+written=nexus 2|pri
+
+sync=1
+status=5
+written=nexus 2|principal alice pa|authority 1 mem|7 alice object f|end|";
 
 #[test]
 fn faults_end_a_service(rt: HostRuntime) -> Result<(), AllocError> {
     try_days(&rt, rt.alloc(), FAULTS, POLICY)
+}
+
+// The most workers, and each bound of the patience.
+const PATIENT: &str = "words=serve 127.0.0.1:1 1024 1
+status=0
+written=nexus 2|principal alice pa|authority 1 mem|7 alice object f|end|
+
+words=serve 127.0.0.1:1 2 3 1
+status=0
+written=nexus 2|principal alice pa|authority 1 mem|7 alice object f|end|
+
+words=serve 127.0.0.1:1 2 3 86400
+status=0
+written=nexus 2|principal alice pa|authority 1 mem|7 alice object f|end|";
+
+#[test]
+fn words_of_a_service_may_say_its_patience(rt: HostRuntime) -> Result<(), AllocError> {
+    try_days(&rt, rt.alloc(), PATIENT, POLICY)
+}
+
+// A change whose line was written and could not be synced, and another behind it.
+const UNSYNCED: &str = "talks=raw 0000000c010005616c69636500027061\
+    0000000405000167\
+    0000000405000168
+sync=1
+status=5
+told=welcome 8 1|refused 1 NotRecorded|refused 1 NotRecorded|closed|
+written=nexus 2|principal alice pa|authority 1 mem|7 alice object f|8 alice object g|";
+
+#[test]
+fn a_change_that_is_not_synced_is_not_recorded(rt: HostRuntime) -> Result<(), AllocError> {
+    try_days(&rt, rt.alloc(), UNSYNCED, POLICY)
 }
 
 const GROWN: &str = "talks=raw 0000000c010005616c69636500027061\

@@ -5,7 +5,7 @@ use Rattle.std.proofs.lemmas.Bool.Decides.{Decides-eqb}
 use Rattle.std.proofs.lemmas.List.Sums.{sum_by-append, sum_by-cons}
 use Rattle.std.specs.Io.KnownBytes.{IsAtEnd}
 use Rattle.std.specs.List.{count_by}
-use Rattle.nx_io.specs.DoorCalls.{faults_in, is_fault, not_listened, not_shared}
+use Rattle.nx_io.specs.DoorCalls.{Listening, faults_in, is_fault, not_listened, not_shared}
 use Rattle.nx_io.specs.Streams.{Rose, prepended}
 use Rattle.policy_history.specs.declared.events.Entry.{Entry}
 use Rattle.policy_history.specs.declared.heads.Head.{Head}
@@ -43,11 +43,11 @@ more_faults fails calls more last is =
     omega (arith, all, rest, one)
 
 -- a door that could not be made ready has failed
-door_rose : {address : List ℕ} {workers shares : ℕ} {door door_now : DoorView} → HasFailed address workers shares door door_now → Rose (faults_in door.calls) (faults_in door_now.calls)
-door_rose {address = address} {door = door} (not_heard none called) =
-    subst (λ (d : DoorView). Rose (faults_in door.calls) (faults_in d.calls)) (sym called) (more_faults is_fault door.calls [] (not_listened address) refl)
-door_rose {address = address} {shares = shares} {door = door} (not_made few called) =
-    subst (λ (d : DoorView). Rose (faults_in door.calls) (faults_in d.calls)) (sym called) (more_faults is_fault door.calls (ready_calls address shares) not_shared refl)
+door_rose : {listening : Listening} {workers shares : ℕ} {door door_now : DoorView} → HasFailed listening workers shares door door_now → Rose (faults_in door.calls) (faults_in door_now.calls)
+door_rose {listening = listening} {door = door} (not_heard none called) =
+    subst (λ (d : DoorView). Rose (faults_in door.calls) (faults_in d.calls)) (sym called) (more_faults is_fault door.calls [] (not_listened listening) refl)
+door_rose {listening = listening} {shares = shares} {door = door} (not_made few called) =
+    subst (λ (d : DoorView). Rose (faults_in door.calls) (faults_in d.calls)) (sym called) (more_faults is_fault door.calls (ready_calls listening shares) not_shared refl)
 
 -- and so has a panel
 panel_rose : {head : Head} {workers shares : ℕ} {asked asked_now : PanelHistory} → HasFailedPanel head workers shares asked asked_now
@@ -109,13 +109,11 @@ never_three false Memory e = apart (status_of false Memory) 6 3 refl e refl
 module _ {P : Type 0} (panel : P → PanelHistory) (plan : Plan) (source : SourceRun) (sink : SinkView) (door : DoorView) (asked : P) (ended : EndedView P) where
   -- a refusal that was told
   pub policy_refusal_ends : (outcome : Outcome) (sink_now : SinkView) → IsRefusalOf (policy_form (most_session plan)) source outcome → source.faults_now ≡ source.faults → IsUnbegun door asked ended
-      → ended.output ≡ Some sink_now → Tells outcome sink.sent sink_now.sent sink.faults sink_now.faults ended.status → EndsService panel plan source sink door asked ended
-  policy_refusal_ends outcome sink_now r still idle output (whole e w f) =
+      → ended.output ≡ Some sink_now → (ended.status ≡ 6 → sink_now ≡ sink) → Tells outcome sink.sent sink_now.sent sink.faults sink_now.faults ended.status → EndsService panel plan source sink door asked ended
+  policy_refusal_ends outcome sink_now r still idle output kept (whole e w f) =
       refused outcome sink_now (e ∙ refusal_status (policy_form (most_session plan)) source.given outcome r.refusal) r idle output w still f
-  policy_refusal_ends outcome sink_now r still idle output (part e w f) = refusal_cut_off outcome sink_now e r idle output w still f
-  policy_refusal_ends outcome sink_now r still idle output (nothing e w f) =
-      let same : sink_now ≡ sink = ap (λ s. record { sent = s; faults = sink_now.faults }) w ∙ ap (λ n. record { sent = sink.sent; faults = n }) f in
-      no_memory e idle (output ∙ ap Some same) still
+  policy_refusal_ends outcome sink_now r still idle output kept (part e w f) = refusal_cut_off outcome sink_now e r idle output w still f
+  policy_refusal_ends outcome sink_now r still idle output kept (nothing e w f) = no_memory e idle (output ∙ ap Some (kept e)) still
 
   module _ (unfailed : (sink_now : SinkView) → ended.output ≡ Some sink_now → Rose sink.faults sink_now.faults → ⊥) (head : Head) (opening : List Entry) (written : Bool) (end : ServeEnd)
       (policy : IsPolicyOf source (most_session plan) head (entry_trees opening)) (doors : List DoorView) (panels : List P)
@@ -136,8 +134,8 @@ module _ {P : Type 0} (panel : P → PanelHistory) (plan : Plan) (source : Sourc
     had_no_memory : end ≡ Memory → ended.status ≡ 6
     had_no_memory is = status ∙ ap (status_of written) is ∙ memory_status written
 
-    is_written : (h : Head) (es : List EntryTree) (sink_now : SinkView) → ended.output ≡ Some sink_now → IsTextSent h es written sink sink_now → written ≡ true
-    is_written h es sink_now output (text_whole is sent still) = is
+    is_written : (h : Head) (es : List EntryTree) (sink_now : SinkView) → ended.output ≡ Some sink_now → IsTextSent h es written sink.sent sink.faults sink_now → written ≡ true
+    is_written h es sink_now output (text_whole is sent synced still) = is
     is_written h es sink_now output (line_cut entry un accepted cut rose) = absurd (unfailed sink_now output rose)
     is_written h es sink_now output (end_cut un cut rose) = absurd (unfailed sink_now output rose)
 

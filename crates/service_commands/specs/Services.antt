@@ -25,11 +25,21 @@ pub record IsAddress (address : List ℕ) : Type 0 where
   pub no_help : address ≢ codes "help"
   pub no_option : (rest : List ℕ) → address ≢ 45 ∷ rest
 
+-- a patience, in seconds, is within its bounds
+abbrev pub IsPatience : ℕ → Type 0
+IsPatience seconds = (1 ≤ seconds) × (seconds ≤ 86400)
+
+-- the patience of a service, in seconds, where it is said and where it is not
+abbrev pub patience_in : Option ℕ → ℕ
+patience_in None = 300
+patience_in (Some seconds) = seconds
+
 -- a service is within the bounds
-pub record IsService (address : List ℕ) (workers sessions : ℕ) : Type 0 where
+pub record IsService (address : List ℕ) (workers sessions : ℕ) (patience : Option ℕ) : Type 0 where
   pub address_is : IsAddress address
-  pub workers_are : (1 ≤ workers) × (workers ≤ 64)
+  pub workers_are : (1 ≤ workers) × (workers ≤ 1024)
   pub sessions_are : (1 ≤ sessions) × (sessions ≤ 65536)
+  pub patience_is : IsPatience (patience_in patience)
 
 -- it is handed back, and this holds of it
 abbrev pub HandsBack : {K : Type 0} → Option K → (K → Type 0) → Type 0

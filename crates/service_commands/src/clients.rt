@@ -51,9 +51,9 @@ where
     ensures ends { EndsClient call.entry.input call.entry.address.now
         (source_run (S.left input.old) (S.given input.old) (S.given input.new) (S.over input.new) (S.faults input.old) (S.faults input.new))
         (sink_run (K.sent output.old) (K.sent output.new) (K.faults output.old) (K.faults output.new))
-        (door_view (link_view D.Link.left D.Link.taken D.Link.sent D.Link.over D.Link.closed D.Link.place D.Link.toward D.Link.faults) D.links D.origin D.calls door.old)
-        (door_view (link_view D.Link.left D.Link.taken D.Link.sent D.Link.over D.Link.closed D.Link.place D.Link.toward D.Link.faults) D.links D.origin D.calls door.new)
-        (option_map (link_view D.Link.left D.Link.taken D.Link.sent D.Link.over D.Link.closed D.Link.place D.Link.toward D.Link.faults) result.dialed) result.status }
+        (door_view (link_view D.Link.left D.Link.taken D.Link.sent D.Link.over D.Link.closed D.Link.admitted D.Link.place D.Link.toward D.Link.faults) D.links D.origin D.calls door.old)
+        (door_view (link_view D.Link.left D.Link.taken D.Link.sent D.Link.over D.Link.closed D.Link.admitted D.Link.place D.Link.toward D.Link.faults) D.links D.origin D.calls door.new)
+        (option_map (link_view D.Link.left D.Link.taken D.Link.sent D.Link.over D.Link.closed D.Link.admitted D.Link.place D.Link.toward D.Link.faults) result.dialed) result.status }
 {
     match read_requests(alloc, call.input, input) {
         Ok(requests) => {

@@ -7,7 +7,7 @@ ghost use Rattle.policy_history.specs.declared.heads.Head.{Head};
 ghost use Rattle.journal_text.specs.PolicyFronts.{AreBelow};
 ghost use Rattle.run_streams.specs.Runs.{most_bytes, source_run};
 ghost use Rattle.nexus_serve.specs.Views.{door_view, link_view, report_view};
-ghost use Rattle.service_commands.specs.Services.{EndsService, IsPolicy, IsPolicyOf, IsService, IsUnbegun, hosted_of, policy_form};
+ghost use Rattle.service_commands.specs.Services.{EndsService, IsPolicy, IsPolicyOf, IsService, IsUnbegun, hosted_of, patience_in, policy_form};
 ghost use Rattle.run_streams.specs.Inner.Unread.{faults_after_input, IsUnread};
 ghost use Rattle.service_commands.specs.Inner.ServiceEnds.{IsWrongText};
 
@@ -19,18 +19,35 @@ use nx_io::{Door, Gate, Link, Sink, Source};
 use policy_history::Journal;
 use run_streams::{Outcome, ReadError, Unread, read_whole, tell};
 use std::alloc::Global;
+use std::fs::Files;
 use std::net::{Net, TcpListener, TcpStream};
 use std::rt::Clock;
 use std::sync::Wait;
 use std::thread::Threads;
 
-/// A service that the program can be asked to run: where it listens, how many workers it has, and how many sessions each serves at
-/// most.
+/// How many seconds a service waits for a peer that is admitted, where nothing is said.
+const PATIENCE: u64 = 300;
+
+/// A service that the program can be asked to run: where it listens, how many workers it has, how many sessions each serves at most, and
+/// for how many seconds it waits for a peer that is admitted, where that is said.
 #[derive(Clone, Copy)]
 pub struct Service<'a> {
     pub address: &'a [u8],
     pub workers: u64,
     pub sessions: u64,
+    pub patience: Option<u64>,
+}
+
+impl<'a> Service<'a> {
+    /// For how many seconds it waits for a peer that is admitted.
+    fn seconds(&self) -> u64
+        ensures { result ≡ patience_in self.now.patience }
+    {
+        match self.patience {
+            Some(seconds) => seconds,
+            None => PATIENCE,
+        }
+    }
 }
 
 /// Reads a policy, and serves the sessions of its workers. It stands apart, so that the other commands have no room on the stack for
@@ -52,19 +69,19 @@ where
     D::Link: Link + Send + Drop,
     P: Panel + Send + Drop,
     G: Gate + Sync,
-    R: Net<Listener = TcpListener, Stream = TcpStream> + Clock + Wait + Threads + Sync,
-    requires within { IsService service.address.now service.workers service.sessions }
+    R: Net<Listener = TcpListener, Stream = TcpStream> + Clock + Files + Wait + Threads + Sync,
+    requires within { IsService service.address.now service.workers service.sessions service.patience }
     ensures gave { Gave (S.left input.old) (S.left input.new) (S.given input.old) (S.given input.new) }
-    ensures ends { EndsService P.history (record { address = service.entry.address.now; workers = service.entry.workers; sessions = service.entry.sessions })
+    ensures ends { EndsService P.history (record { address = service.entry.address.now; workers = service.entry.workers; sessions = service.entry.sessions; patience = patience_in service.entry.patience })
         (source_run (S.left input.old) (S.given input.old) (S.given input.new) (S.over input.new) (S.faults input.old) (S.faults input.new))
-        (record { sent = K.sent output; faults = K.faults output }) (door_view (link_view D.Link.left D.Link.taken D.Link.sent D.Link.over D.Link.closed D.Link.place D.Link.toward D.Link.faults) D.links D.origin D.calls door) panel
+        (record { sent = K.sent output; synced = K.synced output; faults = K.faults output }) (door_view (link_view D.Link.left D.Link.taken D.Link.sent D.Link.over D.Link.closed D.Link.admitted D.Link.place D.Link.toward D.Link.faults) D.links D.origin D.calls door) panel
         (record {
           status = result.status;
-          output = option_map (λ k. record { sent = K.sent k; faults = K.faults k }) result.output;
+          output = option_map (λ k. record { sent = K.sent k; synced = K.synced k; faults = K.faults k }) result.output;
           journal = result.journal;
-          reports = map (report_view (link_view D.Link.left D.Link.taken D.Link.sent D.Link.over D.Link.closed D.Link.place D.Link.toward D.Link.faults)) result.reports.items;
-          door = (door_view (link_view D.Link.left D.Link.taken D.Link.sent D.Link.over D.Link.closed D.Link.place D.Link.toward D.Link.faults) D.links D.origin D.calls result.door);
-          doors = map (door_view (link_view D.Link.left D.Link.taken D.Link.sent D.Link.over D.Link.closed D.Link.place D.Link.toward D.Link.faults) D.links D.origin D.calls) result.doors.items;
+          reports = map (report_view (link_view D.Link.left D.Link.taken D.Link.sent D.Link.over D.Link.closed D.Link.admitted D.Link.place D.Link.toward D.Link.faults)) result.reports.items;
+          door = (door_view (link_view D.Link.left D.Link.taken D.Link.sent D.Link.over D.Link.closed D.Link.admitted D.Link.place D.Link.toward D.Link.faults) D.links D.origin D.calls result.door);
+          doors = map (door_view (link_view D.Link.left D.Link.taken D.Link.sent D.Link.over D.Link.closed D.Link.admitted D.Link.place D.Link.toward D.Link.faults) D.links D.origin D.calls) result.doors.items;
           panel = result.panel;
           panels = result.panels.items;
         }) }
@@ -83,6 +100,7 @@ where
             service.address,
             service.workers,
             service.sessions,
+            service.seconds(),
         )),
         Err(Unread::Refused(outcome)) => {
             let mut output = output;
@@ -163,11 +181,11 @@ where
     D::Link: Drop,
     ensures hosted { hosted_of (record {
       status = result.status;
-      output = option_map (λ k. record { sent = K.sent k; faults = K.faults k }) result.output;
+      output = option_map (λ k. record { sent = K.sent k; synced = K.synced k; faults = K.faults k }) result.output;
       journal = result.journal;
-      reports = map (report_view (link_view D.Link.left D.Link.taken D.Link.sent D.Link.over D.Link.closed D.Link.place D.Link.toward D.Link.faults)) result.reports.items;
-      door = (door_view (link_view D.Link.left D.Link.taken D.Link.sent D.Link.over D.Link.closed D.Link.place D.Link.toward D.Link.faults) D.links D.origin D.calls result.door);
-      doors = map (door_view (link_view D.Link.left D.Link.taken D.Link.sent D.Link.over D.Link.closed D.Link.place D.Link.toward D.Link.faults) D.links D.origin D.calls) result.doors.items;
+      reports = map (report_view (link_view D.Link.left D.Link.taken D.Link.sent D.Link.over D.Link.closed D.Link.admitted D.Link.place D.Link.toward D.Link.faults)) result.reports.items;
+      door = (door_view (link_view D.Link.left D.Link.taken D.Link.sent D.Link.over D.Link.closed D.Link.admitted D.Link.place D.Link.toward D.Link.faults) D.links D.origin D.calls result.door);
+      doors = map (door_view (link_view D.Link.left D.Link.taken D.Link.sent D.Link.over D.Link.closed D.Link.admitted D.Link.place D.Link.toward D.Link.faults) D.links D.origin D.calls) result.doors.items;
       panel = result.panel;
       panels = result.panels.items;
     }) hosted.served.written hosted.served.end ≡ hosted }
@@ -212,14 +230,14 @@ where
     D::Link: Drop,
     ensures status { result.status ≡ status }
     ensures output { result.output ≡ Some output }
-    ensures unbegun { IsUnbegun (door_view (link_view D.Link.left D.Link.taken D.Link.sent D.Link.over D.Link.closed D.Link.place D.Link.toward D.Link.faults) D.links D.origin D.calls door) panel
+    ensures unbegun { IsUnbegun (door_view (link_view D.Link.left D.Link.taken D.Link.sent D.Link.over D.Link.closed D.Link.admitted D.Link.place D.Link.toward D.Link.faults) D.links D.origin D.calls door) panel
         (record {
           status = result.status;
-          output = option_map (λ k. record { sent = K.sent k; faults = K.faults k }) result.output;
+          output = option_map (λ k. record { sent = K.sent k; synced = K.synced k; faults = K.faults k }) result.output;
           journal = result.journal;
-          reports = map (report_view (link_view D.Link.left D.Link.taken D.Link.sent D.Link.over D.Link.closed D.Link.place D.Link.toward D.Link.faults)) result.reports.items;
-          door = (door_view (link_view D.Link.left D.Link.taken D.Link.sent D.Link.over D.Link.closed D.Link.place D.Link.toward D.Link.faults) D.links D.origin D.calls result.door);
-          doors = map (door_view (link_view D.Link.left D.Link.taken D.Link.sent D.Link.over D.Link.closed D.Link.place D.Link.toward D.Link.faults) D.links D.origin D.calls) result.doors.items;
+          reports = map (report_view (link_view D.Link.left D.Link.taken D.Link.sent D.Link.over D.Link.closed D.Link.admitted D.Link.place D.Link.toward D.Link.faults)) result.reports.items;
+          door = (door_view (link_view D.Link.left D.Link.taken D.Link.sent D.Link.over D.Link.closed D.Link.admitted D.Link.place D.Link.toward D.Link.faults) D.links D.origin D.calls result.door);
+          doors = map (door_view (link_view D.Link.left D.Link.taken D.Link.sent D.Link.over D.Link.closed D.Link.admitted D.Link.place D.Link.toward D.Link.faults) D.links D.origin D.calls) result.doors.items;
           panel = result.panel;
           panels = result.panels.items;
         }) }

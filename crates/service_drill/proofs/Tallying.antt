@@ -16,6 +16,7 @@ use Rattle.policy_history.specs.Values.{History}
 use Rattle.authority_ask.specs.Memory.{Rehearsed}
 use Rattle.nx_io.specs.MemoryLinks.{Wire}
 use Rattle.session_core.specs.declared.board_serving.Report.{Report}
+use Rattle.nx_io.specs.Readers.{Discarded}
 use Rattle.nexus_serve.specs.Services.{ServedView, Serves}
 use Rattle.nexus_serve.specs.Views.{DoorView, ReportView, report_view}
 use Rattle.nexus_drill.specs.declared.outcomes.DrillTotals.{DrillTotals}
@@ -112,14 +113,14 @@ counts_of served reports journal allowed denied entries journal_is reports_are h
 
 -- ---- The service
 
-pub serves_so : (h h2 : Head) (es es2 : List Entry) (sent sent2 : List ℕ) (ds ds2 : List DoorView) (ps ps2 : List Rehearsed) (s : ServedView Rehearsed) → h ≡ h2 → es ≡ es2 → sent ≡ sent2 → ds ≡ ds2 → ps ≡ ps2
-    → Serves panel_of 1 h es (record { sent = sent; faults = 0 }) ds ps s → Serves panel_of 1 h2 es2 (record { sent = sent2; faults = 0 }) ds2 ps2 s
-serves_so h h2 es es2 sent sent2 ds ds2 ps ps2 s a b c d e serves =
-    subst (λ (x : Head). Serves panel_of 1 x es2 (record { sent = sent2; faults = 0 }) ds2 ps2 s) a
-    (subst (λ (x : List Entry). Serves panel_of 1 h x (record { sent = sent2; faults = 0 }) ds2 ps2 s) b
-    (subst (λ (x : List ℕ). Serves panel_of 1 h es (record { sent = x; faults = 0 }) ds2 ps2 s) c
-    (subst (λ (x : List DoorView). Serves panel_of 1 h es (record { sent = sent; faults = 0 }) x ps2 s) d
-    (subst (λ (x : List Rehearsed). Serves panel_of 1 h es (record { sent = sent; faults = 0 }) ds x s) e serves))))
+pub serves_so : (h h2 : Head) (es es2 : List Entry) (sink sink2 : Discarded) (ds ds2 : List DoorView) (ps ps2 : List Rehearsed) (s : ServedView Rehearsed) → h ≡ h2 → es ≡ es2 → sink ≡ sink2 → ds ≡ ds2 → ps ≡ ps2
+    → Serves panel_of 1 h es (record { sent = sink.sent; synced = sink.synced; faults = 0 }) ds ps s → Serves panel_of 1 h2 es2 (record { sent = sink2.sent; synced = sink2.synced; faults = 0 }) ds2 ps2 s
+serves_so h h2 es es2 sink sink2 ds ds2 ps ps2 s a b c d e serves =
+    subst (λ (x : Head). Serves panel_of 1 x es2 (record { sent = sink2.sent; synced = sink2.synced; faults = 0 }) ds2 ps2 s) a
+    (subst (λ (x : List Entry). Serves panel_of 1 h x (record { sent = sink2.sent; synced = sink2.synced; faults = 0 }) ds2 ps2 s) b
+    (subst (λ (x : Discarded). Serves panel_of 1 h es (record { sent = x.sent; synced = x.synced; faults = 0 }) ds2 ps2 s) c
+    (subst (λ (x : List DoorView). Serves panel_of 1 h es (record { sent = sink.sent; synced = sink.synced; faults = 0 }) x ps2 s) d
+    (subst (λ (x : List Rehearsed). Serves panel_of 1 h es (record { sent = sink.sent; synced = sink.synced; faults = 0 }) ds x s) e serves))))
 
 -- what is counted of what such a service left is counted of a run
 pub run_counted : {E : Type 0} (number workers calls : ℕ) (served : ServedView Rehearsed) (told : Result DrillTotals E) → ServesLoad number workers calls served → IfOk told (Counts served)

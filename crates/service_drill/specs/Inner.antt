@@ -11,7 +11,7 @@ use Rattle.service_drill.specs.Runs.{allows, denies}
 
 -- what a link in memory tells, and a door
 abbrev pub wire_view : Wire → LinkView
-wire_view = link_view (λ (l : Wire). Some l.supply.left) (λ l. l.supply.given) (λ l. l.store.sent) (λ l. l.supply.over) (λ l. l.closed) (λ l. l.place) (λ l. l.toward) (λ l. l.faults)
+wire_view = link_view (λ (l : Wire). Some l.supply.left) (λ l. l.supply.given) (λ l. l.store.sent) (λ l. l.supply.over) (λ l. l.closed) (λ l. l.admitted) (λ l. l.place) (λ l. l.toward) (λ l. l.faults)
 
 abbrev pub view_of : Doorway → DoorView
 view_of = door_view wire_view (λ (d : Doorway). Some d.links) (λ d. d.origin) (λ d. d.calls)

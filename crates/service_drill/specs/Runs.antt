@@ -33,6 +33,7 @@ link_of frames = record {
   sent = [];
   over = false;
   closed = false;
+  admitted = false;
   place = 1;
   toward = None;
   faults = 0;
@@ -78,7 +79,7 @@ panel_of panel = panel.history
 -- A service over the workers' doors, with one session for each of them and a sink that was sent nothing, left this
 abbrev pub ServesLoad : ℕ → ℕ → ℕ → ServedView Rehearsed → Type 0
 ServesLoad number workers calls served =
-    Serves panel_of 1 (head_of workers) [] (record { sent = []; faults = 0 }) (each workers (door_of number calls)) (each workers silent) served
+    Serves panel_of 1 (head_of workers) [] (record { sent = []; synced = 0; faults = 0 }) (each workers (door_of number calls)) (each workers silent) served
 
 -- such a service left something of which this is counted
 pub record IsRun (number workers calls : ℕ) (totals : DrillTotals) : Type 0 where

@@ -26,21 +26,22 @@ use Rattle.session_wire.specs.declared.requests.Request.TheVariants.{Call, Hello
 use Rattle.session_wire.specs.declared.replies.Reply.{Reply}
 use Rattle.session_wire.specs.declared.replies.Reply.TheVariants.{NoMemory, Refused as RefusedReply, Done as DoneReply, Welcome}
 use Rattle.journal_text.specs.RequestEvents.{IsEventOf}
+use Rattle.verdict_words.specs.declared.views.Item.{Item}
 use Rattle.verdict_words.specs.declared.views.Item.TheVariants.{Met}
 use Rattle.verdict_words.specs.Histories.{IsPrefix, own}
 use Rattle.verdict_words.specs.Rule.{last_met}
 use Rattle.verdict_words.specs.Values.{Identity, PassValue}
 use Rattle.verdict_words.specs.declared.views.AtomicStep.{AtomicStep}
 use Rattle.verdict_words.proofs.ForCallers.{last_met_now, met_seen_now, own_snoc, prefix_length, prefix_grows, prefix_whole}
-use Rattle.policy_book.specs.Access.{HasMet, IsAnswered, unrecorded_by}
-use Rattle.policy_book.specs.Books.{decided_at, met_at, session_of}
+use Rattle.policy_book.specs.Access.{HasMet, HasMetTwice, IsAnswered, unrecorded_by}
+use Rattle.policy_book.specs.Books.{IsMetAt, decided_at, met_at, session_of}
 use Rattle.policy_book.specs.Writes.{IsLineFor}
 use Rattle.policy_book.specs.declared.writing.Written.{Written}
 use Rattle.policy_book.specs.declared.writing.Written.TheVariants as written
 use Rattle.session_core.specs.Answers.{greeted}
 use Rattle.session_core.specs.Served.{AreCounted, IsUnrecorded}
 use Rattle.session_core.specs.Told as told
-use Rattle.session_core.specs.Told.{Answers, IsSeen, Turn, plain, state_at, stepped}
+use Rattle.session_core.specs.Told.{Answers, IsSeen, Meets, Turn, plain, state_at, stepped}
 use Rattle.session_core.specs.declared.board_session.Admitted.{Admitted}
 use Rattle.session_core.specs.declared.board_session.BoardSession.{BoardSession}
 use Rattle.session_core.specs.Inner.Boarding.{AreKnown, IsKnownRow, IsReady, IsTurn, head_of, own_in, reply_of, standing, trees_of, who_of}
@@ -159,26 +160,90 @@ module _ (s : BoardSession) (q : PassValue Entry Head) (p : ℕ) (event : Event)
       let count = trees_count later in
       (prefix_length s.pass.seen entries seen, omega (arith, long, count))
 
-  -- a refusal
-  refused_by : (entries : List Entry) (refusal : Refusal) → HasMet board entries s.pass q
-      → told.Changes (head_of s) (entry_trees entries) s.pass.session (standing s) p (event_tree event) (stepped (record (standing s) { low = length entries }) (RefusedReply (length entries) (refusal_number refusal)) [] (Met (length entries) ∷ []))
+  -- the pass was met once or twice where the history ends so, by these steps, the last time as it was at `base`
+  record IsMetBy (entries : List Entry) (steps : List Item) : Type 0 where
+    base : PassValue Entry Head
+    next : ℕ
+    meets : Meets (length entries) steps
+    met : IsMetAt board next entries s.pass
+    pass_is : q ≡ met_at board entries q.known base
+    trail_is : base.trail ++ Met (length entries) ∷ [] ≡ s.pass.trail ++ steps
+    session_is : base.session ≡ s.pass.session
+    knows : IsPrefix s.pass.known q.known
+
+  met_once : (entries : List Entry) → HasMet board entries s.pass q → IsMetBy entries (Met (length entries) ∷ [])
+  met_once entries m = record {
+    base = s.pass;
+    next = m.next;
+    meets = inl refl;
+    met = m.met;
+    pass_is = m.pass_is;
+    trail_is = refl;
+    session_is = refl;
+    knows = m.knows;
+  }
+
+  met_twice : (entries : List Entry) → HasMetTwice board entries s.pass q → IsMetBy entries (Met (length entries) ∷ Met (length entries) ∷ [])
+  met_twice entries m = record {
+    base = met_at board entries q.known s.pass;
+    next = m.next;
+    meets = inr refl;
+    met = m.met;
+    pass_is = m.pass_is;
+    trail_is = append_assoc s.pass.trail (Met (length entries) ∷ []) (Met (length entries) ∷ []);
+    session_is = refl;
+    knows = m.knows;
+  }
+
+  -- the turn of a refusal
+  abbrev refusing : List Entry → Refusal → List Item → Turn
+  refusing entries refusal steps = stepped (record (standing s) { low = length entries }) (RefusedReply (length entries) (refusal_number refusal)) [] steps
+
+  refused_by : (entries : List Entry) (refusal : Refusal) (steps : List Item) → IsMetBy entries steps
+      → told.Changes (head_of s) (entry_trees entries) s.pass.session (standing s) p (event_tree event) (refusing entries refusal steps)
       → IsTurn s (record s { pass = q }) [] request (RefusedReply (length entries) (refusal_number refusal))
-  refused_by entries refusal met changes =
+  refused_by entries refusal steps met changes =
       let seen : entries ≡ q.seen = sym (ap (λ (x : PassValue Entry Head). x.seen) met.pass_is) in
-      let turn : Turn = stepped (record (standing s) { low = length entries }) (RefusedReply (length entries) (refusal_number refusal)) [] (Met (length entries) ∷ []) in
+      let turn : Turn = refusing entries refusal steps in
       record {
         turn = turn;
         answers = told.change p (event_tree event) who is_event (subst (λ (es : List Entry). told.Changes (head_of s) (entry_trees es) s.pass.session (standing s) p (event_tree event) turn) seen changes);
         reply_is = refl;
         asks_are = refl;
-        trail = ap (λ (x : PassValue Entry Head). x.trail) met.pass_is;
-        own_is = ap own_in met.pass_is ∙ own_behind board entries q.known s.pass ∙ ap entry_trees met.met.own_met ∙ sym (own_trees s.pass) ∙ sym (append-nil (own_in s.pass));
+        trail = ap (λ (x : PassValue Entry Head). x.trail) met.pass_is ∙ met.trail_is;
+        own_is = ap own_in met.pass_is ∙ own_behind board entries q.known met.base ∙ ap (λ (n : ℕ). entry_trees (own session_of entries n)) met.session_is
+            ∙ ap entry_trees met.met.own_met ∙ sym (own_trees s.pass) ∙ sym (append-nil (own_in s.pass));
         after = ap (λ (es : List Entry). record (standing s) { low = length es }) seen;
         seen = subst (λ (es : List Entry). IsPrefix s.pass.seen es) seen met.met.seen;
         knows = met.knows;
-        session_is = ap (λ (x : PassValue Entry Head). x.session) met.pass_is;
+        session_is = ap (λ (x : PassValue Entry Head). x.session) met.pass_is ∙ met.session_is;
         board_is = ap (λ (x : PassValue Entry Head). x.board) met.pass_is;
       }
+
+  -- why it was refused
+  refusal_of : (entries : List Entry) (refusal : Refusal) (steps : List Item) → IsMetBy entries steps
+      → (decided_at board entries s.pass.session p event ≡ Err refusal) ⊎ ((refusal ≡ NotRecorded) × IsOk (decided_at board entries s.pass.session p event))
+      → told.Changes (head_of s) (entry_trees entries) s.pass.session (standing s) p (event_tree event) (refusing entries refusal steps)
+  refusal_of entries refusal steps met (inl why) =
+      let whole = prefix_whole entries in
+      told.refused (length entries) refusal steps (seen_at entries entries whole met.met.seen) (sym (decided_then entries entries whole) ∙ why) met.meets refl
+  refusal_of entries refusal steps met (inr why) =
+      let whole = prefix_whole entries in
+      let due = ok_due (decided_at board entries s.pass.session p event) why.1 in
+      told.not_recorded (length entries) due.0 steps (seen_at entries entries whole met.met.seen) (sym (decided_then entries entries whole) ∙ due.1) met.meets
+      (ap (λ (x : Refusal). refusing entries x steps) why.0)
+
+  refused_turn : (entries : List Entry) (refusal : Refusal)
+      → (decided_at board entries s.pass.session p event ≡ Err refusal) ⊎ ((refusal ≡ NotRecorded) × IsOk (decided_at board entries s.pass.session p event))
+      → HasMet board entries s.pass q ⊎ ((refusal ≡ NotRecorded) × HasMetTwice board entries s.pass q)
+      → IsTurn s (record s { pass = q }) [] request (RefusedReply (length entries) (refusal_number refusal))
+  refused_turn entries refusal why (inl once) =
+      let met = met_once entries once in
+      refused_by entries refusal (Met (length entries) ∷ []) met (refusal_of entries refusal (Met (length entries) ∷ []) met why)
+  refused_turn entries refusal why (inr twice) =
+      let met = met_twice entries twice.1 in
+      let steps : List Item = Met (length entries) ∷ Met (length entries) ∷ [] in
+      refused_by entries refusal steps met (refusal_of entries refusal steps met why)
 
   pub written_turn : (answer : Written) → IsAnswered board s.pass q p event answer → IsTurn s (record s { pass = q }) [] request (reply_of answer)
   written_turn (written.Done at number) d =
@@ -195,7 +260,7 @@ module _ (s : BoardSession) (q : PassValue Entry Head) (p : ℕ) (event : Event)
       let turn : Turn = record {
         reply = DoneReply (length entries + 1) number;
         asks = [];
-        steps = Met (length entries) ∷ Met (length entries + 1) ∷ [];
+        steps = Met (length entries) ∷ Met (length entries) ∷ Met (length entries + 1) ∷ [];
         added = entry_tree mine ∷ [];
         after = record (standing s) { low = length entries + 1 };
       } in
@@ -203,13 +268,14 @@ module _ (s : BoardSession) (q : PassValue Entry Head) (p : ℕ) (event : Event)
         turn = turn;
         answers = subst (λ (es : List Entry). Answers (head_of s) (entry_trees es) s.pass.session (standing s) request turn) (sym seen)
             (told.change p (event_tree event) who is_event
-            (told.done (length entries) due (seen_at entries later prefix d.met.seen) (sym (decided_then entries later prefix) ∙ d.accepted) got refl));
+            (told.done (length entries) due (Met (length entries) ∷ Met (length entries) ∷ []) (seen_at entries later prefix d.met.seen) (sym (decided_then entries later prefix) ∙ d.accepted) got (inr refl) refl));
         reply_is = ap (λ (n : ℕ). DoneReply n number) (sym d.at_is);
         asks_are = refl;
         trail = ap (λ (x : PassValue Entry Head). x.trail) d.pass_is
-            ∙ ap (λ (n : ℕ). (s.pass.trail ++ Met (length entries) ∷ []) ++ Met n ∷ []) count
-            ∙ append_assoc s.pass.trail (Met (length entries) ∷ []) (Met (length entries + 1) ∷ []);
-        own_is = ap own_in d.pass_is ∙ own_behind board later q.known (met_at board entries q.known s.pass) ∙ ap entry_trees (own_snoc session_of entries mine s.pass.session refl)
+            ∙ ap (λ (n : ℕ). ((s.pass.trail ++ Met (length entries) ∷ []) ++ Met (length entries) ∷ []) ++ Met n ∷ []) count
+            ∙ append_assoc (s.pass.trail ++ Met (length entries) ∷ []) (Met (length entries) ∷ []) (Met (length entries + 1) ∷ [])
+            ∙ append_assoc s.pass.trail (Met (length entries) ∷ []) (Met (length entries) ∷ Met (length entries + 1) ∷ []);
+        own_is = ap own_in d.pass_is ∙ own_behind board later q.known (met_at board entries q.known (met_at board entries q.known s.pass)) ∙ ap entry_trees (own_snoc session_of entries mine s.pass.session refl)
             ∙ map-append entry_tree (own session_of entries s.pass.session) (mine ∷ []) ∙ ap (λ (es : List EntryTree). es ++ entry_tree mine ∷ []) (ap entry_trees d.met.own_met ∙ sym (own_trees s.pass));
         after = ap (λ (n : ℕ). record (standing s) { low = n }) (sym (ap length seen ∙ count));
         seen = subst (λ (es : List Entry). IsPrefix s.pass.seen es) (sym seen) (prefix_grows s.pass.seen entries (mine ∷ []) d.met.seen);
@@ -218,16 +284,7 @@ module _ (s : BoardSession) (q : PassValue Entry Head) (p : ℕ) (event : Event)
         board_is = ap (λ (x : PassValue Entry Head). x.board) d.pass_is;
       }
   written_turn (written.Refused at refusal) r =
-      subst (λ (n : ℕ). IsTurn s (record s { pass = q }) [] request (RefusedReply n (refusal_number refusal))) (sym r.at_is) (refused_by r.entries refusal r.met (refusal_of r.why))
-    where
-      refusal_of : (decided_at board r.entries s.pass.session p event ≡ Err refusal) ⊎ ((refusal ≡ NotRecorded) × IsOk (decided_at board r.entries s.pass.session p event))
-          → told.Changes (head_of s) (entry_trees r.entries) s.pass.session (standing s) p (event_tree event) (stepped (record (standing s) { low = length r.entries }) (RefusedReply (length r.entries) (refusal_number refusal)) [] (Met (length r.entries) ∷ []))
-      refusal_of (inl why) =
-          told.refused (length r.entries) refusal (seen_at r.entries r.entries (prefix_whole r.entries) r.met.met.seen) (sym (decided_then r.entries r.entries (prefix_whole r.entries)) ∙ why) refl
-      refusal_of (inr why) =
-          let due = ok_due (decided_at board r.entries s.pass.session p event) why.1 in
-          told.not_recorded (length r.entries) due.0 (seen_at r.entries r.entries (prefix_whole r.entries) r.met.met.seen) (sym (decided_then r.entries r.entries (prefix_whole r.entries)) ∙ due.1)
-          (ap (λ (x : Refusal). stepped (record (standing s) { low = length r.entries }) (RefusedReply (length r.entries) (refusal_number x)) [] (Met (length r.entries) ∷ [])) why.0)
+      subst (λ (n : ℕ). IsTurn s (record s { pass = q }) [] request (RefusedReply n (refusal_number refusal))) (sym r.at_is) (refused_turn r.entries refusal r.why r.met)
   written_turn written.NoMemory same = subst (λ (x : PassValue Entry Head). IsTurn s (record s { pass = x }) [] request NoMemory) (sym same) (given_up_any s request)
 
   met_ready : (at : Identity Entry Head) → IsReady at s → q.board ≡ s.pass.board → IsPrefix s.pass.seen q.seen → last_met q.trail ≡ length q.seen → IsReady at (record s { pass = q })
@@ -242,13 +299,17 @@ module _ (s : BoardSession) (q : PassValue Entry Head) (p : ℕ) (event : Event)
   last_here : (entries : List Entry) (pass : PassValue Entry Head) → q ≡ met_at board entries q.known pass → last_met q.trail ≡ length q.seen
   last_here entries pass is = ap (λ (x : PassValue Entry Head). last_met x.trail) is ∙ last_met_now pass.trail (length entries) ∙ sym (ap (λ (x : PassValue Entry Head). length x.seen) is)
 
+  refused_last : (entries : List Entry) (refusal : Refusal) → HasMet board entries s.pass q ⊎ ((refusal ≡ NotRecorded) × HasMetTwice board entries s.pass q) → last_met q.trail ≡ length q.seen
+  refused_last entries refusal (inl once) = last_here entries s.pass once.pass_is
+  refused_last entries refusal (inr twice) = last_here entries (met_at board entries q.known s.pass) twice.1.pass_is
+
   pub written_ready : (at : Identity Entry Head) → IsReady at s → (answer : Written) → IsAnswered board s.pass q p event answer → IsReady at (record s { pass = q })
   written_ready at ready (written.Done number_at number) d =
       let turn = written_turn (written.Done number_at number) d in
-      met_ready at ready turn.board_is turn.seen (last_here (d.entries ++ mine ∷ []) (met_at board d.entries q.known s.pass) d.pass_is)
+      met_ready at ready turn.board_is turn.seen (last_here (d.entries ++ mine ∷ []) (met_at board d.entries q.known (met_at board d.entries q.known s.pass)) d.pass_is)
   written_ready at ready (written.Refused number_at refusal) r =
       let turn = written_turn (written.Refused number_at refusal) r in
-      met_ready at ready turn.board_is turn.seen (last_here r.entries s.pass r.met.pass_is)
+      met_ready at ready turn.board_is turn.seen (refused_last r.entries refusal r.met)
   written_ready at ready written.NoMemory same = subst (λ (x : PassValue Entry Head). IsReady at (record s { pass = x })) (sym same) ready
 
 -- a refusal with another number

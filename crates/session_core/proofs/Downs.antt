@@ -85,9 +85,9 @@ gives_up_fit (told.looked low steps misses is) = fits_turn is refl
 gives_up_fit {h} {es} {before} {p} {op} {object} {turn} (told.met low n steps misses seen asked is) = in_vain h (state_at h es n) p op object turn.asks asked ∙ sym (ap (λ (t : Turn). told_down t.reply) is)
 
 changes_fit : {h : Head} {es : List EntryTree} {s : ℕ} {before : Standing} {p : ℕ} {e : EventTree} {turn : Turn} → Changes h es s before p e turn → FitsTurn turn
-changes_fit (told.refused m refusal seen decided is) = fits_turn is refl
-changes_fit (told.not_recorded m due seen decided is) = fits_turn is refl
-changes_fit (told.done m due seen decided got is) = fits_turn is refl
+changes_fit (told.refused m refusal met seen decided meets is) = fits_turn is refl
+changes_fit (told.not_recorded m due met seen decided meets is) = fits_turn is refl
+changes_fit (told.done m due met seen decided got meets is) = fits_turn is refl
 
 answers_fit : {h : Head} {es : List EntryTree} {s : ℕ} {before : Standing} {request : Request} {turn : Turn} → Answers h es s before request turn → FitsTurn turn
 answers_fit {h} {es} {s} {before} (told.hello name secret greeting asked is same) =

@@ -28,9 +28,9 @@ judges_low late (told.judged k value finding kept ran object_is judged keeps run
 judges_low late (told.down k line object_is broken is) = omega (arith, late, ap (λ (t : Turn). t.after.low) is)
 
 changes_low : {h : Head} {es : List EntryTree} {s : ℕ} {before : Standing} {p : ℕ} {e : EventTree} {turn : Turn} → Changes h es s before p e turn → before.low ≤ turn.after.low
-changes_low (told.refused m refusal seen decided is) = omega (arith, seen.0, ap (λ (t : Turn). t.after.low) is)
-changes_low (told.not_recorded m due seen decided is) = omega (arith, seen.0, ap (λ (t : Turn). t.after.low) is)
-changes_low (told.done m due seen decided got is) = omega (arith, seen.0, ap (λ (t : Turn). t.after.low) is)
+changes_low (told.refused m refusal met seen decided meets is) = omega (arith, seen.0, ap (λ (t : Turn). t.after.low) is)
+changes_low (told.not_recorded m due met seen decided meets is) = omega (arith, seen.0, ap (λ (t : Turn). t.after.low) is)
+changes_low (told.done m due met seen decided got meets is) = omega (arith, seen.0, ap (λ (t : Turn). t.after.low) is)
 
 calls_low : {h : Head} {es : List EntryTree} {before : Standing} {p : ℕ} {op object : List ℕ} {arg : ℕ} {turn : Turn} → Calls h es before p op object arg turn → before.low ≤ turn.after.low
 calls_low (told.hit n place slot of_object of_store value held verdict ran looks makes stands right runs is) = omega (arith, looks.seen.0, ap (λ (t : Turn). t.after.low) is)
@@ -81,9 +81,9 @@ module _ (h : Head) (es : List EntryTree) (s : ℕ) (before : Standing) (request
   calls_who (told.snapped low n looked misses seen judges) = judges_who judges
 
   changes_who : {q : ℕ} {e : EventTree} → Changes h es s before q e turn → CameIn
-  changes_who (told.refused m refusal seen decided is) = same_who before is refl who
-  changes_who (told.not_recorded m due seen decided is) = same_who before is refl who
-  changes_who (told.done m due seen decided got is) = same_who before is refl who
+  changes_who (told.refused m refusal met seen decided meets is) = same_who before is refl who
+  changes_who (told.not_recorded m due met seen decided meets is) = same_who before is refl who
+  changes_who (told.done m due met seen decided got meets is) = same_who before is refl who
 
   gives_up_who : {q : ℕ} {op object : List ℕ} → GivesUp h es before q op object turn → CameIn
   gives_up_who (told.looked low steps misses is) = same_who before is refl who
@@ -117,9 +117,9 @@ no_verdict_told : {turn of : Turn} {A : Type 0} → is_verdict_reply turn.reply 
 no_verdict_told tells is off = absurd (other_kind is_verdict_reply is refl tells off)
 
 changes_no_verdict : {h : Head} {es : List EntryTree} {s : ℕ} {before : Standing} {p : ℕ} {e : EventTree} {turn : Turn} {A : Type 0} → is_verdict_reply turn.reply ≡ true → Changes h es s before p e turn → A
-changes_no_verdict tells (told.refused m refusal seen decided is) = no_verdict_told tells is refl
-changes_no_verdict tells (told.not_recorded m due seen decided is) = no_verdict_told tells is refl
-changes_no_verdict tells (told.done m due seen decided got is) = no_verdict_told tells is refl
+changes_no_verdict tells (told.refused m refusal met seen decided meets is) = no_verdict_told tells is refl
+changes_no_verdict tells (told.not_recorded m due met seen decided meets is) = no_verdict_told tells is refl
+changes_no_verdict tells (told.done m due met seen decided got meets is) = no_verdict_told tells is refl
 
 record CallTurn (h : Head) (es : List EntryTree) (before : Standing) (request : Request) (turn : Turn) : Type 0 where
   principal : ℕ

@@ -5,6 +5,7 @@ mod Turns
 mod ToldLaws
 mod Downs
 mod Sittings
+mod Staying
 mod ToldRows
 mod OneLineVerdicts
 mod WorkedTurns

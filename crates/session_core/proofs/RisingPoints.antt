@@ -51,9 +51,9 @@ module _ {turn : Turn} {a : ℕ} (e : point_of turn.reply ≡ Some a) where
   calls_between (told.snapped low n looked misses seen judges) = let least = misses_low misses in judges_between (omega (arith, least, seen.0)) judges
 
   changes_between : {h : Head} {es : List EntryTree} {s : ℕ} {before : Standing} {p : ℕ} {event : EventTree} → Changes h es s before p event turn → Between before turn a
-  changes_between {before = before} (told.refused m refusal seen decided is) = between before is refl refl seen.0 e
-  changes_between {before = before} (told.not_recorded m due seen decided is) = between before is refl refl seen.0 e
-  changes_between {before = before} (told.done m due seen decided got is) = let least = seen.0 in between before is refl refl (omega (arith, least)) e
+  changes_between {before = before} (told.refused m refusal met seen decided meets is) = between before is refl refl seen.0 e
+  changes_between {before = before} (told.not_recorded m due met seen decided meets is) = between before is refl refl seen.0 e
+  changes_between {before = before} (told.done m due met seen decided got meets is) = let least = seen.0 in between before is refl refl (omega (arith, least)) e
 
   answers_between : {h : Head} {es : List EntryTree} {s : ℕ} {before : Standing} {request : Request} → Answers h es s before request turn → Between before turn a
   answers_between {h = h} {s = s} {before = before} (told.hello name secret greeting is greeted_is turn_is) =

@@ -22,7 +22,7 @@ use Rattle.verdict_words.specs.declared.views.Item.TheVariants.{Loaded, Met, Fil
 use Rattle.verdict_words.specs.Histories.{own}
 use Rattle.verdict_words.specs.Rule.{last_met, met_after}
 use Rattle.session_core.specs.Standing.{Standing, beginning}
-use Rattle.session_core.specs.Told.{Answers, Calls, Changes, GivesUp, IsPlaceIn, IsSeen, IsTold, Judges, Keeps, Leads, Looks, Misses, Runs, Turn, AreAskedInVain, checked, state_at, stepped, verdict_reply}
+use Rattle.session_core.specs.Told.{Answers, Calls, Changes, GivesUp, IsPlaceIn, IsSeen, IsTold, Judges, Keeps, Leads, Looks, Meets, Misses, Runs, Turn, AreAskedInVain, checked, state_at, stepped, verdict_reply}
 use Rattle.session_core.specs.Told as told
 use Rattle.session_core.specs.ToldLaws.{OnlyAllowedRuns, OnlyDoneAdds, ToldStaysTold, is_ran}
 
@@ -76,15 +76,15 @@ got_on (x ∷ es) more (suc m) e got = got_on es more m e got
 
 changes_on : {h : Head} {es : List EntryTree} {s : ℕ} (more : List EntryTree) {before : Standing} {p : ℕ} {e : EventTree} {turn : Turn}
     → Changes h es s before p e turn → Changes h (es ++ more) s before p e turn
-changes_on {h} {es} {s} more {before} {p} {e} (told.refused m refusal seen decided is) =
-    told.refused m refusal (seen_on es more before.low m seen)
-    (subst (λ (st : State). decision h st s p e ≡ Err refusal) (state_same h es more m seen.1) decided) is
-changes_on {h} {es} {s} more {before} {p} {e} (told.not_recorded m due seen decided is) =
-    told.not_recorded m due (seen_on es more before.low m seen)
-    (subst (λ (st : State). decision h st s p e ≡ Ok due) (state_same h es more m seen.1) decided) is
-changes_on {h} {es} {s} more {before} {p} {e} (told.done m due seen decided got is) =
-    told.done m due (seen_on es more before.low m seen)
-    (subst (λ (st : State). decision h st s p e ≡ Ok due) (state_same h es more m seen.1) decided) (got_on es more m _ got) is
+changes_on {h} {es} {s} more {before} {p} {e} (told.refused m refusal met seen decided meets is) =
+    told.refused m refusal met (seen_on es more before.low m seen)
+    (subst (λ (st : State). decision h st s p e ≡ Err refusal) (state_same h es more m seen.1) decided) meets is
+changes_on {h} {es} {s} more {before} {p} {e} (told.not_recorded m due met seen decided meets is) =
+    told.not_recorded m due met (seen_on es more before.low m seen)
+    (subst (λ (st : State). decision h st s p e ≡ Ok due) (state_same h es more m seen.1) decided) meets is
+changes_on {h} {es} {s} more {before} {p} {e} (told.done m due met seen decided got meets is) =
+    told.done m due met (seen_on es more before.low m seen)
+    (subst (λ (st : State). decision h st s p e ≡ Ok due) (state_same h es more m seen.1) decided) (got_on es more m _ got) meets is
 
 answers_on : {h : Head} {es : List EntryTree} {s : ℕ} (more : List EntryTree) {before : Standing} {request : Request} {turn : Turn}
     → Answers h es s before request turn → Answers h (es ++ more) s before request turn
@@ -171,13 +171,18 @@ gives_up_within {es = es} (told.looked low steps misses is) = subst (λ (t : Tur
 gives_up_within {es = es} (told.met low n steps misses seen asked is) =
     subst (λ (t : Turn). Within (length es) t.steps) (sym is) (within_both (length es) steps (Met n ∷ []) (misses_within misses) (seen.1, tt))
 
+meets_within : (most m : ℕ) {met : List Item} → m ≤ most → Meets m met → Within most met
+meets_within most m below (inl once) = subst (Within most) (sym once) (below, tt)
+meets_within most m below (inr twice) = subst (Within most) (sym twice) (below, (below, tt))
+
 changes_within : {h : Head} {es : List EntryTree} {s : ℕ} {before : Standing} {p : ℕ} {e : EventTree} {turn : Turn}
     → Changes h es s before p e turn → Within (length es) turn.steps
-changes_within {es = es} (told.refused m refusal seen decided is) = subst (λ (t : Turn). Within (length es) t.steps) (sym is) (seen.1, tt)
-changes_within {es = es} (told.not_recorded m due seen decided is) = subst (λ (t : Turn). Within (length es) t.steps) (sym is) (seen.1, tt)
-changes_within {es = es} {s} {p = p} {e} (told.done m due seen decided got is) =
+changes_within {es = es} (told.refused m refusal met seen decided meets is) = subst (λ (t : Turn). Within (length es) t.steps) (sym is) (meets_within (length es) m seen.1 meets)
+changes_within {es = es} (told.not_recorded m due met seen decided meets is) = subst (λ (t : Turn). Within (length es) t.steps) (sym is) (meets_within (length es) m seen.1 meets)
+changes_within {es = es} {s} {p = p} {e} (told.done m due met seen decided got meets is) =
     let below = slice_get_within es m (record { session = s; principal = p; event = e }) got in
-    subst (λ (t : Turn). Within (length es) t.steps) (sym is) (seen.1, (omega (arith, below), tt))
+    subst (λ (t : Turn). Within (length es) t.steps) (sym is)
+    (within_both (length es) met (Met (m + 1) ∷ []) (meets_within (length es) m seen.1 meets) (omega (arith, below), tt))
 
 answers_within : {h : Head} {es : List EntryTree} {s : ℕ} {before : Standing} {request : Request} {turn : Turn}
     → Answers h es s before request turn → Within (length es) turn.steps
@@ -265,10 +270,14 @@ gives_up_idle : {h : Head} {es : List EntryTree} {before : Standing} {p : ℕ} {
 gives_up_idle (told.looked low steps misses is) = idle_of is (inl (misses_idle misses))
 gives_up_idle (told.met low n steps misses seen asked is) = idle_of is (inl (none_both steps (Met n ∷ []) (misses_idle misses) refl))
 
+meets_idle : {m : ℕ} {met : List Item} → Meets m met → list_any is_ran met ≡ false
+meets_idle (inl once) = ap (list_any is_ran) once
+meets_idle (inr twice) = ap (list_any is_ran) twice
+
 changes_idle : {h : Head} {es : List EntryTree} {s : ℕ} {before : Standing} {p : ℕ} {e : EventTree} {turn : Turn} → Changes h es s before p e turn → Idle turn
-changes_idle (told.refused m refusal seen decided is) = idle_of is (inl refl)
-changes_idle (told.not_recorded m due seen decided is) = idle_of is (inl refl)
-changes_idle (told.done m due seen decided got is) = idle_of is (inl refl)
+changes_idle (told.refused m refusal met seen decided meets is) = idle_of is (inl (meets_idle meets))
+changes_idle (told.not_recorded m due met seen decided meets is) = idle_of is (inl (meets_idle meets))
+changes_idle (told.done m due met seen decided got meets is) = idle_of is (inl (none_both met (Met (m + 1) ∷ []) (meets_idle meets) refl))
 
 pub only_allowed_runs : OnlyAllowedRuns
 only_allowed_runs h es s before request turn (told.hello name secret greeting is greeted turn_is) = idle_of turn_is (inl refl)
@@ -302,9 +311,9 @@ gives_up_still (told.looked low steps misses is) = still_of is (inl refl)
 gives_up_still (told.met low n steps misses seen asked is) = still_of is (inl refl)
 
 changes_still : {h : Head} {es : List EntryTree} {s : ℕ} {before : Standing} {p : ℕ} {e : EventTree} {turn : Turn} → Changes h es s before p e turn → Still turn
-changes_still (told.refused m refusal seen decided is) = still_of is (inl refl)
-changes_still (told.not_recorded m due seen decided is) = still_of is (inl refl)
-changes_still (told.done m due seen decided got is) = still_of is (inr (m + 1, due.number, refl))
+changes_still (told.refused m refusal met seen decided meets is) = still_of is (inl refl)
+changes_still (told.not_recorded m due met seen decided meets is) = still_of is (inl refl)
+changes_still (told.done m due met seen decided got meets is) = still_of is (inr (m + 1, due.number, refl))
 
 pub only_done_adds : OnlyDoneAdds
 only_done_adds h es s before request turn (told.hello name secret greeting is greeted turn_is) = still_of turn_is (inl refl)

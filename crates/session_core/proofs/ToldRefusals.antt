@@ -69,9 +69,9 @@ module _ {turn : Turn} {at number : ℕ} (replied : turn.reply ≡ Done at numbe
 
   -- a change that was done leaves the session behind its entry
   change_leaves : {h : Head} {es : List EntryTree} {s : ℕ} {before : Standing} {p : ℕ} {e : EventTree} → Changes h es s before p e turn → (turn.after ≡ record before { low = at }) × (0 < at) × (at ≤ length es)
-  change_leaves (told.refused m refusal seen decided is) = absurd (other_kind is_done_reply is replied refl refl)
-  change_leaves (told.not_recorded m due seen decided is) = absurd (other_kind is_done_reply is replied refl refl)
-  change_leaves {es = es} {before = before} (told.done m due seen decided got is) =
+  change_leaves (told.refused m refusal met seen decided meets is) = absurd (other_kind is_done_reply is replied refl refl)
+  change_leaves (told.not_recorded m due met seen decided meets is) = absurd (other_kind is_done_reply is replied refl refl)
+  change_leaves {es = es} {before = before} (told.done m due met seen decided got meets is) =
       let same : Done at number ≡ Done (m + 1) due.number = sym replied ∙ ap (λ (t : Turn). t.reply) is in
       let low : m + 1 ≡ at = cc in
       let within = slice_get_within es m _ got in
@@ -119,9 +119,9 @@ module _ {before : Standing} {turn : Turn} {p : ℕ} (who : before.who ≡ Some 
   gives_up_stays (told.met low n steps misses seen asked is) = who_of is refl who
 
   change_stays : {h : Head} {es : List EntryTree} {s q : ℕ} {e : EventTree} → Changes h es s before q e turn → turn.after.who ≡ Some p
-  change_stays (told.refused m refusal seen decided is) = who_of is refl who
-  change_stays (told.not_recorded m due seen decided is) = who_of is refl who
-  change_stays (told.done m due seen decided got is) = who_of is refl who
+  change_stays (told.refused m refusal met seen decided meets is) = who_of is refl who
+  change_stays (told.not_recorded m due met seen decided meets is) = who_of is refl who
+  change_stays (told.done m due met seen decided got meets is) = who_of is refl who
 
   pub stays : {h : Head} {es : List EntryTree} {s : ℕ} {request : Request} → Answers h es s before request turn → turn.after.who ≡ Some p
   stays {h = h} {s = s} (told.hello name secret greeting is greeted_is turn_is) =

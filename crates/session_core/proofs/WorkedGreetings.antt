@@ -15,7 +15,7 @@ use Rattle.session_core.specs.ToldRows.{GreetedOnce, NotRecordedIsRefused, allow
 use Rattle.session_core.proofs.OneLineVerdicts.{unset_goal}
 use Rattle.session_core.proofs.ToldRows.{label_at}
 use Rattle.session_core.proofs.WorkedParts.{due, f_due, f_made, label_shown, low, one, truth_read}
-use Rattle.session_core.proofs.WorkedTurns.{course_leads, done, is_done, is_judged, is_nameless, is_refused, is_unrecorded, next_state, on}
+use Rattle.session_core.proofs.WorkedTurns.{course_leads, done, is_judged, is_nameless, is_refused, is_twice_done, is_unrecorded, next_state, on}
 
 pub greeted_once : GreetedOnce
 greeted_once = record {
@@ -60,7 +60,7 @@ not_recorded_is_refused = record {
   seen = (lit≤ tt, lit≤ tt);
   leads = course_leads (
       on (told.hello (codes "alice") (codes "pa") _ refl refl refl) (
-      on (is_done head entries 1 0 low 0 [] (empty_state head) _ make_f (due 0 17) refl start_at refl f_due) (
+      on (is_twice_done head entries 1 0 low 0 [] (empty_state head) _ make_f (due 0 17) refl start_at refl f_due) (
       on (is_unrecorded head entries 1 0 low 1 [] f_made _ want_truth (due 0 27) (refl, refl, truth_read) f_at (lit≤ tt) truth_due) (
       on (is_refused head entries 1 0 low 1 [] f_made _ make_f NameTaken refl f_at (lit≤ tt) taken) (
       on (is_judged head entries 1 0 low 1 [] f_made read f 0 0 0 (DeniedFinding GoalUnset) [] [] [] f_at (lit≤ tt) (told.unknown refl refl refl) refl refl

@@ -1,5 +1,5 @@
 -- Turns of a session whose history and states are known: changes, and calls that ask nobody.
-use Rattle.std.proofs.Common.{◌≡◌, ◌≤◌, ◌<◌, ◌+◌, ℕ, suc, List, [], ◌∷◌, ◌++◌, take, length, true, Option, Some, None, refl, sym, ap, subst, arith, ◌∙◌, get_or, add-one, append_assoc, inr, false}
+use Rattle.std.proofs.Common.{◌≡◌, ◌≤◌, ◌<◌, ◌+◌, ℕ, suc, List, [], ◌∷◌, ◌++◌, take, length, true, Option, Some, None, refl, sym, ap, subst, arith, ◌∙◌, get_or, add-one, append_assoc, inl, inr, false}
 use Rattle.std.specs.Prelude.{Ok, Err, slice_get, filter, map}
 use Rattle.std.specs.List.{flat_map}
 use Rattle.std.proofs.lemmas.Bool.{lt-ltb}
@@ -94,7 +94,18 @@ module _ (h : Head) (es : List EntryTree) (s p : ℕ) (known_principal : p < len
       → decision h st s p e ≡ Ok due → Answers h es s (at n known) request (done_turn n known e due.number)
   is_done n known st request e due asks is got decided =
       let within = slice_get_within es n (entry_of e) got in
-      told.change p e refl asks (told.done n due (omega arith, omega (arith, within)) (subst (λ (x : State). decision h x s p e ≡ Ok due) (sym is) decided) got refl)
+      told.change p e refl asks (told.done n due (Met n ∷ []) (omega arith, omega (arith, within)) (subst (λ (x : State). decision h x s p e ≡ Ok due) (sym is) decided) got (inl refl) refl)
+
+  -- the same, where the line was written between two meetings
+  abbrev pub twice_done_turn : ℕ → List Triple → EventTree → ℕ → Turn
+  twice_done_turn n known e number = record (done_turn n known e number) { steps = Met n ∷ Met n ∷ Met (n + 1) ∷ [] }
+
+  pub is_twice_done : (n : ℕ) (known : List Triple) (st : State) (request : Request) (e : EventTree) (due : Due) → IsEventOf request e → IsAt n st → slice_get es n ≡ Some (entry_of e)
+      → decision h st s p e ≡ Ok due → Answers h es s (at n known) request (twice_done_turn n known e due.number)
+  is_twice_done n known st request e due asks is got decided =
+      let within = slice_get_within es n (entry_of e) got in
+      told.change p e refl asks
+      (told.done n due (Met n ∷ Met n ∷ []) (omega arith, omega (arith, within)) (subst (λ (x : State). decision h x s p e ≡ Ok due) (sym is) decided) got (inr refl) refl)
 
   abbrev pub refused_turn : ℕ → List Triple → Refusal → Turn
   refused_turn n known refusal = stepped (at n known) (Refused n (refusal_number refusal)) [] (Met n ∷ [])
@@ -102,12 +113,14 @@ module _ (h : Head) (es : List EntryTree) (s p : ℕ) (known_principal : p < len
   pub is_refused : (n : ℕ) (known : List Triple) (st : State) (request : Request) (e : EventTree) (refusal : Refusal) → IsEventOf request e → IsAt n st → n ≤ length es
       → decision h st s p e ≡ Err refusal → Answers h es s (at n known) request (refused_turn n known refusal)
   is_refused n known st request e refusal asks is within decided =
-      told.change p e refl asks (told.refused n refusal (omega arith, within) (subst (λ (x : State). decision h x s p e ≡ Err refusal) (sym is) decided) refl)
+      told.change p e refl asks (told.refused n refusal (Met n ∷ []) (omega arith, within) (subst (λ (x : State). decision h x s p e ≡ Err refusal) (sym is) decided) (inl refl) refl)
 
+  -- a change whose line was tried, between two meetings
   pub is_unrecorded : (n : ℕ) (known : List Triple) (st : State) (request : Request) (e : EventTree) (due : Due) → IsEventOf request e → IsAt n st → n ≤ length es
-      → decision h st s p e ≡ Ok due → Answers h es s (at n known) request (refused_turn n known NotRecorded)
+      → decision h st s p e ≡ Ok due → Answers h es s (at n known) request (stepped (at n known) (Refused n (refusal_number NotRecorded)) [] (Met n ∷ Met n ∷ []))
   is_unrecorded n known st request e due asks is within decided =
-      told.change p e refl asks (told.not_recorded n due (omega arith, within) (subst (λ (x : State). decision h x s p e ≡ Ok due) (sym is) decided) refl)
+      told.change p e refl asks
+      (told.not_recorded n due (Met n ∷ Met n ∷ []) (omega arith, within) (subst (λ (x : State). decision h x s p e ≡ Ok due) (sym is) decided) (inr refl) refl)
 
   -- a call of what no object has the name of
   pub is_nameless : (from n : ℕ) (known : List Triple) (st : State) (op object : List ℕ) (arg : ℕ) → from ≤ n → IsAt n st → n ≤ length es → knows known op object ≡ false

@@ -1,5 +1,6 @@
 -- How a session over a link ends, by what was taken from the link and sent to it.
 use Rattle.std.specs.Prelude.{◌≡◌, ◌≢◌, ◌<◌, ◌≤◌, ℕ, List, [], ◌∷◌, ◌++◌, length, map, take, Bool, true, false, None}
+use Rattle.std.specs.Option.{is_some}
 use Rattle.nx_io.specs.Streams.{one_more}
 use Rattle.policy_history.specs.declared.heads.Head.{Head}
 use Rattle.policy_history.specs.Events.{EntryTree}
@@ -13,7 +14,7 @@ use Rattle.session_wire.specs.Beginnings.{IsBad, IsPart, Spells}
 use Rattle.session_core.specs.declared.lines.Asking.{Asking}
 use Rattle.session_core.specs.declared.ends.SessionEnd.{SessionEnd}
 use Rattle.session_core.specs.declared.ends.SessionEnd.TheVariants.{Closed, Torn, BadFrame, ReadFault, WriteFault, Spent, Memory}
-use Rattle.session_core.specs.Sessions.{Point, Told1}
+use Rattle.session_core.specs.Sessions.{Point, Told1, admitted_in}
 
 -- how many requests a session answers at most
 abbrev pub most_requests : ℕ
@@ -74,11 +75,12 @@ at_first es = record { entries = es; admitted = None ∷ [] }
 
 -- A session over a link was served, and ended so. The frames that were taken are those of its requests, which are told their
 -- replies behind the entries of the journal, one after another; what was added to the journal comes of them alone, and so do
--- the asks.
-pub record IsServed (end : SessionEnd) (h : Head) (session : ℕ) (es es_now : List EntryTree) (taken sent : List ℕ) (asks : List Told) : Type 0 where
+-- the asks. The link says whether its peer was admitted, which is so exactly where somebody is at the end.
+pub record IsServed (end : SessionEnd) (h : Head) (session : ℕ) (es es_now : List EntryTree) (taken sent : List ℕ) (asks : List Told) (admitted : Bool) : Type 0 where
   pub requests : List Request
   pub replies : List Reply
   pub last : Point
   pub ended : HasEnded end taken sent requests replies
   pub told : Told1 h session (at_first es) (askings_of requests) replies asks last
   pub entries : last.entries ≡ es_now
+  pub admitted_is : admitted ≡ is_some (admitted_in last 0)

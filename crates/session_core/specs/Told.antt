@@ -143,15 +143,19 @@ pub data GivesUp (h : Head) (es : List EntryTree) (before : Standing) (p : ℕ) 
   met : (low n : ℕ) (steps : List Item) → Misses h es before p op object low steps → IsSeen es low n → AreAskedInVain h (state_at h es n) p op object turn.asks
       → turn ≡ stepped (record before { low = n }) NoMemory turn.asks (steps ++ Met n ∷ []) → GivesUp h es before p op object turn
 
+-- the pass was met at this length, once or twice in a row: the line of a change is written between two meetings
+abbrev pub Meets : ℕ → List Item → Type 0
+Meets m steps = (steps ≡ Met m ∷ []) ⊎ (steps ≡ Met m ∷ Met m ∷ [])
+
 -- A change that principal p asks for in session s. It is decided at a length m: refused with the first refusal that applies, or not
 -- recorded, with number 20; or it is entry m + 1 of the history, and the reply is at the length behind it.
 pub data Changes (h : Head) (es : List EntryTree) (s : ℕ) (before : Standing) (p : ℕ) (e : EventTree) (turn : Turn) : Type 0 where
-  refused : (m : ℕ) (refusal : Refusal) → IsSeen es before.low m → decision h (state_at h es m) s p e ≡ Err refusal
-      → turn ≡ stepped (record before { low = m }) (Refused m (refusal_number refusal)) [] (Met m ∷ []) → Changes h es s before p e turn
-  not_recorded : (m : ℕ) (due : Due) → IsSeen es before.low m → decision h (state_at h es m) s p e ≡ Ok due
-      → turn ≡ stepped (record before { low = m }) (Refused m (refusal_number NotRecorded)) [] (Met m ∷ []) → Changes h es s before p e turn
-  done : (m : ℕ) (due : Due) → IsSeen es before.low m → decision h (state_at h es m) s p e ≡ Ok due → slice_get es m ≡ Some (record { session = s; principal = p; event = e })
-      → turn ≡ record { reply = Done (m + 1) due.number; asks = []; steps = Met m ∷ Met (m + 1) ∷ []; added = record { session = s; principal = p; event = e } ∷ []; after = record before { low = m + 1 } }
+  refused : (m : ℕ) (refusal : Refusal) (met : List Item) → IsSeen es before.low m → decision h (state_at h es m) s p e ≡ Err refusal → Meets m met
+      → turn ≡ stepped (record before { low = m }) (Refused m (refusal_number refusal)) [] met → Changes h es s before p e turn
+  not_recorded : (m : ℕ) (due : Due) (met : List Item) → IsSeen es before.low m → decision h (state_at h es m) s p e ≡ Ok due → Meets m met
+      → turn ≡ stepped (record before { low = m }) (Refused m (refusal_number NotRecorded)) [] met → Changes h es s before p e turn
+  done : (m : ℕ) (due : Due) (met : List Item) → IsSeen es before.low m → decision h (state_at h es m) s p e ≡ Ok due → slice_get es m ≡ Some (record { session = s; principal = p; event = e }) → Meets m met
+      → turn ≡ record { reply = Done (m + 1) due.number; asks = []; steps = met ++ Met (m + 1) ∷ []; added = record { session = s; principal = p; event = e } ∷ []; after = record before { low = m + 1 } }
       → Changes h es s before p e turn
 
 -- `Answers h es s before request turn`: session s, which is so far over this history, comes to this turn by the request. A hello is

@@ -292,7 +292,8 @@ greeted_replies = Refused 0 1 ∷ Refused 0 3 ∷ Welcome 2 0 ∷ Refused 0 2 �
 abbrev pub GreetedOnce : Type 0
 GreetedOnce = IsTold head allowed_entries 2 0 greeted_requests greeted_replies [] (Met 0 ∷ Met 4 ∷ []) (record { who = Some 0; low = 4; known = [] })
 
--- ---- A change that could not be recorded. No goal is set then, and a call that has no case number is neither known nor kept
+-- ---- A change that could not be recorded. No goal is set then, and a call that has no case number is neither known nor kept. The pass
+-- is met before the line of a change is written and again behind it, which is told of the first two changes
 
 abbrev pub unrecorded_requests : List Request
 unrecorded_requests = hello ∷ NewObject f ∷ SetGoal read f (formula_text verum) ∷ NewObject f ∷ call ∷ call ∷ []
@@ -302,7 +303,7 @@ unrecorded_replies = Welcome 1 0 ∷ Done 1 0 ∷ Refused 1 20 ∷ Refused 1 9 �
 
 abbrev pub NotRecordedIsRefused : Type 0
 NotRecordedIsRefused =
-    IsTold head (entry 1 make_f ∷ []) 1 0 unrecorded_requests unrecorded_replies [] (Met 0 ∷ Met 0 ∷ Met 1 ∷ Met 1 ∷ Met 1 ∷ Met 1 ∷ Met 1 ∷ []) (record { who = Some 0; low = 1; known = [] })
+    IsTold head (entry 1 make_f ∷ []) 1 0 unrecorded_requests unrecorded_replies [] (Met 0 ∷ Met 0 ∷ Met 0 ∷ Met 1 ∷ Met 1 ∷ Met 1 ∷ Met 1 ∷ Met 1 ∷ Met 1 ∷ []) (record { who = Some 0; low = 1; known = [] })
 
 -- ---- An authority is asked at each call, and nothing is kept
 

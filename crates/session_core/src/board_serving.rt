@@ -1,5 +1,6 @@
 //! A session over a link and the shared board.
 ghost use Rattle.std.specs.Prelude.{◌≡◌, ◌≢◌, ◌≤◌, [], false, true, length, All, Some};
+ghost use Rattle.std.specs.Option.{is_some};
 ghost use Rattle.nx_io.specs.Links.{KeepsOrigin};
 ghost use Rattle.nx_io.specs.Streams.{Gave, MayRise};
 ghost use Rattle.authority_ask.specs.PanelCalls.{HasOnlyAsked, asked_since};
@@ -7,7 +8,7 @@ ghost use Rattle.policy_history.specs.Values.{entry_trees};
 ghost use Rattle.verdict_words.specs.Histories.{IsPrefix};
 ghost use Rattle.session_core.specs.Ends.{faults_after_end, is_over};
 ghost use Rattle.session_core.specs.Served.{IsServedOver};
-ghost use Rattle.session_core.specs.Inner.Boarding.{HasGone, IsReady};
+ghost use Rattle.session_core.specs.Inner.Boarding.{HasGone, IsReady, who_of};
 ghost use Rattle.session_core.specs.Inner.Sittings.{HasSat};
 
 use crate::board_session::BoardSession;
@@ -49,13 +50,16 @@ impl<
     P: Panel,
     R: Net<Listener = TcpListener, Stream = TcpStream> + Clock,
 > Sitting<R, B, P> for Sharing<'a, G> {
-    ghost use Rattle.session_core.specs.Inner.Boarding.{IsReady, HasGone};
+    ghost use Rattle.session_core.specs.Inner.Boarding.{IsReady, HasGone, who_of};
     ghost use Rattle.std.specs.Prelude.{◌≡◌};
+    ghost use Rattle.std.specs.Option.{is_some};
 
     ghost ready = { λ s book panel. (B.board book ≡ s.board.now) × IsReady s.board.now s.session };
 
     ghost told = { λ first book_first panel_first s book panel requests replies.
         HasGone first.session s.session (P.history panel_first) (P.history panel) (B.unrecorded book_first) (B.unrecorded book) requests replies };
+
+    ghost admitted = { λ s. is_some (who_of s.session) };
 
     fn answer(
         self,
@@ -83,6 +87,10 @@ impl<
         self
     }
 
+    fn is_admitted(&self) -> bool {
+        self.session.principal().is_some()
+    }
+
     fn replied(&self, rt: &R) {
         let session = self.session.pass.session();
         let principal = self.session.principal();
@@ -96,7 +104,7 @@ impl<
 /// answer.
 ///
 /// The ends are those of `serve_on`. The report has the number and the principal of the session, how it ended, and its link
-/// and pass.
+/// and pass. The link is told that its peer is admitted exactly where a hello is welcomed, before that reply is sent.
 pub fn serve_link<
     L: Link,
     P: Panel,
@@ -121,6 +129,7 @@ pub fn serve_link<
     requires sent { L.sent link ≡ [] }
     requires over { L.over link ≡ false }
     requires closed { L.closed link ≡ false }
+    requires admitted { L.admitted link ≡ false }
     ensures told { IsServedOver board.now.origin.setting (length board.now.origin.opening) (record {
       session = result.session;
       end = result.end;
@@ -138,6 +147,7 @@ pub fn serve_link<
     ensures over { L.over result.link ≡ is_over result.end }
     ensures closed { L.closed result.link ≡ true }
     ensures origin { KeepsOrigin (L.place link) (L.place result.link) (L.toward link) (L.toward result.link) }
+    ensures admitted { L.admitted result.link ≡ is_some result.principal }
     ensures link_later { L.faults link ≤ L.faults result.link }
     ensures link_count { MayRise (faults_after_end result.end (L.faults link)) (L.faults result.link) }
     ensures asked { HasOnlyAsked (P.history panel.old) (P.history panel.new) }
@@ -187,6 +197,7 @@ fn sit<
     requires sent { L.sent link.old ≡ [] }
     requires over { L.over link.old ≡ false }
     requires is_open { L.closed link.old ≡ false }
+    requires admitted { L.admitted link.old ≡ is_some (who_of session) }
     ensures ready { IsReady board.now result.0 }
     ensures sat { HasSat (HasGone session result.0 (P.history panel.old) (P.history panel.new)
         (B.unrecorded book.old) (B.unrecorded book.new)) result.1 (L.taken link.new) (L.sent link.new) }
@@ -195,6 +206,7 @@ fn sit<
     ensures over { L.over link.new ≡ is_over result.1 }
     ensures is_open { L.closed link.new ≡ false }
     ensures origin { KeepsOrigin (L.place link.old) (L.place link.new) (L.toward link.old) (L.toward link.new) }
+    ensures admitted { L.admitted link.new ≡ is_some (who_of result.0) }
     ensures link_later { L.faults link.old ≤ L.faults link.new }
     ensures link_count { L.faults link.new ≡ faults_after_end result.1 (L.faults link.old) }
 {

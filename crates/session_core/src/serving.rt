@@ -21,6 +21,7 @@ impl<P: Panel, R: Net<Listener = TcpListener, Stream = TcpStream> + Clock> Sitti
     for Session {
     ghost use Rattle.policy_history.specs.Values.{entry_trees};
     ghost use Rattle.session_core.specs.Inner.Serving.{IsAlone, IsOpen};
+    ghost use Rattle.std.specs.Option.{is_some};
 
     ghost ready = { λ s journal panel. IsOpen journal.head s.number s.principal };
 
@@ -37,6 +38,8 @@ impl<P: Panel, R: Net<Listener = TcpListener, Stream = TcpStream> + Clock> Sitti
       es = entry_trees journal.entries;
       asked = P.history panel;
     }) requests replies };
+
+    ghost admitted = { λ s. is_some s.principal };
 
     fn answer(
         self,
@@ -55,6 +58,10 @@ impl<P: Panel, R: Net<Listener = TcpListener, Stream = TcpStream> + Clock> Sitti
         self
     }
 
+    fn is_admitted(&self) -> bool {
+        self.principal.is_some()
+    }
+
     fn replied(&self, _rt: &R) {}
 }
 
@@ -65,7 +72,8 @@ impl<P: Panel, R: Net<Listener = TcpListener, Stream = TcpStream> + Clock> Sitti
 /// `Closed` and `Torn` come exactly where the link has ended, at a frame's edge or within a frame. `BadFrame` comes exactly
 /// where what came is no request's frame, and was answered `Bad`. `ReadFault` and `WriteFault` come only where the link has
 /// failed, which ended the session. `Spent` comes exactly after 1,048,576 requests whose replies were all sent. `Memory` comes
-/// only where nothing was taken; a request for which there is no memory is answered `NoMemory`.
+/// only where nothing was taken; a request for which there is no memory is answered `NoMemory`. The link is told that its peer is
+/// admitted exactly where a hello is welcomed, before that reply is sent.
 pub fn serve_on<L: Link, P: Panel, R: Net<Listener = TcpListener, Stream = TcpStream> + Clock>(
     rt: &R,
     alloc: Global,
@@ -79,8 +87,9 @@ pub fn serve_on<L: Link, P: Panel, R: Net<Listener = TcpListener, Stream = TcpSt
     requires sent { L.sent link.old ≡ [] }
     requires over { L.over link.old ≡ false }
     requires closed { L.closed link.old ≡ false }
+    requires admitted { L.admitted link.old ≡ false }
     ensures served { IsServed result journal.old.head session (entry_trees journal.old.entries) (entry_trees journal.new.entries) (L.taken link.new) (L.sent link.new)
-        (asked_since (P.history panel.old) (P.history panel.new)) }
+        (asked_since (P.history panel.old) (P.history panel.new)) (L.admitted link.new) }
     ensures bytes { Gave (L.left link.old) (L.left link.new) (L.taken link.old) (L.taken link.new) }
     ensures over { L.over link.new ≡ is_over result }
     ensures closed { L.closed link.new ≡ true }

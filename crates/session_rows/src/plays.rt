@@ -9,15 +9,15 @@ use crate::tables::number;
 use crate::talks::{Talk, link_of, talk_of};
 use authority_ask::{Ask, MemPanel};
 use nx_io::{Gate, MemSink, Place};
-use policy_book::{Book, BookAccess, BookNaming, LockedBook, NalMatter, Shelf};
+use policy_book::{Book, BookAccess, BookNaming, LockedBook, NalMatter, SharedBook};
 use session_core::{SessionEnd, serve_link};
 use std::alloc::{AllocError, Global};
 use std::cell::Cell;
 use std::marker::Brand;
 use std::net::{Net, TcpListener, TcpStream};
 use std::rt::Clock;
+use std::sync::Wait;
 use std::sync::ledger::{Blank, Ledger};
-use std::sync::{Mutex, Wait};
 use verdict_words::{Board, Pass};
 
 /// What comes of a play: whether each session is told what it should be and closes its link, how each ends, how often the gate is
@@ -95,8 +95,9 @@ fn talks_of(alloc: Global, text: &str) -> Result<Vec<Talk>, AllocError> {
     Ok(talks)
 }
 
-/// Plays three sessions, one after another. The first line names a policy, tells how much the sink of its book holds, and what
-/// the authorities answer; each of the next three is a talk, or no line for a session that is asked nothing.
+/// Plays three sessions, one after another. The first line names a policy, tells how much the sink of its book holds and, behind a
+/// comma, which of its syncs fails, if one does, and what the authorities answer; each of the next three is a talk, or no line for a
+/// session that is asked nothing.
 pub fn told<R: Net<Listener = TcpListener, Stream = TcpStream> + Clock + Wait>(
     rt: &R,
     alloc: Global,
@@ -138,7 +139,8 @@ fn outcome_of<R: Net<Listener = TcpListener, Stream = TcpStream> + Clock + Wait>
     talks: &[Talk],
 ) -> Result<Outcome, AllocError> {
     let policy = bytes_of(alloc, policy)?;
-    let sink = MemSink::new(alloc, number(room) as usize, 1000, &[])?;
+    let (room, sync) = room.split_once(',').unwrap_or((room, "0"));
+    let sink = MemSink::new(alloc, number(room) as usize, 1000, &[], &[number(sync)])?;
     match board_of(alloc, policy.as_slice(), sink) {
         Some(made) => Ok(serve_all(rt, alloc, made, panel, talks)),
         None => Err(AllocError),
@@ -162,9 +164,9 @@ fn serve_all<R: Net<Listener = TcpListener, Stream = TcpStream> + Clock + Wait>(
     let second = book.enter(&board);
     let third = book.enter(&board);
     let passes = (first, second, third);
-    let blank = Blank::new(1);
-    let outcome = serve_passes::<Brand, Brand, R>(
-        rt, alloc, &board, book, blank, passes, panel, talks,
+    let (blank, turns) = (Blank::new(1), Blank::new(1));
+    let outcome = serve_passes::<Brand, Brand, Brand, R>(
+        rt, alloc, &board, book, blank, turns, passes, panel, talks,
     );
     drop(board);
     outcome
@@ -173,6 +175,7 @@ fn serve_all<R: Net<Listener = TcpListener, Stream = TcpStream> + Clock + Wait>(
 fn serve_passes<
     N: BookNaming,
     T: Ledger,
+    W: Ledger,
     R: Net<Listener = TcpListener, Stream = TcpStream> + Clock + Wait,
 >(
     rt: &R,
@@ -180,6 +183,7 @@ fn serve_passes<
     board: &Board<NalMatter>,
     book: Book<MemSink>,
     blank: Blank,
+    turns: Blank,
     passes: (Pass<NalMatter>, Pass<NalMatter>, Pass<NalMatter>),
     panel: &mut MemPanel,
     talks: &[Talk],
@@ -189,14 +193,15 @@ fn serve_passes<
     requires board { book.board ≡ board.now }
     requires ledger { blank.name ≡ T.name }
     requires parts { (blank.parts ≡ T.parts) × (T.parts ≡ 1) }
+    requires turns { (turns.name ≡ W.name) × (turns.parts ≡ W.parts) × (W.parts ≡ 1) }
     requires first { IsNew board.now passes.0 }
     requires second { IsNew board.now passes.1 }
     requires third { IsNew board.now passes.2 }
 {
     let gate = Counter::new();
     let (tickets, mark) = blank.open::<T>();
-    let shelf: Mutex<Shelf<MemSink, N, T>> = Mutex::new(Shelf::new(book, tickets));
-    let mut locked = LockedBook::new(rt, board, &shelf, mark);
+    let shared: SharedBook<MemSink, N, T, W> = SharedBook::new(book, tickets, turns);
+    let mut locked = LockedBook::new(rt, board, &shared, mark);
     let (first, second, third) = (talks.get(0), talks.get(1), talks.get(2));
     let first = served(rt, alloc, board, &mut locked, passes.0, &gate, panel, first);
     let second = served(
@@ -211,7 +216,7 @@ fn serve_passes<
     );
     let third = served(rt, alloc, board, &mut locked, passes.2, &gate, panel, third);
     drop(locked);
-    let (book, tickets) = shelf.into_inner().into_parts();
+    let (book, tickets) = shared.into_parts();
     drop(tickets);
     Outcome {
         told: first.0 & second.0 & third.0,
@@ -233,7 +238,8 @@ fn entries_of(book: Book<MemSink>) -> u64 {
     entries
 }
 
-// Serves a session over the link of a talk: whether it is told what it should be and closes its link, and how it ends.
+// Serves a session over the link of a talk: whether it is told what it should be and closes its link, which was told that its peer is
+// admitted where somebody is, and how it ends.
 fn served<B: BookAccess, R: Net<Listener = TcpListener, Stream = TcpStream> + Clock>(
     rt: &R,
     alloc: Global,
@@ -275,10 +281,11 @@ fn served_to<B: BookAccess, R: Net<Listener = TcpListener, Stream = TcpStream> +
         Ok(link) => {
             let report = serve_link(rt, alloc, board, book, pass, link, panel, gate);
             let closed = report.link.is_closed();
+            let admitted = report.link.is_admitted() == report.principal.is_some();
             let told = report.link.sent() == talk.told.as_slice();
             let end = report.end;
             drop(report);
-            (closed & told, end)
+            (closed & admitted & told, end)
         }
         Err(AllocError) => {
             drop(pass);

@@ -6,7 +6,8 @@ use std::alloc::AllocError;
 // session asks before its hello, with a wrong secret, and twice.
 //
 // A change that cannot be written is not recorded: the first change fills 44 of the 49 bytes that the sink holds, and the line
-// of the second breaks off.
+// of the second breaks off. So it is where the line is written and cannot be synced; then no change of another session is recorded
+// either, and each session sees what was there before.
 const TABLE: &str = "play: what cannot be done is refused
 alice 40000|\
     hello call object call true_goal call no_goal no_goal no_proof unbind bind_3 bobs_label give_1 = \
@@ -17,7 +18,14 @@ alice 40000|\
 
 play: a change that cannot be written is not recorded
 alice 49|hello object true_goal other_object object call = \
-    welcome 1 0 done 1 0 refused 1 20 refused 1 20 refused 1 9 denied 1 1 0 0 -> true Closed Closed Closed, asks 0, asking 0 missed 0 answered 6 entries 1.";
+    welcome 1 0 done 1 0 refused 1 20 refused 1 20 refused 1 9 denied 1 1 0 0 -> true Closed Closed Closed, asks 0, asking 0 missed 0 answered 6 entries 1.
+
+play: a change whose line cannot be synced is not recorded
+alice 40000,2|hello object true_goal other_object object call = \
+    welcome 1 0 done 1 0 refused 1 20 refused 1 20 refused 1 9 denied 1 1 0 0|\
+    hello true_goal call = welcome 2 1 refused 1 20 denied 1 1 0 0 -> true Closed Closed Closed, asks 0, asking 0 missed 0 answered 9 entries 1.
+alice 40000,1|hello object object call = \
+    welcome 1 0 refused 0 20 refused 0 20 refused 0 8 -> true Closed Closed Closed, asks 0, asking 0 missed 0 answered 4 entries 0.";
 
 #[test]
 fn what_cannot_be_done_is_refused(rt: HostRuntime) -> Result<(), AllocError> {

@@ -24,6 +24,7 @@ pub(crate) fn fill<L: Link>(link: &mut L, into: &mut [u8]) -> Filled
     ensures over { L.over link.new ≡ over_after_fill result into.new (L.over link.old) }
     ensures going { KeepsGoing (L.sent link.old) (L.sent link.new) (L.closed link.old) (L.closed link.new) }
     ensures origin { KeepsOrigin (L.place link.old) (L.place link.new) (L.toward link.old) (L.toward link.new) }
+    ensures admitted { L.admitted link.new ≡ L.admitted link.old }
     ensures later { L.faults link.old ≤ L.faults link.new }
     ensures count { L.faults link.new ≡ faults_after_fill result (L.faults link.old) }
 {

@@ -84,6 +84,7 @@ impl FrameReader {
         ensures over { L.over link.new ≡ over_after_frame result (gained (L.taken link.old) (L.taken link.new)) (L.over link.old) }
         ensures going { KeepsGoing (L.sent link.old) (L.sent link.new) (L.closed link.old) (L.closed link.new) }
         ensures origin { KeepsOrigin (L.place link.old) (L.place link.new) (L.toward link.old) (L.toward link.new) }
+        ensures admitted { L.admitted link.new ≡ L.admitted link.old }
         ensures later { L.faults link.old ≤ L.faults link.new }
         ensures count { L.faults link.new ≡ faults_after_frame result (L.faults link.old) }
     {
@@ -107,6 +108,7 @@ fn read_frame<L: Link>(
     ensures bytes { TakesFor result.0 result.1 start (L.left link.old) (L.left link.new) (L.taken link.old) (L.taken link.new) (L.over link.old) (L.over link.new) }
     ensures going { KeepsGoing (L.sent link.old) (L.sent link.new) (L.closed link.old) (L.closed link.new) }
     ensures origin { KeepsOrigin (L.place link.old) (L.place link.new) (L.toward link.old) (L.toward link.new) }
+    ensures admitted { L.admitted link.new ≡ L.admitted link.old }
     ensures later { L.faults link.old ≤ L.faults link.new }
     ensures count { L.faults link.new ≡ faults_after_frame result.0 (L.faults link.old) }
 {

@@ -39,6 +39,7 @@ pub fn read_reply<L: Link>(link: &mut L) -> ReplyRead
     ensures over { L.over link.new ≡ over_after_reply result (gained (L.taken link.old) (L.taken link.new)) (L.over link.old) }
     ensures going { KeepsGoing (L.sent link.old) (L.sent link.new) (L.closed link.old) (L.closed link.new) }
     ensures origin { KeepsOrigin (L.place link.old) (L.place link.new) (L.toward link.old) (L.toward link.new) }
+    ensures admitted { L.admitted link.new ≡ L.admitted link.old }
     ensures later { L.faults link.old ≤ L.faults link.new }
     ensures count { L.faults link.new ≡ faults_after_reply result (L.faults link.old) }
 {
@@ -51,6 +52,7 @@ fn take_reply<L: Link>(link: &mut L) -> ReplyRead
     ensures bytes { TakesForReply result (L.left link.old) (L.left link.new) (L.taken link.old) (L.taken link.new) (L.over link.old) (L.over link.new) }
     ensures going { KeepsGoing (L.sent link.old) (L.sent link.new) (L.closed link.old) (L.closed link.new) }
     ensures origin { KeepsOrigin (L.place link.old) (L.place link.new) (L.toward link.old) (L.toward link.new) }
+    ensures admitted { L.admitted link.new ≡ L.admitted link.old }
     ensures later { L.faults link.old ≤ L.faults link.new }
     ensures count { L.faults link.new ≡ faults_after_reply result (L.faults link.old) }
 {

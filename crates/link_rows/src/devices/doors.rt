@@ -6,6 +6,7 @@ use super::crosses;
 use crate::texts::{is_told, text_of};
 use nx_io::{Dial, Door, DoorPlan, Gate, MemDoor, MemLink, Next, OpenGate, Place, Reach, Shared};
 use std::alloc::{AllocError, Global};
+use std::fs::Files;
 use std::net::{Net, TcpListener, TcpStream};
 use std::process::Abort;
 use std::rt::Clock;
@@ -86,11 +87,11 @@ fn three_answers<R: Net<Listener = TcpListener, Stream = TcpStream> + Clock>(
     format!(in alloc; "{first} {second} {third}")
 }
 
-fn listens<R: Net<Listener = TcpListener, Stream = TcpStream> + Clock>(
+fn listens<R: Net<Listener = TcpListener, Stream = TcpStream> + Clock + Files>(
     rt: &R,
     door: &mut MemDoor,
 ) -> bool {
-    door.listen(rt, b"mem") == Reach::Ready
+    door.listen(rt, b"mem", 300) == Reach::Ready
 }
 
 fn dials<R: Net<Listener = TcpListener, Stream = TcpStream> + Clock>(
@@ -119,7 +120,7 @@ fn shares_answer<R: Net<Listener = TcpListener, Stream = TcpStream> + Clock>(
 
 fn shares_in_turn<R>(rt: &R, alloc: Global, door: &mut MemDoor)
 where
-    R: Net<Listener = TcpListener, Stream = TcpStream> + Clock + Abort,
+    R: Net<Listener = TcpListener, Stream = TcpStream> + Clock + Files + Abort,
 {
     crosses(door);
     assert!(rt; listens(rt, door) && shares_answer(rt, alloc, door));
@@ -132,7 +133,7 @@ where
 
 fn shares_of_a_door<R>(rt: &R, alloc: Global) -> Result<(), AllocError>
 where
-    R: Net<Listener = TcpListener, Stream = TcpStream> + Clock + Abort,
+    R: Net<Listener = TcpListener, Stream = TcpStream> + Clock + Files + Abort,
 {
     let mut door = door(alloc)?;
     shares_in_turn(rt, alloc, &mut door);

@@ -78,6 +78,32 @@ fn sent_back(alloc: Global, link: &mut MemLink) -> Result<String, AllocError>
     format!(in alloc; "{reach:?} {sent} {left} {faults} {closed}")
 }
 
+fn is_told_once(link: &mut MemLink) -> bool {
+    let before = link.is_admitted();
+    link.admit();
+    !before && link.is_admitted() && is_untouched(link)
+}
+
+fn is_untouched(link: &MemLink) -> bool {
+    link.left() == b"ab".as_slice()
+        && link.sent().is_empty()
+        && link.faults() == 0
+        && !link.is_closed()
+}
+
+#[test]
+fn a_link_is_told_that_its_peer_is_admitted(rt: HostRuntime) {
+    let is_told = match MemLink::new(rt.alloc(), b"ab", 8, 8, &[], &[]) {
+        Ok(mut link) => {
+            let is_told = is_told_once(&mut link);
+            drop(link);
+            is_told
+        }
+        Err(AllocError) => false,
+    };
+    assert!(rt; is_told);
+}
+
 #[test]
 fn a_memory_link_sends_back_and_fails_where_it_is_told(rt: HostRuntime) -> Result<(), AllocError> {
     hold(&rt, rt.alloc(), "link", LINKS)

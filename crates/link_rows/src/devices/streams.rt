@@ -75,7 +75,7 @@ fn told_of_sink(
     (piece, fails): (usize, &str),
 ) -> Result<String, AllocError> {
     let fails = numbers(alloc, fails)?;
-    match MemSink::new(alloc, room, piece.max(1), fails.as_slice()) {
+    match MemSink::new(alloc, room, piece.max(1), fails.as_slice(), &[]) {
         Ok(mut sink) => {
             let told = sent_on(alloc, source, &mut sink);
             drop(sink);
@@ -99,6 +99,61 @@ fn sent_on(
 #[test]
 fn memory_devices_send_on_and_fail_where_they_are_told(rt: HostRuntime) -> Result<(), AllocError> {
     hold(&rt, rt.alloc(), "devices", DEVICES)
+}
+
+/// What these calls over a sink in memory come to, each with how many bytes the last sync covers and how often the sink has failed:
+/// `sync`, and `send` of all bytes of a word. The sink has so much room, takes two bytes a write, and fails at these writes and these
+/// syncs.
+pub fn synced_by(alloc: Global, row: &str) -> Result<String, AllocError> {
+    let (sink, calls) = row.split_once(": ").unwrap_or(("", row));
+    let words: Vec<&str> = sink.split(' ').collect(alloc)?;
+    match words.as_slice() {
+        [room, fails, syncs] => told_of_syncs(alloc, number(room), (fails, syncs), calls),
+        _ => String::from_str(alloc, "no sink"),
+    }
+}
+
+fn told_of_syncs(
+    alloc: Global,
+    room: usize,
+    (fails, syncs): (&str, &str),
+    calls: &str,
+) -> Result<String, AllocError> {
+    let fails = numbers(alloc, fails)?;
+    let syncs = numbers(alloc, syncs)?;
+    match MemSink::new(alloc, room, 2, fails.as_slice(), syncs.as_slice()) {
+        Ok(mut sink) => {
+            let told = calls_told(alloc, &mut sink, calls);
+            drop(sink);
+            told
+        }
+        Err(AllocError) => Err(AllocError),
+    }
+}
+
+fn calls_told(alloc: Global, sink: &mut MemSink, calls: &str) -> Result<String, AllocError> {
+    let mut told = String::new(alloc);
+    for call in calls.split(',') {
+        let reach = match call.split_once(' ') {
+            Some((_, piece)) => send_all(sink, piece.as_bytes()),
+            None => sink.sync(),
+        };
+        let (synced, faults) = (sink.synced(), sink.faults());
+        push(&mut told, format!(in alloc; "{reach:?} {synced} {faults},"))?;
+    }
+    Ok(told)
+}
+
+// A sync that fails leaves what was covered before, and the next one covers all; what a failing write has sent is covered too; writes
+// and syncs are counted apart.
+const SYNCS: &str =
+    "8 - 2: send abc,sync,send de,sync,send f,sync -> Ready 0 0,Ready 3 0,Ready 3 0,Failed 3 1,Ready 3 1,Ready 6 1,
+3 - -: sync,send abcd,sync -> Ready 0 0,Failed 0 1,Ready 3 1,
+8 1 1: send ab,sync,send ab,sync -> Failed 0 1,Failed 0 2,Ready 0 2,Ready 2 2,";
+
+#[test]
+fn a_sync_covers_what_was_sent(rt: HostRuntime) -> Result<(), AllocError> {
+    hold(&rt, rt.alloc(), "syncs", SYNCS)
 }
 
 // A reader that answers by a script, a word a call: `other` and `interrupted` are errors, and any other word is what is read, of which
@@ -218,7 +273,10 @@ fn what_a_writer_takes_and_fails_is_told(rt: HostRuntime) -> Result<(), AllocErr
 fn is_sent_on(written: &mut Vec<u8>) -> bool {
     let mut source = StdSource::new(b"some bytes".as_slice());
     let mut sink = StdSink::new(written);
-    forward(&mut source, &mut sink, 4) == Reach::Ready && source.faults() == 0 && sink.faults() == 0
+    forward(&mut source, &mut sink, 4) == Reach::Ready
+        && sink.sync() == Reach::Ready
+        && source.faults() == 0
+        && sink.faults() == 0
 }
 
 fn is_written(alloc: Global) -> bool {
@@ -247,6 +305,7 @@ fn is_discarded(source: &mut MemSource) -> bool {
     forward(source, &mut sink, 16) == Reach::Ready
         && source.left().is_empty()
         && sink.write(b"abc") == Put::Bytes(3)
+        && sink.sync() == Reach::Ready
 }
 
 #[test]

@@ -1,10 +1,10 @@
 -- What is handed back behind the workers.
-use Rattle.std.specs.Prelude.{◌≡◌, List, [], All, Some, Bool, true, false, codes, if◌then◌else◌}
-use Rattle.nx_io.specs.Streams.{Rose, Sends, SendsPart}
+use Rattle.std.specs.Prelude.{◌≡◌, List, [], length, All, Some, Bool, true, false, codes, if◌then◌else◌}
+use Rattle.nx_io.specs.Streams.{Rose, Sends}
 use Rattle.policy_history.specs.PolicyTexts.{ended}
 use Rattle.verdict_words.specs.Settling.{all_met}
 use Rattle.verdict_words.specs.declared.views.AtomicStep.{AtomicStep}
-use Rattle.policy_book.specs.Books.{AreGatheredIn, BookValue, IsLegalBook, IsMetIn, IsNumbered, head_of, trees_of}
+use Rattle.policy_book.specs.Books.{AreGatheredIn, BookValue, IsLegalBook, IsMetIn, IsNumbered, SendsFront, head_of, trees_of}
 use Rattle.nexus_serve.specs.declared.service.ServeEnd.{ServeEnd}
 use Rattle.nexus_serve.specs.declared.service.ServeEnd.TheVariants.{Done, DoorFault}
 use Rattle.nexus_serve.specs.Views.{DoorView, ReportView}
@@ -16,12 +16,12 @@ abbrev pub end_of : Bool → ServeEnd
 end_of has_failed = if has_failed then DoorFault else Done
 
 -- the text was ended, and the journal of the book is handed back with what was gathered
-pub record IsClosed {K P : Type 0} (book : BookValue K) (start : SinkView) (doors : List DoorView) (panels : List P) (reports : List ReportView) (has_failed : Bool) (served : ServedView P) : Type 0 where
+pub record IsClosed {K P : Type 0} (book : BookValue K) (doors : List DoorView) (panels : List P) (reports : List ReportView) (has_failed : Bool) (served : ServedView P) : Type 0 where
   pub journal : IsJournal served.journal (head_of book) book.entries
   pub sink_now : SinkView
   pub sink : served.sink ≡ Some sink_now
-  pub text : IsTextSent (head_of book) (trees_of book) served.written start sink_now
-  pub failed : book.is_broken ≡ true → Rose start.faults sink_now.faults
+  pub text : IsTextSent (head_of book) (trees_of book) served.written book.start book.start_faults sink_now
+  pub failed : book.is_broken ≡ true → Rose book.start_faults sink_now.faults
   pub reports_are : served.reports ≡ reports
   pub doors_are : served.doors ≡ doors
   pub panels_are : served.panels ≡ panels
@@ -30,12 +30,12 @@ pub record IsClosed {K P : Type 0} (book : BookValue K) (start : SinkView) (door
   pub numbered : IsNumbered book
 
 -- all passes were met once more, and what was gathered is handed back with the journal of the book
-pub record IsReported {K P : Type 0} (book : BookValue K) (start : SinkView) (gathered : GatheredValue P) (served : ServedView P) : Type 0 where
+pub record IsReported {K P : Type 0} (book : BookValue K) (gathered : GatheredValue P) (served : ServedView P) : Type 0 where
   pub journal : IsJournal served.journal (head_of book) book.entries
   pub sink_now : SinkView
   pub sink : served.sink ≡ Some sink_now
-  pub text : IsTextSent (head_of book) (trees_of book) served.written start sink_now
-  pub failed : book.is_broken ≡ true → Rose start.faults sink_now.faults
+  pub text : IsTextSent (head_of book) (trees_of book) served.written book.start book.start_faults sink_now
+  pub failed : book.is_broken ≡ true → Rose book.start_faults sink_now.faults
   pub known : List AtomicStep
   pub reports : served.reports ≡ joined gathered.rests (all_met book.board book.entries known gathered.passes)
   pub doors : served.doors ≡ gathered.doors
@@ -46,10 +46,10 @@ pub record IsReported {K P : Type 0} (book : BookValue K) (start : SinkView) (ga
   pub legal : IsLegalBook book
   pub numbered : IsNumbered book
 
--- the last line of the text was sent, where the sink did not fail, or a proper part of it, since the sink failed
+-- the last line of the text was sent and synced, where the sink did not fail, or a front of it was sent, maybe all of it, since the sink failed
 abbrev pub IsEnded : Bool → SinkView → SinkView → Type 0
-IsEnded true sink sink_now = Sends sink.sent sink_now.sent (ended (codes "end")) × (sink_now.faults ≡ sink.faults)
-IsEnded false sink sink_now = SendsPart sink.sent sink_now.sent (ended (codes "end")) × Rose sink.faults sink_now.faults
+IsEnded true sink sink_now = Sends sink.sent sink_now.sent (ended (codes "end")) × (sink_now.synced ≡ length sink_now.sent) × (sink_now.faults ≡ sink.faults)
+IsEnded false sink sink_now = SendsFront sink.sent sink_now.sent (ended (codes "end")) × Rose sink.faults sink_now.faults
 
 -- nobody was served, and the doors and panels are handed back
 pub record IsHandedBack {P : Type 0} (doors : List DoorView) (panels : List P) (served : ServedView P) : Type 0 where

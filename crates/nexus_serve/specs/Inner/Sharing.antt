@@ -1,13 +1,13 @@
 -- How doors and panels are shared, and what is made ready for a service.
 use Rattle.std.specs.Prelude.{◌≡◌, ◌<◌, ◌⊎◌, ◌∷◌, ◌++◌, ℕ, List, [], length, replicate, Result, Ok, Err}
-use Rattle.nx_io.specs.DoorCalls.{DoorCall, DoorOrigin, no_room_to_share, not_listened, not_shared, share_of, shared}
+use Rattle.nx_io.specs.DoorCalls.{DoorCall, DoorOrigin, Listening, no_room_to_share, not_listened, not_shared, share_of, shared}
 use Rattle.authority_ask.specs.PanelCalls.{PanelCall, PanelHistory}
 use Rattle.authority_ask.specs.PanelCalls as panels
 use Rattle.policy_history.specs.declared.heads.Head.{Head}
 use Rattle.nexus_serve.specs.declared.shares.Unready.{Unready}
 use Rattle.nexus_serve.specs.declared.shares.Unready.TheVariants.{Panel, Door, Memory}
 use Rattle.nexus_serve.specs.Views.{DoorView}
-use Rattle.nexus_serve.specs.Hosting.{AreReady, HasCalledPanel, HasFailed, HasFailedPanel, IsHeld, Plan, panel_calls, ready_calls}
+use Rattle.nexus_serve.specs.Hosting.{AreReady, HasCalledPanel, HasFailed, HasFailedPanel, IsHeld, Plan, listening_of, panel_calls, ready_calls}
 
 -- a door is a share of this one, and of no share: it listens where the door does, and was asked nothing yet
 pub record IsShareOf {D : Type 0} (origin : D → DoorOrigin) (calls : D → List DoorCall) (door share : D) : Type 0 where
@@ -22,11 +22,11 @@ SharesDoor (Err Door) count made calls = (made < count) × (calls ≡ replicate 
 SharesDoor (Err Memory) count made calls = (made < count) × (calls ≡ replicate made shared ++ no_room_to_share ∷ [])
 
 -- The calls by which a door was to listen at an address, and to be shared so many times, of which so many shares were made
-abbrev pub ReadiesDoor : {A : Type 0} → Result A Unready → List ℕ → ℕ → ℕ → List DoorCall → Type 0
-ReadiesDoor (Ok _) address count made calls = (made ≡ count) × (calls ≡ ready_calls address made)
-ReadiesDoor (Err Panel) address count made calls = ⊥
-ReadiesDoor (Err Door) address count made calls = ((made ≡ 0) × (calls ≡ not_listened address ∷ [])) ⊎ ((made < count) × (calls ≡ ready_calls address made ++ not_shared ∷ []))
-ReadiesDoor (Err Memory) address count made calls = (made < count) × (calls ≡ ready_calls address made ++ no_room_to_share ∷ [])
+abbrev pub ReadiesDoor : {A : Type 0} → Result A Unready → Listening → ℕ → ℕ → List DoorCall → Type 0
+ReadiesDoor (Ok _) listening count made calls = (made ≡ count) × (calls ≡ ready_calls listening made)
+ReadiesDoor (Err Panel) listening count made calls = ⊥
+ReadiesDoor (Err Door) listening count made calls = ((made ≡ 0) × (calls ≡ not_listened listening ∷ [])) ⊎ ((made < count) × (calls ≡ ready_calls listening made ++ not_shared ∷ []))
+ReadiesDoor (Err Memory) listening count made calls = (made < count) × (calls ≡ ready_calls listening made ++ no_room_to_share ∷ [])
 
 -- The calls by which a panel was to be shared so many times, of which so many shares were made
 abbrev pub SharesPanel : {A : Type 0} → Result A Unready → ℕ → ℕ → List PanelCall → Type 0
@@ -42,16 +42,16 @@ pub record IsUnreached (workers : ℕ) (h : Head) (door door_now : DoorView) (do
   pub lost : HasFailedPanel h workers shares asked asked_now
 
 -- the door failed, where the panel was ready
-pub record IsUnheard (address : List ℕ) (workers : ℕ) (h : Head) (doors shares : ℕ) (door door_now : DoorView) (asked asked_now : PanelHistory) : Type 0 where
+pub record IsUnheard (listening : Listening) (workers : ℕ) (h : Head) (doors shares : ℕ) (door door_now : DoorView) (asked asked_now : PanelHistory) : Type 0 where
   pub all_shared : shares ≡ workers
   pub reached : HasCalledPanel (panel_calls h workers) asked asked_now
-  pub failed : HasFailed address workers doors door door_now
+  pub failed : HasFailed listening workers doors door door_now
 
 -- all is ready, or why not
 abbrev pub IsMade : {P A : Type 0} → (P → PanelHistory) → Plan → Head → DoorView → DoorView → PanelHistory → PanelHistory → List DoorView → List P → Result A Unready → Type 0
 IsMade panel plan h door door_now asked asked_now doors shares (Ok _) = AreReady panel plan h door door_now asked asked_now doors shares
 IsMade panel plan h door door_now asked asked_now doors shares (Err Panel) = IsUnreached plan.workers h door door_now doors (length shares) asked asked_now
-IsMade panel plan h door door_now asked asked_now doors shares (Err Door) = IsUnheard plan.address plan.workers h (length doors) (length shares) door door_now asked asked_now
+IsMade panel plan h door door_now asked asked_now doors shares (Err Door) = IsUnheard (listening_of plan) plan.workers h (length doors) (length shares) door door_now asked asked_now
 IsMade panel plan h door door_now asked asked_now doors shares (Err Memory) = IsHeld plan h (length doors) (length shares) door door_now asked asked_now
 
 -- the status with which a service ends that was not ready

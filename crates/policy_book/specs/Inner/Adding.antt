@@ -1,8 +1,9 @@
--- How the seat of a book changes with an entry.
-use Rattle.std.specs.Prelude.{◌≡◌, ◌<◌, ◌≤◌, List, [], ◌∷◌, ◌++◌, length, None}
+-- How a journal and the seat of its board change with an entry.
+use Rattle.std.specs.Prelude.{◌≡◌, ℕ, ◌<◌, ◌≤◌, List, [], ◌∷◌, ◌++◌, length, None}
 use Rattle.policy_history.specs.declared.events.Entry.{Entry}
 use Rattle.policy_history.specs.declared.heads.Head.{Head}
 use Rattle.verdict_words.specs.Histories.{IsPrefix, own}
+use Rattle.verdict_words.specs.Orders.{publishes}
 use Rattle.verdict_words.specs.declared.views.AtomicStep.{AtomicStep}
 use Rattle.verdict_words.specs.Values.{Identity, PassValue, SeatValue, met_seen}
 use Rattle.verdict_words.specs.declared.views.Item.TheVariants.{Met}
@@ -20,3 +21,11 @@ pub record IsAdded (old new : SeatValue Entry Head) (pass : PassValue Entry Head
   pub below : pass.session < old.next
   pub own_seen : own session_of old.entries pass.session ≡ own session_of pass.seen pass.session
   pub own_met : own session_of old.entries pass.session ≡ own session_of (met_seen pass) pass.session
+
+-- The entry behind so many was published, behind all that the book and the pass knew, and this is known since
+pub record IsPublished (known mine : List AtomicStep) (count : ℕ) (known_then : List AtomicStep) : Type 0 where
+  pub before : List AtomicStep
+  pub after : List AtomicStep
+  pub behind_book : IsPrefix known before
+  pub behind_pass : IsPrefix mine before
+  pub is : known_then ≡ before ++ publishes count ∷ after

@@ -6,5 +6,5 @@ told_of-told-requires-clause-snapped g c = (
   c.args.principal,
   c.args.op.now,
   c.args.object.now,
-  snapped_in_seen c.args.book.now c.args.board.now c.args.pass c.snap-pass.result.0 c.args.principal c.args.op.now c.args.object.now c.snap-pass.result.1 c.requires.board c.snap-pass.ensures.pass c.snap-pass.ensures.snapped,
+  snapped_in_seen _ c.args.board.now c.args.pass c.snap-pass.result.0 c.args.principal c.args.op.now c.args.object.now c.snap-pass.result.1 c.requires.board c.snap-pass.ensures.snapped,
 )

@@ -2,9 +2,9 @@ use Rattle.book_rows.proofs.Snapped.{snapped_in_seen}
 use Rattle.book_rows.proofs.calls.look.Goals as goal
 
 pub kept_of-kept-requires-clause-snapped : goal.kept_of-kept-requires-clause-snapped
-kept_of-kept-requires-clause-snapped c = (
+kept_of-kept-requires-clause-snapped g c = (
   c.args.principal,
   c.args.op.now,
   c.args.object.now,
-  snapped_in_seen c.args.book.now c.args.board.now c.args.pass c.snap-pass.result.0 c.args.principal c.args.op.now c.args.object.now c.snap-pass.result.1 c.requires.board c.snap-pass.ensures.pass c.snap-pass.ensures.snapped,
+  snapped_in_seen _ c.args.board.now c.args.pass c.snap-pass.result.0 c.args.principal c.args.op.now c.args.object.now c.snap-pass.result.1 c.requires.board c.snap-pass.ensures.snapped,
 )

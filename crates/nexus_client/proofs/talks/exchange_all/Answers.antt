@@ -9,6 +9,7 @@ loop-request-init g c = record {
   over = c.requires.over;
   is_open = c.requires.is_open;
   origin = record { place_is = refl; toward_is = refl };
+  admitted = refl;
   link_count = refl;
   output_count = refl;
 }
@@ -25,6 +26,7 @@ loop-request-preserved g c =
       over = e.passes.passes.over_is;
       is_open = e.is_open;
       origin = record { place_is = e.origin.place_is ∙ was.origin.place_is; toward_is = e.origin.toward_is ∙ was.origin.toward_is };
+      admitted = e.admitted ∙ was.admitted;
       link_count = e.link_count ∙ was.link_count;
       output_count = e.output_count ∙ was.output_count;
     }

@@ -10,6 +10,7 @@ invariant-loop-request g l = record {
   over : g.L.Link.over l.link ≡ false;
   is_open : g.L.Link.closed l.link ≡ false;
   origin : KeepsOrigin (g.L.Link.place l.fn.link) (g.L.Link.place l.link) (g.L.Link.toward l.fn.link) (g.L.Link.toward l.link);
+  admitted : g.L.Link.admitted l.link ≡ g.L.Link.admitted l.fn.link;
   link_count : g.L.Link.faults l.link ≡ g.L.Link.faults l.fn.link;
   output_count : g.K.Sink.faults l.output ≡ g.K.Sink.faults l.fn.output;
 }

@@ -3,7 +3,7 @@ use Rattle.std.proofs.Common.{refl}
 use Rattle.policy_history.specs.Values.{entry_trees}
 use Rattle.proof_lines.specs.Lines.{line_trees}
 use Rattle.answer_commands.proofs.ForCallers.{runs_as, runs_check}
-use Rattle.nexus_run.proofs.Commanded.{audit_commanded, check_commanded, compact_commanded, core_commanded, drill_commanded, explain_commanded, export_commanded, none_commanded, not_plain, prove_commanded, recover_commanded, script_commanded, trust_commanded}
+use Rattle.nexus_run.proofs.Commanded.{audit_commanded, check_commanded, compact_commanded, core_commanded, drill_commanded, explain_commanded, export_commanded, lasting_runs, none_commanded, not_plain, prove_commanded, recover_commanded, script_commanded, trust_commanded}
 use Rattle.nexus_run.proofs.LoadEnds.{runs_load}
 use Rattle.script_command.proofs.ForCallers.{has_more, more_nothing, runs_script}
 use Rattle.nexus_run.proofs.plain.run_plain.Goals as goal
@@ -18,7 +18,9 @@ pub returns-in-Some-Check-clause-command : goal.returns-in-Some-Check-clause-com
 returns-in-Some-Check-clause-command g c = check_commanded (rw c.in-Some-Check.field-0-is at c.in-Some-Check.ensures).1 (runs_check c.check.ensures.ends)
 
 pub returns-in-Some-Script-clause-command : goal.returns-in-Some-Script-clause-command
-returns-in-Some-Script-clause-command g c = script_commanded (rw c.in-Some-Script.field-0-is at c.in-Some-Script.ensures).1 (runs_script c.script.ensures.ends)
+returns-in-Some-Script-clause-command g c =
+    script_commanded (rw c.in-Some-Script.field-0-is at c.in-Some-Script.ensures).1
+    (lasting_runs _ _ _ _ _ _ _ _ c.lasting.ensures.sent (runs_script c.script-status.ensures.ends) c.lasting.ensures.ends)
 
 pub returns-in-Some-Trust-clause-command : goal.returns-in-Some-Trust-clause-command
 returns-in-Some-Trust-clause-command g c = trust_commanded (rw c.in-Some-Trust.field-0-is at c.in-Some-Trust.ensures).1 c.answer_input.ensures.runs
@@ -33,10 +35,13 @@ pub returns-in-Some-Explain-clause-command : goal.returns-in-Some-Explain-clause
 returns-in-Some-Explain-clause-command g c = explain_commanded (rw c.in-Some-Explain.field-0-is at c.in-Some-Explain.ensures).1 c.answer_input-in-Some-Explain.ensures.runs
 
 pub returns-in-Some-Recover-clause-command : goal.returns-in-Some-Recover-clause-command
-returns-in-Some-Recover-clause-command g c = recover_commanded (rw c.in-Some-Recover.field-0-is at c.in-Some-Recover.ensures).1 (runs_as (λ recovered. record { head = recovered.journal.head; entries = entry_trees recovered.journal.entries }) c.answer_input-in-Some-Recover.ensures.runs)
+returns-in-Some-Recover-clause-command g c = recover_commanded (rw c.in-Some-Recover.field-0-is at c.in-Some-Recover.ensures).1
+    (lasting_runs _ _ _ _ _ _ _ _ c.lasting-in-Some-Recover.ensures.sent
+    (runs_as (λ recovered. record { head = recovered.journal.head; entries = entry_trees recovered.journal.entries }) c.answer_input-status.ensures.runs) c.lasting-in-Some-Recover.ensures.ends)
 
 pub returns-in-Some-Compact-clause-command : goal.returns-in-Some-Compact-clause-command
-returns-in-Some-Compact-clause-command g c = compact_commanded (rw c.in-Some-Compact.field-0-is at c.in-Some-Compact.ensures).1 c.compact.ensures.runs
+returns-in-Some-Compact-clause-command g c = compact_commanded (rw c.in-Some-Compact.field-0-is at c.in-Some-Compact.ensures).1
+    (lasting_runs _ _ _ _ _ _ _ _ c.lasting-in-Some-Compact.ensures.sent c.compact-status.ensures.runs c.lasting-in-Some-Compact.ensures.ends)
 
 pub returns-in-Some-Compact-clause-unrecorded : goal.returns-in-Some-Compact-clause-unrecorded
 returns-in-Some-Compact-clause-unrecorded g c = λ other. absurd (other (rw c.in-Some-Compact.field-0-is at c.in-Some-Compact.ensures).1)
@@ -60,7 +65,7 @@ returns-in-Some-Drill-clause-command g c =
 -- ---- Only a script makes calls of the panel
 
 pub returns-in-Some-Script-clause-asked : goal.returns-in-Some-Script-clause-asked
-returns-in-Some-Script-clause-asked g c = has_more c.script.ensures.ends
+returns-in-Some-Script-clause-asked g c = has_more c.script-status.ensures.ends
 
 pub returns-in-Some-clause-asked : goal.returns-in-Some-clause-asked
 returns-in-Some-clause-asked g c = more_nothing refl

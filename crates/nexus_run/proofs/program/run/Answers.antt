@@ -11,14 +11,14 @@ use Rattle.nexus_run.proofs.program.run.Goals as goal
 pub returns-in-Some-clause-serve : goal.returns-in-Some-clause-serve
 returns-in-Some-clause-serve g c =
     let mine = c.in-Some.ensures in
-    λ address workers sessions words within.
-    let same = serve_same address workers sessions c.in-Some.service.address.now c.in-Some.service.workers c.in-Some.service.sessions within mine.0 (sym words ∙ mine.1) in
-    rw (same.0, same.1, same.2) (runs_service _ _ _ _ _ _ _ c.run_service.ensures.ends)
+    λ address workers sessions patience words within.
+    let same = serve_same address workers sessions patience c.in-Some.service.address.now c.in-Some.service.workers c.in-Some.service.sessions c.in-Some.service.patience within mine.0 (sym words ∙ mine.1) in
+    rw (same.0, same.1, same.2, same.3) (runs_service _ _ _ _ _ _ _ c.run_service.ensures.ends)
 
 pub returns-in-Some-clause-other_words : goal.returns-in-Some-clause-other_words
 returns-in-Some-clause-other_words g c =
     let mine = c.in-Some.ensures in
-    λ none. absurd (none (inr (inl (c.in-Some.service.address.now, c.in-Some.service.workers, c.in-Some.service.sessions, mine.0, mine.1))))
+    λ none. absurd (none (inr (inl (c.in-Some.service.address.now, c.in-Some.service.workers, c.in-Some.service.sessions, c.in-Some.service.patience, mine.0, mine.1))))
 
 pub returns-in-Some-clause-asked : goal.returns-in-Some-clause-asked
 returns-in-Some-clause-asked g c = service_more c.run_service.ensures.ends
@@ -51,3 +51,6 @@ returns-in-None-clause-other_words g c = λ none. c.run_plain-end.ensures.other_
 
 pub returns-in-Some-clause-earned : goal.returns-in-Some-clause-earned
 returns-in-Some-clause-earned g c = λ h es is. service_true h es c.run_service.ensures.ends is
+
+pub returns-in-None-clause-serve : goal.returns-in-None-clause-serve
+returns-in-None-clause-serve g c = λ address workers sessions patience words within. absurd (c.in_default.ensures address workers sessions patience within words)

@@ -56,7 +56,7 @@ pub returns-in-Ok-Some-clause-serve : goal.returns-in-Ok-Some-clause-serve
 returns-in-Ok-Some-clause-serve g c =
     let texts = rw (c.in-Ok-Some.field-0-is, c.as_slice.ensures.value, ← c.as_slice-in-Ok-Some.ensures.value) at c.in-Ok-Some.ensures in
     let same = texts ∙ c.in-Ok.ensures.words in
-    λ address workers sessions words within. rw c.from.ensures (c.run-ended.ensures.serve address workers sessions (same ∙ words) within)
+    λ address workers sessions patience words within. rw c.from.ensures (c.run-ended.ensures.serve address workers sessions patience (same ∙ words) within)
 
 pub returns-in-Ok-Some-clause-other_door : goal.returns-in-Ok-Some-clause-other_door
 returns-in-Ok-Some-clause-other_door g c =
@@ -96,7 +96,7 @@ returns-in-Ok-None-clause-command g c =
 pub returns-in-Ok-None-clause-serve : goal.returns-in-Ok-None-clause-serve
 returns-in-Ok-None-clause-serve g c =
     let none = not_command _ (rw (c.in-Ok-None.field-0-is, c.as_slice.ensures.value) at c.in-Ok-None.ensures) in
-    λ address workers sessions words within. absurd (none (inr (inl (address, workers, sessions, within, c.in-Ok.ensures.words ∙ words))))
+    λ address workers sessions patience words within. absurd (none (inr (inl (address, workers, sessions, patience, within, c.in-Ok.ensures.words ∙ words))))
 
 pub returns-in-Ok-None-clause-talk : goal.returns-in-Ok-None-clause-talk
 returns-in-Ok-None-clause-talk g c =

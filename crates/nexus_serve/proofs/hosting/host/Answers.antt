@@ -28,12 +28,12 @@ serve-served-requires-clause-numbers g c κs within =
 pub returns-in-Ok : goal.returns-in-Ok
 returns-in-Ok g c =
     let ready = rw (c.head.ensures) at c.in-Ok.ensures.made c.args.sessions in
-    record { hosted = served (map (door_view (link_view g.D.Link.Link.left g.D.Link.Link.taken g.D.Link.Link.sent g.D.Link.Link.over g.D.Link.Link.closed g.D.Link.Link.place g.D.Link.Link.toward g.D.Link.Link.faults) g.D.Door.links g.D.Door.origin g.D.Door.calls) c.make_ready-ready.new.doors.items) c.make_ready-ready.new.panels.items ready c.serve-served.ensures.served (c.status_of-status.ensures ∙ ap (λ (s : ServedView g.row.P.Denot). status_of s.written s.end) c.served.view_is) }
+    record { hosted = served (map (door_view (link_view g.D.Link.Link.left g.D.Link.Link.taken g.D.Link.Link.sent g.D.Link.Link.over g.D.Link.Link.closed g.D.Link.Link.admitted g.D.Link.Link.place g.D.Link.Link.toward g.D.Link.Link.faults) g.D.Door.links g.D.Door.origin g.D.Door.calls) c.make_ready-ready.new.doors.items) c.make_ready-ready.new.panels.items ready c.serve-served.ensures.served (c.status_of-status.ensures ∙ ap (λ (s : ServedView g.row.P.Denot). status_of s.written s.end) c.served.view_is) }
 
 pub returns-in-Err : goal.returns-in-Err
 returns-in-Err g c =
-    let plan : Plan = record { address = c.args.address.now; workers = c.args.workers; sessions = c.args.sessions } in
-    let viewed = link_view g.D.Link.Link.left g.D.Link.Link.taken g.D.Link.Link.sent g.D.Link.Link.over g.D.Link.Link.closed g.D.Link.Link.place g.D.Link.Link.toward g.D.Link.Link.faults in
+    let plan : Plan = record { address = c.args.address.now; patience = c.args.patience; workers = c.args.workers; sessions = c.args.sessions } in
+    let viewed = link_view g.D.Link.Link.left g.D.Link.Link.taken g.D.Link.Link.sent g.D.Link.Link.over g.D.Link.Link.closed g.D.Link.Link.admitted g.D.Link.Link.place g.D.Link.Link.toward g.D.Link.Link.faults in
     let door = door_view viewed g.D.Door.links g.D.Door.origin g.D.Door.calls in
     let seen = g.P.Panel.history in
     let doors = c.make_ready-ready.new.doors.items in

@@ -9,7 +9,7 @@ returns g c =
     record {
       closed = record {
         journal = e.journal;
-        sink_now = record { sent = g.K.Sink.sent c.write_end-journal.result.1; faults = g.K.Sink.faults c.write_end-journal.result.1 };
+        sink_now = record { sent = g.K.Sink.sent c.write_end-journal.result.1; synced = g.K.Sink.synced c.write_end-journal.result.1; faults = g.K.Sink.faults c.write_end-journal.result.1 };
         sink = refl;
         text = e.text;
         failed = e.failed;

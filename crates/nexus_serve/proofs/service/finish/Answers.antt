@@ -1,6 +1,5 @@
 use Rattle.std.proofs.Common.{All, ◌∙◌, ap, sym, subst}
 use Rattle.std.proofs.lemmas.List.Elements.{All-nil}
-use Rattle.nexus_serve.specs.Services.{SinkView}
 use Rattle.nexus_serve.specs.Inner.Gathering.{gathered_all, nothing, with_unused}
 use Rattle.nexus_serve.specs.Inner.Reporting.{IsReported}
 use Rattle.nexus_serve.proofs.Gathering.{IsOfBoard, all_of_board}
@@ -18,11 +17,10 @@ pub returns : goal.returns
 returns g c =
     let room = c.args.room in
     let is = c.gather.ensures.gathered ∙ ap (λ r. gathered_all r c.args.workers.items) c.requires.room.empty in
-    let start : SinkView = record { sent = c.args.book.start; faults = c.args.book.start_faults } in
-    let reported = subst (λ r. IsReported c.args.book start (with_unused r) c.report.result) is c.report.ensures.reported in
+    let reported = subst (λ r. IsReported c.args.book (with_unused r) c.report.result) is c.report.ensures.reported in
     let first = rw (← c.requires.board) at c.requires.first in
     rw (← c.requires.board)
     (record {
-      served = λ most hired stopped numbers.
-          finished g.P.Panel.history c.what_was_told_stays_told.ensures c.args.book start c.report.result most hired c.args.workers.items room.places room.spare stopped numbers reported c.args.total.now.amount c.gather.ensures.counted c.requires.failed first;
+      served = λ most synced hired stopped numbers.
+          finished g.P.Panel.history c.what_was_told_stays_told.ensures c.args.book synced c.report.result most hired c.args.workers.items room.places room.spare stopped numbers reported c.args.total.now.amount c.gather.ensures.counted c.requires.failed first;
     })

@@ -26,8 +26,8 @@ returns g c =
         failed = closed.failed;
         known = c.settle-passes.new.self.known;
         reports =
-            closed.reports_are ∙ ap (map (report_view (link_view g.D.Link.Link.left g.D.Link.Link.taken g.D.Link.Link.sent g.D.Link.Link.over g.D.Link.Link.closed g.D.Link.Link.place g.D.Link.Link.toward g.D.Link.Link.faults))) (c.with_passes-reports.ensures ∙ ap (λ l. l ++ raw_joined rests c.settle-passes.result.items) c.gathered.invariant.0)
-            ∙ joined_views (link_view g.D.Link.Link.left g.D.Link.Link.taken g.D.Link.Link.sent g.D.Link.Link.over g.D.Link.Link.closed g.D.Link.Link.place g.D.Link.Link.toward g.D.Link.Link.faults) rests c.settle-passes.result.items ∙ ap (joined (map (rest_view (link_view g.D.Link.Link.left g.D.Link.Link.taken g.D.Link.Link.sent g.D.Link.Link.over g.D.Link.Link.closed g.D.Link.Link.place g.D.Link.Link.toward g.D.Link.Link.faults)) rests)) passes;
+            closed.reports_are ∙ ap (map (report_view (link_view g.D.Link.Link.left g.D.Link.Link.taken g.D.Link.Link.sent g.D.Link.Link.over g.D.Link.Link.closed g.D.Link.Link.admitted g.D.Link.Link.place g.D.Link.Link.toward g.D.Link.Link.faults))) (c.with_passes-reports.ensures ∙ ap (λ l. l ++ raw_joined rests c.settle-passes.result.items) c.gathered.invariant.0)
+            ∙ joined_views (link_view g.D.Link.Link.left g.D.Link.Link.taken g.D.Link.Link.sent g.D.Link.Link.over g.D.Link.Link.closed g.D.Link.Link.admitted g.D.Link.Link.place g.D.Link.Link.toward g.D.Link.Link.faults) rests c.settle-passes.result.items ∙ ap (joined (map (rest_view (link_view g.D.Link.Link.left g.D.Link.Link.taken g.D.Link.Link.sent g.D.Link.Link.over g.D.Link.Link.closed g.D.Link.Link.admitted g.D.Link.Link.place g.D.Link.Link.toward g.D.Link.Link.faults)) rests)) passes;
         doors = closed.doors_are;
         panels = closed.panels_are;
         end = closed.end;

@@ -21,7 +21,7 @@ returns-in-Ok-make g c =
     let entries : c.into_parts-journal.result.0.entries ≡ c.args.journal.entries = parts.entries ∙ ap (λ book. book.entries) kept ∙ ap (λ book. book.entries) made.book ∙ ap (λ origin. origin.opening) made.board in
     let sink : c.into_parts-journal.result.1 ≡ c.args.sink = parts.sink ∙ ap (λ book. book.sink) kept ∙ ap (λ book. book.sink) made.book in
     let journal = rw (head, entries) at e.journal in
-    let view : g.row.K.Denot → SinkView = λ k. record { sent = g.K.Sink.sent k; faults = g.K.Sink.faults k } in
+    let view : g.row.K.Denot → SinkView = λ k. record { sent = g.K.Sink.sent k; synced = g.K.Sink.synced k; faults = g.K.Sink.faults k } in
     record {
       served = no_memory journal (e.sink ∙ ap (λ k. Some (view k)) sink) e.back.reports e.back.doors_are e.back.panels_are e.back.written e.end;
       earned = λ es is. none_true c.args.journal.head (entry_trees es) (length c.args.journal.entries) _ e.back.reports;

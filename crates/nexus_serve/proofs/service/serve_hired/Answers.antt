@@ -32,9 +32,9 @@ returns g c =
     let count = e.count ∙ ap length lent in
     let done = subst (λ workers. (i : ℕ) (d : WorkerValue g.row.P.Denot) → i < length workers → IsDone g.P.Panel.history c.args.board.now (slice_index_or c.let_work-book.new.workers i d).unrecorded (slice_index_or workers i d) (slice_index_or c.let_work-book.new.workers i d)) lent e.done in
     record {
-      served = λ most hired next.
+      served = λ most synced hired next.
           rw (named.2, named.3)
-          (c.finish.ensures.served most c.args.workers.items
+          (c.finish.ensures.served most synced c.args.workers.items
           (subst (AreDone g.P.Panel.history c.args.board.now c.args.board.now.origin.first most c.args.workers.items) (sym is) (all_done g.P.Panel.history c.args.board.now c.args.board.now.origin.first most c.args.workers.items c.let_work-book.new.workers hired count done))
           (sym named.1 ∙ next ∙ ap (λ n. c.args.board.now.origin.first + n * most) (sym (ap length is ∙ count))));
     }

@@ -10,8 +10,8 @@ returns-clause-text g c =
     let written = c.broken-is_broken.ensures.written in
     let value = c.broken-is_broken.ensures.value in
     let kept = rw (c.into_parts-journal.ensures.sink) at c.end_unless-sink.ensures in
-    let view : g.row.K.Denot → SinkView = λ k. record { sent = g.K.Sink.sent k; faults = g.K.Sink.faults k } in
-    text_sent (head_of c.args.book) (trees_of c.args.book) (record { sent = c.args.book.start; faults = c.args.book.start_faults }) (view c.args.book.sink) (view c.end_unless-sink.result.0)
+    let view : g.row.K.Denot → SinkView = λ k. record { sent = g.K.Sink.sent k; synced = g.K.Sink.synced k; faults = g.K.Sink.faults k } in
+    text_sent (head_of c.args.book) (trees_of c.args.book) c.args.book.start c.args.book.start_faults (view c.args.book.sink) (view c.end_unless-sink.result.0)
     c.end_unless-sink.result.1 c.broken-is_broken.result (rw (c.requires.opened, ← value) at written.text) (λ is. written.failed (sym value ∙ is)) (λ is. written.unbroken (sym value ∙ is))
     (λ is. (ap view (kept.broken is).0, (kept.broken is).1)) (λ is. kept.sent is)
 

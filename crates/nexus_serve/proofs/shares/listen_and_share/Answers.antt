@@ -11,7 +11,7 @@ returns-in-Ready-clause-shared g c =
 pub returns-in-Ready-clause-calls : goal.returns-in-Ready-clause-calls
 returns-in-Ready-clause-calls g c =
     let e = c.share_door.ensures in (
-      listened c.args.address.now ∷ e.calls.0,
-      e.calls.1 ∙ ap (λ cs. cs ++ e.calls.0) c.in-Ready.ensures.calls ∙ append_assoc (g.D.Door.calls c.args.door.now) (listened c.args.address.now ∷ []) e.calls.0,
-      readies c.share_door.result c.args.address.now c.args.count (length c.share_door.new.shares.items) e.calls.0 e.calls.2,
+      listened (record { address = c.args.address.now; patience = c.args.patience }) ∷ e.calls.0,
+      e.calls.1 ∙ ap (λ cs. cs ++ e.calls.0) c.in-Ready.ensures.calls ∙ append_assoc (g.D.Door.calls c.args.door.now) (listened (record { address = c.args.address.now; patience = c.args.patience }) ∷ []) e.calls.0,
+      readies c.share_door.result (record { address = c.args.address.now; patience = c.args.patience }) c.args.count (length c.share_door.new.shares.items) e.calls.0 e.calls.2,
     )

@@ -20,4 +20,5 @@ loop-done-preserved g c =
         place_is = more.origin.place_is ∙ kept.3.place_is;
         toward_is = more.origin.toward_is ∙ kept.3.toward_is;
       },
+      more.admitted ∙ kept.4,
     )

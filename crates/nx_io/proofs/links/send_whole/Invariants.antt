@@ -9,6 +9,7 @@ invariant-loop-done g l =
     × (g.L.Link.closed l.link ≡ g.L.Link.closed l.fn.link)
     × KeepsComing (g.L.Link.left l.fn.link) (g.L.Link.left l.link) (g.L.Link.taken l.fn.link) (g.L.Link.taken l.link) (g.L.Link.over l.fn.link) (g.L.Link.over l.link)
     × KeepsOrigin (g.L.Link.place l.fn.link) (g.L.Link.place l.link) (g.L.Link.toward l.fn.link) (g.L.Link.toward l.link)
+    × (g.L.Link.admitted l.link ≡ g.L.Link.admitted l.fn.link)
 
 abbrev pub decreases-loop-done : goal.decreases-loop-done
 decreases-loop-done g l = length l.piece - l.done

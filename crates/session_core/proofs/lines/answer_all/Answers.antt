@@ -1,4 +1,4 @@
-use Rattle.std.proofs.Common.{◌≡◌, ◌+◌, ◌++◌, ◌<◌, ◌∷◌, [], length, take, refl, ap, sym, subst, ◌∙◌, arith, None, Option, ℕ, List, IfSome}
+use Rattle.std.proofs.Common.{◌≡◌, ◌+◌, ◌<◌, ◌∷◌, [], length, take, refl, ap, subst, ◌∙◌, arith, None, Option, ℕ, List, IfSome}
 use Rattle.std.proofs.lemmas.List.{length-append, length-set, take_all}
 use Rattle.std.proofs.lemmas.List.Elements.{All-replicate, All-set}
 use Rattle.authority_ask.specs.PanelCalls.{asked_since}

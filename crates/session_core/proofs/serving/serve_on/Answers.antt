@@ -8,7 +8,7 @@ use Rattle.session_core.proofs.serving.serve_on.Goals as goal
 pub returns-clause-served : goal.returns-clause-served
 returns-clause-served g c =
     elim c.match-new.branch [
-      | in-Ok w ↦ rw (c.close.ensures.coming.taken_is, c.close.ensures.sent, w.end-is, w.journal-is, w.link-is, w.panel-is) (
+      | in-Ok w ↦ rw (c.close.ensures.coming.taken_is, c.close.ensures.sent, c.close.ensures.admitted, w.end-is, w.journal-is, w.link-is, w.panel-is) (
           let sat = w.serve_sitting.ensures.served in
           record {
             requests = sat.requests;
@@ -17,13 +17,15 @@ returns-clause-served g c =
             ended = sat.ended;
             told = sat.told.told;
             entries = refl;
+            admitted_is = w.serve_sitting.ensures.admitted;
           })
-      | in-Err w ↦ rw (c.close.ensures.coming.taken_is, c.close.ensures.sent, w.end-is, w.journal-is, w.link-is, w.panel-is) (record {
+      | in-Err w ↦ rw (c.close.ensures.coming.taken_is, c.close.ensures.sent, c.close.ensures.admitted, w.end-is, w.journal-is, w.link-is, w.panel-is) (record {
         requests = [];
         replies = [];
         last = at_first (entry_trees c.args.journal.now.entries);
         ended = no_memory refl c.requires.taken c.requires.sent refl refl;
         told = (since_nothing (g.P.Panel.history c.args.panel.now), refl);
         entries = refl;
+        admitted_is = c.requires.admitted;
       })
     ]

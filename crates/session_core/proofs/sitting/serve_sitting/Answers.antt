@@ -25,11 +25,15 @@ loop-init g c = record {
   over = c.requires.over;
   is_open = c.requires.is_open;
   origin = record { place_is = refl; toward_is = refl };
+  admitted = c.requires.admitted;
   link = refl;
 }
 
 pub serve_framed-next-requires-clause-is_open : goal.serve_framed-next-requires-clause-is_open
 serve_framed-next-requires-clause-is_open g c = c.next-framed.ensures.going.closed_is ∙ c.loop.invariant.is_open
+
+pub serve_framed-next-requires-clause-admitted : goal.serve_framed-next-requires-clause-admitted
+serve_framed-next-requires-clause-admitted g c = c.next-framed.ensures.admitted ∙ c.loop.invariant.admitted
 
 pub returns-in-Some-clause-served : goal.returns-in-Some-clause-served
 returns-in-Some-clause-served g c =
@@ -86,5 +90,6 @@ loop-preserved g c =
         place_is = c.serve_framed-next.ensures.origin.place_is ∙ c.next-framed.ensures.origin.place_is ∙ inv.origin.place_is;
         toward_is = c.serve_framed-next.ensures.origin.toward_is ∙ c.next-framed.ensures.origin.toward_is ∙ inv.origin.toward_is;
       };
+      admitted = c.serve_framed-next.ensures.admitted;
       link = count ∙ kept.1;
     }

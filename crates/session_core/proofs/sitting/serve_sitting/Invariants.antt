@@ -14,5 +14,6 @@ invariant-loop g l = record {
   over : g.L.Link.over l.link ≡ false;
   is_open : g.L.Link.closed l.link ≡ false;
   origin : KeepsOrigin (g.L.Link.place l.fn.link) (g.L.Link.place l.link) (g.L.Link.toward l.fn.link) (g.L.Link.toward l.link);
+  admitted : g.L.Link.admitted l.link ≡ g.S.Sitting.admitted l.sitting;
   link : g.L.Link.faults l.link ≡ g.L.Link.faults l.fn.link;
 }

@@ -8,3 +8,7 @@ ghosts-serve_passes-N-BookNaming g a = record { board = Some a.board.now; next =
 -- the ledger that counts in it
 abbrev pub ghosts-serve_passes-T-Ledger : goal.ghosts-serve_passes-T-Ledger
 ghosts-serve_passes-T-Ledger g a = record { name = a.blank.name; parts = a.blank.parts }
+
+-- and the one that says where its pen is
+abbrev pub ghosts-serve_passes-W-Ledger : goal.ghosts-serve_passes-W-Ledger
+ghosts-serve_passes-W-Ledger g a = record { name = a.turns.name; parts = a.turns.parts }

@@ -25,5 +25,6 @@ loop-done-preserved g c =
           ∙ over-ends (take done into) (take n part) (g.L.Link.over c.args.link.now) (omega (arith, length-take-le n part more.within.1, more.within.0)));
       going = going-then kept.going more.going;
       origin = origin-then kept.origin more.origin;
+      admitted = more.admitted ∙ kept.admitted;
       count = more.count ∙ kept.count;
     }

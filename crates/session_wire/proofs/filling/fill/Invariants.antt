@@ -12,6 +12,7 @@ invariant-loop-done g l = record {
   over : g.L.Link.over l.link ≡ over_after_taking (take l.done l.into) (g.L.Link.over l.fn.link);
   going : KeepsGoing (g.L.Link.sent l.fn.link) (g.L.Link.sent l.link) (g.L.Link.closed l.fn.link) (g.L.Link.closed l.link);
   origin : KeepsOrigin (g.L.Link.place l.fn.link) (g.L.Link.place l.link) (g.L.Link.toward l.fn.link) (g.L.Link.toward l.link);
+  admitted : g.L.Link.admitted l.link ≡ g.L.Link.admitted l.fn.link;
   count : g.L.Link.faults l.link ≡ g.L.Link.faults l.fn.link;
 }
 

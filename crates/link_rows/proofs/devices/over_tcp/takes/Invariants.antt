@@ -2,4 +2,4 @@ use Rattle.std.proofs.Common.{◌≡◌, false}
 use Rattle.link_rows.proofs.devices.over_tcp.takes.Given as goal
 
 abbrev pub invariant-loop : goal.invariant-loop
-invariant-loop l = l.link.stream.shut ≡ false
+invariant-loop g l = l.link.stream.shut ≡ false

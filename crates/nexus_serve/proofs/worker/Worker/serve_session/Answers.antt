@@ -21,7 +21,7 @@ returns g c =
           session = c.serve_link-report.result.session;
           who = c.serve_link-report.result.principal;
           end = c.serve_link-report.result.end;
-          link = link_view g.D.Link.Link.left g.D.Link.Link.taken g.D.Link.Link.sent g.D.Link.Link.over g.D.Link.Link.closed g.D.Link.Link.place g.D.Link.Link.toward g.D.Link.Link.faults c.serve_link-report.result.link;
+          link = link_view g.D.Link.Link.left g.D.Link.Link.taken g.D.Link.Link.sent g.D.Link.Link.over g.D.Link.Link.closed g.D.Link.Link.admitted g.D.Link.Link.place g.D.Link.Link.toward g.D.Link.Link.faults c.serve_link-report.result.link;
           pass = c.serve_link-report.result.pass;
         };
         used = c.in-Some.ensures.items;
@@ -30,7 +30,7 @@ returns g c =
         door = refl;
         failed = refl;
         room = omega (arith, len, capacity);
-        from = record { bytes = e.bytes; place = e.origin.place_is; toward = e.origin.toward_is; over = e.over; closed = e.closed; faults = e.link_count };
+        from = record { bytes = e.bytes; place = e.origin.place_is; toward = e.origin.toward_is; over = e.over; closed = e.closed; admitted = e.admitted; faults = e.link_count };
         session = e.session.0;
         pass_session = e.session.1 ∙ sym e.session.0;
         board_is = e.board;
