@@ -1,8 +1,8 @@
 #!/usr/bin/env bash
 # Runs each example of `nexus check`, `script`, `trust`, `prove`, `audit`, `explain` and `recover` and compares what it prints, byte for byte, and its exit
 # status; has `nexus check` check each proof that was found; then the other ways in which the program ends; then plays `nexus serve`,
-# where there is a Python of 3.9 or later; then the commands of README and TOUR, the recipes of docs/OPERATING.md, the client for
-# programs, and the manual page; then the client in Go, what stands beside web
+# also with peers that hold workers and over local sockets, where there is a Python of 3.9 or later; then the commands of README and
+# TOUR, the recipes of docs/OPERATING.md, the client for programs, and the manual page; then the client in Go, what stands beside web
 # servers, a tunnel, and pictures of proofs.
 #
 #   examples/run.sh [PROGRAM]     PROGRAM is ./nexus at the top of the repository where none is given
@@ -181,6 +181,15 @@ if ! python3 -c 'import sys; sys.exit(sys.version_info < (3, 9))' 2>/dev/null; t
     echo "serve: skipped, since there is no python3 of 3.9 or later"
 elif ! python3 -B "$examples/serve/run.py" "$built"; then
     failed=$((failed + 1))
+fi
+
+# Peers that hold workers, what a change that is done has behind it, and local sockets.
+if ! python3 -c 'import sys; sys.exit(sys.version_info < (3, 9))' 2>/dev/null; then
+    echo "patience, lasting, local: skipped, since there is no python3 of 3.9 or later"
+else
+    python3 -B "$examples/patience/run.py" "$built" || failed=$((failed + 1))
+    python3 -B "$examples/lasting/run.py" "$built" || failed=$((failed + 1))
+    python3 -B "$examples/local/run.py" "$built" || failed=$((failed + 1))
 fi
 
 # Labels carried from one service to another.

@@ -1,9 +1,10 @@
 // A load for `nexus serve`: each connection sends DEPTH requests at once, and the next when the replies to all of them were read.
 //
-//   load PORT CONNECTIONS COUNT DEPTH call|miss|say
-//   load PORT churn
+//   load PLACE CONNECTIONS COUNT DEPTH call|miss|say
+//   load PLACE churn
 //
-// Connection K is principal pK with the secret sK, and asks COUNT times: for a call of `read oK` that is allowed, of `miss oK` that is denied,
+// PLACE is a port of the loopback, or the path of a local socket.
+// Connection K, of at most 1,024, is principal pN with the secret sN, N being K modulo 60, and asks COUNT times: for a call of `read oN` that is allowed, of `miss oN` that is denied,
 // or to say a label. Prints the requests a second of all connections, and how many microseconds 99 of 100 requests waited at most. With
 // `churn` principal pC says a label and takes it back, 500 changes a second, until it is killed. Ends with 1 at a reply of another kind than the due one.
 #include <arpa/inet.h>
@@ -12,6 +13,7 @@
 #include <stdio.h>
 #include <stdlib.h>
 #include <string.h>
+#include <sys/un.h>
 #include <time.h>
 #include <unistd.h>
 
@@ -22,8 +24,8 @@ struct Frame {
     int length;
 };
 
-static int port, count, depth;
-static const char *kind;
+static int count, depth;
+static const char *place, *kind;
 static double *waits;
 static pthread_barrier_t admitted;
 
@@ -83,16 +85,30 @@ static double now(void) {
     return time.tv_sec * 1e6 + time.tv_nsec / 1e3;
 }
 
-static int dial(void) {
-    struct sockaddr_in peer = {.sin_family = AF_INET, .sin_port = htons(port), .sin_addr.s_addr = htonl(INADDR_LOOPBACK)};
-    int one = 1;
-    for (int turn = 0; turn < 1000; turn++) {
-        int link = socket(AF_INET, SOCK_STREAM, 0);
+// A connection to the place, or -1.
+static int connected(void) {
+    int link, one = 1;
+    if (place[0] == '/') {
+        struct sockaddr_un peer = {.sun_family = AF_UNIX};
+        strncpy(peer.sun_path, place, sizeof peer.sun_path - 1);
+        link = socket(AF_UNIX, SOCK_STREAM, 0);
+        if (connect(link, (struct sockaddr *)&peer, sizeof peer) == 0) return link;
+    } else {
+        struct sockaddr_in peer = {.sin_family = AF_INET, .sin_port = htons(atoi(place)), .sin_addr.s_addr = htonl(INADDR_LOOPBACK)};
+        link = socket(AF_INET, SOCK_STREAM, 0);
         if (connect(link, (struct sockaddr *)&peer, sizeof peer) == 0) {
             setsockopt(link, IPPROTO_TCP, TCP_NODELAY, &one, sizeof one);
             return link;
         }
-        close(link);
+    }
+    close(link);
+    return -1;
+}
+
+static int dial(void) {
+    for (int turn = 0; turn < 1000; turn++) {
+        int link = connected();
+        if (link >= 0) return link;
         usleep(10000);
     }
     exit(1);
@@ -118,14 +134,14 @@ static void say(struct Frame *frame, const char *name) {
     end(frame);
 }
 
-static void *run(void *place) {
-    long k = (long)place;
+static void *run(void *number) {
+    long k = (long)number;
     char name[8], secret[8], object[8];
     unsigned char reply[64], burst[MOST_DEPTH * 256];
     struct Frame frame;
-    snprintf(name, sizeof name, "p%ld", k);
-    snprintf(secret, sizeof secret, "s%ld", k);
-    snprintf(object, sizeof object, "o%ld", k);
+    snprintf(name, sizeof name, "p%ld", k % 60);
+    snprintf(secret, sizeof secret, "s%ld", k % 60);
+    snprintf(object, sizeof object, "o%ld", k % 60);
     int due = strcmp(kind, "say") == 0 ? DONE : strcmp(kind, "call") == 0 ? ALLOWED : DENIED;
     int link = admit(name, secret);
     if (due == DONE) {
@@ -177,18 +193,18 @@ static int by_size(const void *a, const void *b) {
 
 int main(int words, char **word) {
     if (words == 3) {
-        port = atoi(word[1]);
+        place = word[1];
         churn();
     }
     if (words != 6) return 2;
-    port = atoi(word[1]);
+    place = word[1];
     int connections = atoi(word[2]);
     count = atoi(word[3]);
     depth = atoi(word[4]);
     kind = word[5];
-    if (depth < 1 || depth > MOST_DEPTH || count % depth != 0) return 2;
+    if (connections < 1 || connections > 1024 || depth < 1 || depth > MOST_DEPTH || count % depth != 0) return 2;
     waits = malloc(sizeof *waits * connections * count);
-    pthread_t threads[64];
+    pthread_t threads[1024];
     pthread_barrier_init(&admitted, NULL, connections + 1);
     for (long k = 0; k < connections; k++) pthread_create(&threads[k], NULL, run, (void *)k);
     pthread_barrier_wait(&admitted);

@@ -3,7 +3,9 @@
 # answers, calls of a proof of four lines that is checked anew each time (a label of it is missing, and such a denial is not kept), and writes; with
 # 1 and with 4 connections, each of which waits for the reply to one request before the next, and kept calls also 32 at a time; with a journal of
 # few entries and with one of 200,000; and calls while another session changes the policy 500 times a second. Beside them what redis-server does
-# with GET and, with an append-only file that is not synced, with SET.
+# with GET and, with an append-only file that is synced behind each write (`appendfsync always`), as the service's text is, with SET. Then writes on 16
+# connections, kept calls over a local socket beside redis over one of its own, and how calls that are checked anew fare while a writer writes as fast
+# as it can, beside those without it.
 # Then the kept calls that the clients for programs make: that in Python, and that in Go where there is Go.
 # It needs the built program (./nexus builds it), a C compiler and, for the ratios, redis-server and redis-benchmark (Debian's redis-server).
 # CALLS is how many calls a connection makes (64000). The writes of a connection are 3,840, as one principal may have few more.
@@ -45,16 +47,23 @@ policy() {
 }
 
 if command -v redis-server >/dev/null && command -v redis-benchmark >/dev/null; then
-    redis-server --port $((port + 1)) --save '' --appendonly yes --appendfsync no --dir "$work" >/dev/null &
+    mkdir "$work/get" "$work/set"
+    redis-server --port $((port + 1)) --unixsocket "$work/redis" --save '' --appendonly no --dir "$work/get" >/dev/null &
     redis=$!
+    redis-server --port $((port + 2)) --save '' --appendonly yes --appendfsync always --dir "$work/set" >/dev/null &
+    redis="$redis $!"
 else
     echo "without redis, as there is no redis-server or no redis-benchmark here"
 fi
 
-# row TEXT "RATE WAIT" COMMAND CONNECTIONS COUNT DEPTH: prints a row of the table, with what redis does in place of it.
+# row TEXT "RATE WAIT" COMMAND CONNECTIONS COUNT DEPTH [SOCKET]: prints a row of the table, with what redis does in place of it.
 row() {
     peer='- -'
-    [ -z "$redis" ] || peer=$(redis-benchmark -p $((port + 1)) -t "$3" -c "$4" -P "$6" -n $(($4 * $5)) --csv |
+    where="-p $((port + 1))"
+    [ "$3" != set ] || where="-p $((port + 2))"
+    [ -z "${7:-}" ] || where="-s $7"
+    # shellcheck disable=SC2086
+    [ -z "$redis" ] || peer=$(redis-benchmark $where -t "$3" -c "$4" -P "$6" -n $(($4 * $5)) --csv |
         awk -F'"' 'tolower($2) == "'"$3"'" { print int($4), int($14 * 1000) }')
     echo "$2 $peer" | awk -v text="$1" '{
         printf "%-44s %9d %9s %6s %9d %9s\n", text, $1, $3, $3 == "-" ? "-" : sprintf("%.2f", $1 / $3), $2, $4 }'
@@ -86,6 +95,29 @@ for entries in 0 200000; do
         row "calls anew amid changes, $of" "$busy_anew" get "$connections" "$calls" 1
     done
 done
+
+# Writes of 16 connections.
+policy 16 0 | "$program" serve "127.0.0.1:$port" 17 64 >"$work/after" &
+service=$!
+said=$("$work/load" "$port" 16 "$writes" 1 say)
+kill "$service" || true
+wait "$service" 2>/dev/null || true
+service=''
+row "writes, 16 connections" "$said" set 16 "$writes" 1
+
+# A local socket, and calls beside a writer at full speed: its writes take a principal's own entries, so it gets fewer of them.
+policy 2 0 | "$program" serve "unix:$work/nexus" 3 64 >"$work/after" &
+service=$!
+local=$("$work/load" "$work/nexus" 1 "$calls" 1 call)
+alone=$("$work/load" "$work/nexus" 1 "$calls" 1 miss)
+"$work/load" "$work/nexus" 2 "$writes" 1 say >/dev/null &
+other=$!
+beside=$("$work/load" "$work/nexus" 1 $((writes / 2)) 1 miss)
+kill "$other" "$service" 2>/dev/null || true
+wait "$other" "$service" 2>/dev/null || true
+other='' service=''
+row "kept calls over a local socket" "$local" get 1 "$calls" 1 "$work/redis"
+echo "$alone $beside" | awk '{ printf "calls anew beside a writer at full speed: %d a second, without it %d, ratio %.2f\n", $3, $1, $3 / $1 }'
 
 # The clients for programs, beside each other. That in Python makes a quarter of the calls.
 if command -v go >/dev/null; then

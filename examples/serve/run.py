@@ -23,10 +23,11 @@ import time
 from collections.abc import Callable, Iterable
 from concurrent.futures import ThreadPoolExecutor
 from pathlib import Path
-from typing import IO, NamedTuple
+from typing import IO, NamedTuple, TypeVar
 
 from client import Client, Ended, frame, frame_of_line, line_of
 
+S = TypeVar("S", bound="Service")
 FOLDER = Path(__file__).parent
 program = ""
 passed: set[str] = set()
@@ -58,15 +59,18 @@ def head(names: Iterable[str]) -> str:
 class Service:
     """A running service, which reads a policy and writes the policy text to a file. It is killed where it has not ended."""
 
-    def __init__(self, policy: str, workers: int, sessions: int) -> None:
-        self.address = f"127.0.0.1:{free_port()}"
-        self.output = tempfile.NamedTemporaryFile()
-        words = [program, "serve", self.address, str(workers), str(sessions)]
-        self.process = subprocess.Popen(words, stdin=subprocess.PIPE, stdout=self.output)
+    def __init__(self, policy: str, workers: int, sessions: int, *patience: int, address: str = "", folder: str | None = None) -> None:
+        self.address = address or f"127.0.0.1:{free_port()}"
+        self.output = tempfile.NamedTemporaryFile(dir=folder)
+        self.process = self.start([program, "serve", self.address, str(workers), str(sessions), *map(str, patience)])
         self.process.stdin.write(policy.encode())
         self.process.stdin.close()
 
-    def __enter__(self) -> "Service":
+    def start(self, words: list[str]) -> subprocess.Popen[bytes]:
+        """The process of these words. Its standard input is a pipe."""
+        return subprocess.Popen(words, stdin=subprocess.PIPE, stdout=self.output)
+
+    def __enter__(self: S) -> S:
         return self
 
     def __exit__(self, *_: object) -> None:
@@ -162,21 +166,25 @@ bob: call read report 0                         -> denied 16 NoProof
 """
 
 
-def play_day() -> None:
+def ask_day(address: str) -> str:
     """Three sessions, each request behind the reply to the one before. The first goal is shown by a label of the owner that hands reading
-    to alice; a clock answers for the owner until the year 2100."""
-    names = ["storage", "alice", "bob"]
+    to alice; a clock answers for the owner until the year 2100. The policy text that is written of it."""
+    sessions = {name: Session(address, name) for name in ["storage", "alice", "bob"]}
+    check("the sessions", sorted(session.number for session in sessions.values()), [1, 2, 3])
+    for number, line in enumerate(DAY.strip().splitlines(), 1):
+        name, _, rest = line.partition(": ")
+        request, _, wanted = rest.rpartition("->")
+        check(f"line {number} of the day, {request.strip()}", sessions[name].ask(request.rstrip()), wanted.strip())
+    for session in sessions.values():
+        session.close()
+    numbers = {name: str(session.number) for name, session in sessions.items()}
+    return string.Template((FOLDER / "day.after").read_text()).substitute(numbers)
+
+
+def play_day() -> None:
+    """The day over TCP."""
     with Service((FOLDER / "policy").read_text(), 3, 1) as service:
-        sessions = {name: Session(service.address, name) for name in names}
-        check("the sessions", sorted(session.number for session in sessions.values()), [1, 2, 3])
-        for number, line in enumerate(DAY.strip().splitlines(), 1):
-            name, _, rest = line.partition(": ")
-            request, _, wanted = rest.rpartition("->")
-            check(f"line {number} of the day, {request.strip()}", sessions[name].ask(request.rstrip()), wanted.strip())
-        for session in sessions.values():
-            session.close()
-        numbers = {name: str(session.number) for name, session in sessions.items()}
-        text = string.Template((FOLDER / "day.after").read_text()).substitute(numbers)
+        text = ask_day(service.address)
         check("the end of the day", service.end(), (0, text))
 
 
@@ -466,8 +474,10 @@ def play_statuses() -> None:
     here = f"127.0.0.1:{free_port()}"
     start = [here, "1", "1"]
     for words in [
-        [], [here], [here, "1"], [here, "1", "1", "1"], [here, "0", "1"], [here, "65", "1"], [here, "1", "0"], [here, "1", "65537"], [here, "01", "1"],
-        [here, "1", "+1"], [here, "1", "-1"], [here, "1", ""], ["", "1", "1"], ["help", "1", "1"], ["-" + here, "1", "1"], ["a" * 65, "1", "1"], ["a b", "1", "1"],
+        [], [here], [here, "1"], [here, "0", "1"], [here, "1025", "1"], [here, "1", "0"], [here, "1", "65537"], [here, "01", "1"], [here, "1", "+1"],
+        [here, "1", "-1"], [here, "1", ""], [here, "1", "1", "0"], [here, "1", "1", "86401"], [here, "1", "1", "01"], [here, "1", "1", "1.5"],
+        [here, "1", "1", ""], [here, "1", "1", "1", "1"], ["", "1", "1"], ["help", "1", "1"], ["-" + here, "1", "1"], ["a" * 65, "1", "1"],
+        ["a b", "1", "1"],
     ]:  # fmt: skip
         check(f"the words serve {words}", run(words, one + "end\n"), (2, ""))
     for what, policy, line in [
@@ -630,8 +640,10 @@ def take_away_and_give(owner: Session, readers: list[Session]) -> None:
 
 
 def play_fresh() -> None:
+    """The text stands in memory, where there is a folder for that: each of 20,000 changes is synced before it is answered."""
     owners = [f"owner{number}" for number in range(OWNERS)]
-    with Service(head(owners + READERS) + "end\n", 4, OWNERS + len(READERS)) as service:
+    folder = "/dev/shm" if os.access("/dev/shm", os.W_OK) else None
+    with Service(head(owners + READERS) + "end\n", 4, OWNERS + len(READERS), folder=folder) as service:
         readers = [Session(service.address, name) for name in READERS]
         for name in owners:
             with Session(service.address, name) as owner:

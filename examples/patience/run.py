@@ -1,0 +1,372 @@
+#!/usr/bin/env python3
+"""Plays peers that would hold all workers of `nexus serve`: silent ones, ones that send a byte a second, refused hellos, admitted ones
+that sleep or read nothing, and garbage. Others are served meanwhile, and who lets the service wait for too long is given up. What is
+wanted stands here, and comes from docs/OPERATING.md, "Peers that are silent, and local sockets".
+
+    examples/patience/run.py PROGRAM
+
+prints what differs first and ends with 1, or prints `N checks of patience pass` and ends with 0.
+"""
+from __future__ import annotations
+
+import math
+import multiprocessing
+import resource
+import selectors
+import socket
+import sys
+import time
+from concurrent.futures import ThreadPoolExecutor
+from multiprocessing.connection import Connection
+from pathlib import Path
+
+sys.path.insert(0, str(Path(__file__).resolve().parents[1] / "serve"))
+
+import run as services
+from client import frame, frame_of_line
+from run import Differs, Service, Session, check, head
+
+# When a peer is closed that is not admitted: after ten seconds, give or take what clocks and a busy machine do.
+SOONEST, LATEST = 9, 13
+# So many seconds may 99 of 100 calls take, and a new client until it is welcome.
+CALL, WELCOME = 0.05, 5
+TRIES, CALLS = 3, 600
+# So many files may the service have open, and so many peers of each kind there are where it may.
+FILES, WORKERS = 8192, 1024
+CROWD = {"silent": 700, "slow": 100, "wrong": 10, "deaf": 100, "asleep": 64, "garbage": 1}
+
+HELLO = frame_of_line("hello crowd crowd-secret")
+WRONG = frame_of_line("hello crowd wrong-secret")
+CALLING = frame_of_line("call read nothing 0") * 100
+# No request has this kind, which is told once the whole frame was taken. 30 of them a second are a megabyte.
+GARBAGE = frame(255, "x" * 33_780)
+GARBAGE_EACH = 1 / 30
+
+
+def link_to(address: str, deaf: bool = False) -> socket.socket:
+    """A connection, once somebody listens. A deaf one has little room for what it doesn't read, on both sides."""
+    end = time.monotonic() + 20
+    while True:
+        link = socket.socket()
+        if deaf:
+            link.setsockopt(socket.SOL_SOCKET, socket.SO_RCVBUF, 4096)
+            link.setsockopt(socket.IPPROTO_TCP, socket.TCP_MAXSEG, 536)
+        link.settimeout(20)
+        host, _, port = address.rpartition(":")
+        try:
+            link.connect((host, int(port)))
+            return link
+        except ConnectionRefusedError:
+            link.close()
+            if time.monotonic() >= end:
+                raise
+            time.sleep(0.01)
+
+
+def seconds_until_closed(link: socket.socket, since: float) -> float:
+    """How long after this moment a connection is closed, or 20 seconds more than it is looked at. What comes before is passed over."""
+    link.settimeout(20)
+    try:
+        while link.recv(4096):
+            pass
+    except OSError:
+        pass
+    link.close()
+    return time.monotonic() - since
+
+
+# Few peers
+
+
+def play_few() -> None:
+    """As many peers as there are workers connect and say nothing. A client behind them gets in when they are given up."""
+    with Service(head(["alice"]) + "end\n", 64, 2) as service:
+        silent = [link_to(service.address) for _ in range(64)]
+        since = time.monotonic()
+        session = Session(service.address, "alice")
+        check("a client behind silent peers gets in within 15 seconds", time.monotonic() - since < 15, True)
+        session.change("say alice : here")
+        lives = [seconds_until_closed(link, since) for link in silent]
+        check("all silent peers are closed when one of them is", max(lives) < 20 or lives, True)
+        session.change("say alice : later")
+        session.close()
+        check("the text of a service behind silent peers", service.text(), head(["alice"]) + "".join(session.lines.values()))
+
+
+def sleep_long(address: str) -> Session:
+    """Is admitted, makes a change, and says nothing."""
+    session = Session(address, "sleeper")
+    session.change("say sleeper : good(night)")
+    lived = seconds_until_closed(session.socket, time.monotonic())
+    check("one that sleeps is closed after two seconds", 1.9 < lived < 6 or lived, True)
+    return session
+
+
+def ask_each_second(address: str) -> Session:
+    """Asks each second, six times."""
+    session = Session(address, "waker")
+    for _ in range(6):
+        time.sleep(1)
+        session.change("say waker : here")
+    session.close()
+    return session
+
+
+def read_nothing(address: str) -> None:
+    """Is admitted, and sends calls until it is closed."""
+    link = link_to(address, deaf=True)
+    since = time.monotonic()
+    try:
+        link.sendall(frame_of_line("hello deaf deaf-secret"))
+        while time.monotonic() - since < 20:
+            link.sendall(CALLING)
+    except ConnectionError:
+        pass
+    link.close()
+    lived = time.monotonic() - since
+    check("one that reads nothing is closed", lived < 15 or lived, True)
+
+
+def say_nothing(address: str) -> None:
+    """Is not admitted, and is closed no sooner than any such peer."""
+    link = link_to(address)
+    lived = seconds_until_closed(link, time.monotonic())
+    check("one that says nothing is closed after ten seconds", SOONEST <= lived <= LATEST or lived, True)
+
+
+def play_sleepers() -> None:
+    """A service that waits for two seconds. Each of its four workers has one of these peers first, and then takes the next one. Nothing is
+    left of what was given up: the text is whole, and the status 0."""
+    names = ["sleeper", "waker", "deaf", "late"]
+    with Service(head(names) + "end\n", 4, 2, 2) as service, ThreadPoolExecutor(4) as pool:
+        peers = [pool.submit(play, service.address) for play in [sleep_long, ask_each_second, read_nothing, say_nothing]]
+        sessions = [session for session in (peer.result() for peer in peers) if session is not None]
+        for _ in range(4):
+            late = Session(service.address, "late")
+            late.change("say late : here")
+            late.close()
+            sessions.append(late)
+        check("the end of a service that gave up peers", service.end(), (0, services.text_of(names, sessions)))
+
+
+# A crowd
+
+
+class Peer:
+    """One connection of the crowd."""
+
+    def __init__(self, kind: str, address: str) -> None:
+        self.kind = kind
+        self.link = link_to(address, deaf=kind == "deaf")
+        self.link.setblocking(False)
+        self.since = self.due = time.monotonic()
+        self.sent = 0
+
+    @property
+    def events(self) -> int:
+        """What it waits for. A deaf one hears nothing, not even its end, but as it sends."""
+        return selectors.EVENT_WRITE if self.kind == "deaf" else selectors.EVENT_READ
+
+    def send(self, data: bytes) -> None:
+        """Sends what the system takes."""
+        try:
+            self.sent += self.link.send(data)
+        except BlockingIOError:
+            pass
+
+    def act(self) -> None:
+        """Does what its kind does in its time."""
+        if self.kind == "slow":
+            self.send(HELLO[self.sent : self.sent + 1])
+        elif self.kind == "wrong":
+            self.send(WRONG)
+        elif self.kind in ("asleep", "garbage"):
+            data = HELLO if self.kind == "asleep" else GARBAGE
+            self.send(data[self.sent :])
+        self.due += 1
+
+    def wake(self) -> bool:
+        """Reads, or sends where it is a deaf one. Whether it lives on."""
+        try:
+            if self.kind == "deaf":
+                # The rest of a frame that was taken in part comes first.
+                data = HELLO + CALLING
+                start = self.sent if self.sent < len(HELLO) else len(HELLO) + (self.sent - len(HELLO)) % len(CALLING)
+                self.send(data[start:])
+                return True
+            return self.link.recv(65536) != b""
+        except BlockingIOError:
+            return True
+        except ConnectionError:
+            return False
+
+
+class Crowd:
+    """Peers of all kinds, each of which is replaced by another one when the service closes it."""
+
+    def __init__(self, address: str, counts: dict[str, int]) -> None:
+        self.address = address
+        self.waiting = selectors.DefaultSelector()
+        self.lives: dict[str, list[float]] = {kind: [] for kind in counts}
+        self.sent = {kind: 0 for kind in counts}
+        self.timed: set[Peer] = set()
+        for kind, count in counts.items():
+            for _ in range(count):
+                self.add(kind)
+
+    def add(self, kind: str) -> None:
+        peer = Peer(kind, self.address)
+        self.waiting.register(peer.link, peer.events, peer)
+        if kind in ("slow", "wrong", "asleep", "garbage"):
+            self.timed.add(peer)
+
+    def end(self, peer: Peer) -> None:
+        """Keeps how long it lived."""
+        self.waiting.unregister(peer.link)
+        self.timed.discard(peer)
+        peer.link.close()
+        self.lives[peer.kind].append(time.monotonic() - peer.since)
+        self.sent[peer.kind] += peer.sent
+
+    def turn(self) -> None:
+        """Does for each peer what is due, for a short time."""
+        ended = [key.data for key, _ in self.waiting.select(0.02) if not key.data.wake()]
+        now = time.monotonic()
+        for peer in self.timed.difference(ended):
+            try:
+                if peer.due <= now:
+                    peer.act()
+            except ConnectionError:
+                ended.append(peer)
+        for peer in ended:
+            self.end(peer)
+        for peer in ended:
+            if peer.kind == "garbage":
+                time.sleep(max(0.0, peer.since + GARBAGE_EACH - time.monotonic()))
+            self.add(peer.kind)
+
+
+def run_crowd(address: str, counts: dict[str, int], pipe: Connection) -> None:
+    """A crowd until it is told to stop. It tells when all have connected, and at last how many seconds each one lived that was closed."""
+    crowd = Crowd(address, counts)
+    pipe.send(None)
+    while not pipe.poll():
+        crowd.turn()
+    pipe.send((crowd.lives, crowd.sent))
+
+
+def slowest_of_99(session: Session) -> float:
+    """How many seconds 99 of 100 calls took at most. Half of them ask the clock, and so are checked anew."""
+    times = []
+    for number in range(CALLS):
+        since = time.monotonic()
+        session.call(*[("read", "thing", "allowed 1 0"), ("open", "thing", "allowed 0 0")][number % 2])
+        times.append(time.monotonic() - since)
+        time.sleep(0.003)
+    return sorted(times)[math.ceil(0.99 * CALLS) - 1]
+
+
+def prepare(session: Session) -> None:
+    """An object that its owner may read by a verdict that is kept, and open by one that is not."""
+    name = session.name
+    for line in [
+        "object thing",
+        f"bind {name}.clock 0",
+        "goal read thing : true",
+        f"goal open thing : {name}.clock says 0 < TimeNow",
+        "proof read thing : proof 2 ; 1 true_i : true ; end",
+        f"proof open thing : proof 2 ; 1 ask : {name}.clock says 0 < TimeNow ; end",
+    ]:
+        session.change(line)
+    session.call("read", "thing", "allowed 0 0")
+
+
+def judge_crowd(lives: dict[str, list[float]], counts: dict[str, int]) -> None:
+    """Who was not admitted lived ten seconds, and who was is still there."""
+    for kind, what in [("silent", "say nothing"), ("slow", "send a byte a second"), ("wrong", "send refused hellos")]:
+        check(f"peers that {what} were closed", len(lives[kind]) >= counts[kind] or len(lives[kind]), True)
+        check(f"when peers that {what} were closed", [life for life in lives[kind] if not SOONEST <= life <= LATEST], [])
+    for kind, what in [("deaf", "read nothing"), ("asleep", "sleep")]:
+        check(f"admitted peers that {what} are there as long as they may", lives[kind], [])
+
+
+def welcome_new(address: str, sessions: list[Session]) -> None:
+    """A new client gets in at once, and makes a change."""
+    since = time.monotonic()
+    late = Session(address, "late")
+    waited = time.monotonic() - since
+    check("a new client gets in at once", waited < WELCOME or waited, True)
+    late.change("say late : here")
+    late.close()
+    sessions.append(late)
+
+
+def play_crowd(workers: int) -> str:
+    """Peers of each kind hold nearly all workers. Calls of others are answered in time, and new clients get in. What was measured."""
+    names = ["honest", "late", "crowd"]
+    counts = {kind: math.ceil(count * workers / WORKERS) for kind, count in CROWD.items()}
+    front = head(names) + "authority 0 clock\n"
+    with Service(front + "end\n", workers, 56, 86400) as service:
+        honest = Session(service.address, "honest")
+        prepare(honest)
+        sessions = [honest]
+        here, there = multiprocessing.Pipe()
+        process = multiprocessing.Process(target=run_crowd, args=(service.address, counts, there), daemon=True)
+        process.start()
+        try:
+            check("the crowd is there", here.poll(30), True)
+            here.recv()
+            end = time.monotonic() + 14
+            best = math.inf
+            for _ in range(TRIES):
+                welcome_new(service.address, sessions)
+                best = min(best, slowest_of_99(honest))
+                if best < CALL:
+                    break
+            while time.monotonic() < end:
+                welcome_new(service.address, sessions)
+                honest.call("open", "thing", "allowed 0 0")
+                time.sleep(1)
+            here.send(None)
+            check("the crowd tells", here.poll(30), True)
+            lives, sent = here.recv()
+        finally:
+            process.kill()
+            process.join()
+        judge_crowd(lives, counts)
+        check("99 of 100 calls beside a crowd", best < CALL or best, True)
+        service.kill()
+        lines = {at: line for session in sessions for at, line in session.lines.items()}
+        check("the text of a service with a crowd", service.text(), front + "".join(lines[at] for at in sorted(lines)))
+        megabytes = sent["garbage"] / 1_000_000
+    return f"99 of 100 calls within {1000 * best:.1f} ms beside {sum(counts.values())} peers and {megabytes:.0f} MB of garbage"
+
+
+def workers_within_limit() -> int:
+    """Raises how many files may be open, here and in the service. With how many workers the service can go on."""
+    _, hard = resource.getrlimit(resource.RLIMIT_NOFILE)
+    files = FILES if hard == resource.RLIM_INFINITY else min(FILES, hard)
+    resource.setrlimit(resource.RLIMIT_NOFILE, (files, hard))
+    workers = min(WORKERS, files // 4)
+    if workers < WORKERS:
+        print(f"patience: {workers} workers, and not {WORKERS}, since only {files} files may be open")
+    return workers
+
+
+def main() -> int:
+    services.program = sys.argv[1]
+    try:
+        workers = workers_within_limit()
+        with ThreadPoolExecutor(2) as pool:
+            for played in [pool.submit(play) for play in [play_few, play_sleepers]]:
+                played.result()
+        print(play_crowd(workers))
+    except Differs as differs:
+        print(f"patience: {differs}")
+        return 1
+    print(f"{len(services.passed)} checks of patience pass")
+    return 0
+
+
+if __name__ == "__main__":
+    sys.exit(main())
