@@ -1,8 +1,8 @@
 #!/usr/bin/env python3
 """Plays what a change that was answered Done has behind it: its line was written and, in a file, synced. By Debian's strace it is looked
-at that the line, the sync and the reply come in this order, and that a sync that fails is told; without strace these parts are skipped. And
-whoever reads the policy text stops reading: changes wait then, and calls are answered. What is wanted stands here, and comes from
-docs/OPERATING.md, "What Done means".
+at that the line, the sync and the reply come in this order, and syncs are made to fail and to take long; without strace these parts are
+skipped. And whoever reads the policy text stops reading. Changes wait then, and calls are answered. What is wanted stands here, and comes
+from docs/OPERATING.md, "What Done means".
 
     examples/lasting/run.py PROGRAM
 
@@ -111,7 +111,7 @@ def joined(steps: list[Step]) -> list[Step]:
 def traced(words: list[str], trace: str, fault: str = "") -> list[str]:
     """The words that trace a program. The fault is what happens to its syncs."""
     calls = "write,writev,sendto,sendmsg,fdatasync,exit_group"
-    faults = ["-e", f"inject=fdatasync:error=EIO:{fault}".rstrip(":")] if fault else []
+    faults = ["-e", f"inject=fdatasync:{fault}"] if fault else []
     return ["strace", "-f", "-qq", "-xx", "-s", "70000", "-e", "signal=none", "-e", f"trace={calls}", *faults, "-o", trace, *words]
 
 
@@ -197,7 +197,7 @@ def play_commands(work: Path) -> None:
     day = (EXAMPLES / "script" / "storage" / "input").read_bytes()
     text = (SERVE / "policy").read_bytes()
     for command, given in [("script", day), ("recover", text), ("compact", text)]:
-        for fault, status in [("", 0), ("when=1", 5)]:
+        for fault, status in [("", 0), ("error=EIO", 5)]:
             trace, output = work / "trace", work / "output"
             with output.open("wb") as file:
                 words = traced([services.program, command], str(trace), fault)
@@ -215,7 +215,7 @@ def play_fault() -> None:
     lines = [f"1 alice say alice : ok({number})\n" for number in [1, 2]]
 
     class Faulty(Traced):
-        fault = "when=2"
+        fault = "error=EIO:when=2"
 
     with Faulty(front + "end\n", 1, 1) as service:
         with Session(service.address, "alice") as alice:
@@ -327,11 +327,11 @@ def fill(writer: Session) -> str:
     raise Differs("changes: none waits, though nobody reads the text")
 
 
-def ask_meanwhile(asker: Session, at: int) -> None:
+def ask_meanwhile(asker: Session, at: int, what: str) -> None:
     """Calls that are checked anew each time: one asks the clock, one lacks its label."""
-    for _ in range(10):
+    for _ in range(5):
         for line, wanted in [("call open thing 0", f"allowed {at} 0 0"), ("call read thing 0", f"denied {at} LabelMissing 1")]:
-            check(f"{line} while a line waits to be written", asked_within(asker, line, 2), wanted)
+            check(f"{line} while a line waits to be {what}", asked_within(asker, line, 2), wanted)
 
 
 def play_stopped_reader() -> None:
@@ -345,7 +345,7 @@ def play_stopped_reader() -> None:
         waiting = fill(writer)
         at = max(writer.lines)
         check("a change of another one, behind the one that waits", asked_within(other, "say other : p", 0.5), None)
-        ask_meanwhile(asker, at)
+        ask_meanwhile(asker, at, "written")
         with Client(service.address) as late:
             told = asked_within(late, "hello late late-secret", 2)
             check("a hello while a line waits to be written", (told or "- - -").split()[::2], ["welcome", str(at)])
@@ -365,6 +365,23 @@ def play_stopped_reader() -> None:
         check("the end of a service whose reader had stopped", (status, service.taken.decode()), (0, text))
 
 
+def play_slow_disk() -> None:
+    """Each sync takes three seconds. Calls are answered at the point before, as long as one goes on."""
+    names = ["writer", "asker"]
+
+    class Slow(Traced):
+        fault = "delay_enter=3000000"
+
+    with Slow(head(names) + STOPPED + "end\n", 2, 1) as service:
+        with Session(service.address, "writer") as writer, Session(service.address, "asker") as asker:
+            check("a change whose line is being synced", asked_within(writer, "say writer : p", 0.2), None)
+            ask_meanwhile(asker, 6, "synced")
+            check("the change whose line is still being synced", answered_within(writer, 0), None)
+            check("a change whose line was synced", answered_within(writer, 20), "done 7 7")
+            check("a call then", asker.ask("call open thing 0"), "allowed 7 0 0")
+        check("the status of a service with a slow disk", service.end()[0], 0)
+
+
 def main() -> int:
     services.program = sys.argv[1]
     try:
@@ -374,6 +391,7 @@ def main() -> int:
                 play_order(TracedIntoPipe, "a pipe", [])
                 play_commands(Path(folder))
                 play_fault()
+                play_slow_disk()
             else:
                 print("lasting: the order of calls is skipped, since there is no strace, or it may not trace")
             play_unopened(Path(folder))

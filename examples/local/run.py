@@ -106,6 +106,7 @@ def play_taken(work: Path) -> None:
 def play_addresses(work: Path) -> None:
     """Paths at which no socket can be, and addresses that are too long."""
     check("a service in a folder that is not there", run([f"unix:{work}/no/socket", "1", "1"], ONE), (7, ""))
+    check("a service at no path", run(["unix:", "1", "1"], ONE), (7, ""))
     longest = f"unix:{work}/".ljust(64, "a")
     with Service(ONE, 1, 1, address=longest) as service:
         with Session(longest, "alice") as alice:
