@@ -25,7 +25,7 @@ fn main(rt: HostRuntime) -> ExitCode {
         &mut input,
         &mut records,
         output,
-        SocketDoor::new(rt),
+        SocketDoor::new(rt.alloc(), rt),
         panel,
         &OpenGate,
     );

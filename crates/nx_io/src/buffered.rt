@@ -6,44 +6,46 @@ ghost use Rattle.nx_io.specs.Streams.{ReadsWithin, Writes, WritesWithin, faults_
 
 use crate::duplex::Duplex;
 use crate::history::History;
-use crate::queues::Queue;
+use crate::queues::{Queue, Queues};
 use crate::streams::{Got, Put, Reach};
 use std::marker::Model;
 
-/// A stream, bytes that it gave and that were not yet taken, and bytes that were sent and not yet written to it. Contracts see the
-/// stream, what was taken and what was sent.
+/// A stream, and until it is shut bytes that it gave and that were not yet taken, and bytes that were sent and not yet written to it.
+/// Contracts see the stream, what was taken and what was sent.
 #[derive(Drop)]
 pub(crate) struct Buffered<S: Duplex> {
     stream: S,
-    ahead: Queue,
-    behind: Queue,
+    queues: Option<Queues>,
     taken: History,
     sent: History,
 }
 
 impl<S: Duplex> Model for Buffered<S> {
-    ghost use Rattle.std.specs.Prelude.{◌≡◌, ◌++◌};
     ghost use Rattle.nx_io.specs.Histories.{bytes_of};
+    ghost use Rattle.nx_io.specs.Inner.Feeding.{IsFed};
     ghost use Rattle.nx_io.specs.Sockets.{Traffic};
 
     ghost Value = { Traffic S };
 
     ghost view = { λ w. record { stream = w.stream; taken = bytes_of w.taken; sent = bytes_of w.sent } };
 
-    ghost invariant = { λ w. (S.given w.stream ≡ bytes_of w.taken ++ w.ahead.waiting) × (bytes_of w.sent ≡ S.sent w.stream ++ w.behind.waiting) };
+    ghost invariant = { λ w. IsFed (S.shut w.stream) (S.given w.stream) (S.sent w.stream) (bytes_of w.taken)
+        (bytes_of w.sent) w.queues };
 }
 
 impl<S: Duplex> Buffered<S> {
-    /// A stream that was neither read nor written yet.
-    pub(crate) fn new(stream: S) -> Buffered<S>
+    /// An open stream that was neither read nor written yet, with empty queues.
+    pub(crate) fn new(stream: S, queues: Queues) -> Buffered<S>
         requires given { S.given stream ≡ [] }
         requires sent { S.sent stream ≡ [] }
+        requires open { S.shut stream ≡ false }
+        requires ahead { queues.ahead.waiting ≡ [] }
+        requires behind { queues.behind.waiting ≡ [] }
         ensures { result ≡ record { stream = stream; taken = []; sent = [] } }
     {
         Buffered {
             stream,
-            ahead: Queue::new(),
-            behind: Queue::new(),
+            queues: Some(queues),
             taken: History::Start,
             sent: History::Start,
         }
@@ -57,6 +59,7 @@ impl<S: Duplex> Buffered<S> {
         ensures taken { self.new.taken ≡ given_after result self.old.taken into.new }
         ensures sent { self.new.sent ≡ self.old.sent }
         ensures shut { S.shut self.new.stream ≡ S.shut self.old.stream }
+        ensures admitted { S.admitted self.new.stream ≡ S.admitted self.old.stream }
         ensures order { InOrder (S.given self.new.stream) (S.sent self.new.stream) self.new.taken self.new.sent }
         ensures end { result ≡ Got.End → self.new.taken ≡ S.given self.new.stream }
         ensures first { (result ≡ Got.End ⊎ S.given self.new.stream ≢ S.given self.old.stream)
@@ -64,12 +67,12 @@ impl<S: Duplex> Buffered<S> {
         ensures blame { S.shut self.old.stream ≡ false → S.faults self.new.stream ≡ faults_after_read result
             (S.faults self.old.stream) }
     {
-        if self.stream.is_shut() {
+        let Some(queues) = &mut self.queues else {
             return Got::Failed;
-        }
-        match fetch(&mut self.stream, &mut self.ahead, &mut self.behind) {
+        };
+        match fetch(&mut self.stream, queues) {
             Got::Bytes(_) => {
-                let count = self.ahead.pop_into(into);
+                let count = queues.both.ahead.pop_into(into);
                 self.taken.tell(&into[..count]);
                 Got::Bytes(count)
             }
@@ -86,17 +89,17 @@ impl<S: Duplex> Buffered<S> {
         ensures sent { Writes result self.old.sent self.new.sent piece.now }
         ensures taken { self.new.taken ≡ self.old.taken }
         ensures others { AreSame (S.given self.old.stream) (S.given self.new.stream) (S.shut self.old.stream)
-            (S.shut self.new.stream) }
+            (S.shut self.new.stream) (S.admitted self.old.stream) (S.admitted self.new.stream) }
         ensures order { InOrder (S.given self.new.stream) (S.sent self.new.stream) self.new.taken self.new.sent }
         ensures blame { S.shut self.old.stream ≡ false → S.faults self.new.stream ≡ faults_after_write result
             (S.faults self.old.stream) }
     {
-        if self.stream.is_shut() {
+        let Some(queues) = &mut self.queues else {
             return Put::Failed;
-        }
-        match make_room(&mut self.stream, &mut self.behind) {
+        };
+        match make_room(&mut self.stream, &mut queues.both.behind) {
             Reach::Ready => {
-                let count = self.behind.push(piece);
+                let count = queues.both.behind.push(piece);
                 self.sent.tell(&piece[..count]);
                 Put::Bytes(count)
             }
@@ -113,6 +116,7 @@ impl<S: Duplex> Buffered<S> {
 
     /// Tells the stream that its peer is admitted.
     pub(crate) fn admit(&mut self)
+        ensures admitted { S.admitted self.new.stream ≡ true }
         ensures same { (self.new.taken ≡ self.old.taken) × (self.new.sent ≡ self.old.sent) }
         ensures stream { (S.given self.new.stream ≡ S.given self.old.stream)
             × (S.sent self.new.stream ≡ S.sent self.old.stream) }
@@ -122,43 +126,47 @@ impl<S: Duplex> Buffered<S> {
         self.stream.admit();
     }
 
-    /// Writes what waits, and shuts the stream. It is `Failed` where that could not be written.
+    /// Writes what waits, shuts the stream, and gives the memory of the queues back. It is `Failed` where that could not be written.
     pub(crate) fn close(&mut self) -> Reach
         ensures shut { S.shut self.new.stream ≡ true }
         ensures same { (self.new.taken ≡ self.old.taken) × (self.new.sent ≡ self.old.sent)
             × (S.given self.new.stream ≡ S.given self.old.stream) }
+        ensures admitted { S.admitted self.new.stream ≡ S.admitted self.old.stream }
         ensures order { InOrder (S.given self.new.stream) (S.sent self.new.stream) self.new.taken self.new.sent }
         ensures ready { result ≡ Reach.Ready → S.shut self.old.stream ≡ false → S.sent self.new.stream ≡ self.new.sent }
         ensures blame { S.faults self.new.stream ≡ faults_after_reach result (S.faults self.old.stream) }
         ensures again { S.shut self.old.stream ≡ true → (result ≡ Reach.Ready)
             × (S.sent self.new.stream ≡ S.sent self.old.stream) }
     {
-        if self.stream.is_shut() {
+        let Some(queues) = &mut self.queues else {
             return Reach::Ready;
-        }
-        let reach = write_out(&mut self.stream, &mut self.behind);
+        };
+        let reach = write_out(&mut self.stream, &mut queues.both.behind);
         self.stream.shut();
+        self.queues = None;
         reach
     }
 }
 
 /// Makes bytes wait ahead: where there is none, writes what waits behind and reads once.
-fn fetch<S: Duplex>(stream: &mut S, ahead: &mut Queue, behind: &mut Queue) -> Got
+fn fetch<S: Duplex>(stream: &mut S, queues: &mut Queues) -> Got
     requires { S.shut stream.old ≡ false }
-    ensures waits { (count : ℕ) → result ≡ Got.Bytes count → ahead.new.waiting ≢ [] }
-    ensures read { (taken : List ℕ) → S.given stream.old ≡ taken ++ ahead.old.waiting
-        → S.given stream.new ≡ taken ++ ahead.new.waiting }
-    ensures written { S.sent stream.new ++ behind.new.waiting ≡ S.sent stream.old ++ behind.old.waiting }
-    ensures end { result ≡ Got.End → ahead.new.waiting ≡ [] }
-    ensures first { (result ≡ Got.End ⊎ S.given stream.new ≢ S.given stream.old) → behind.new.waiting ≡ [] }
+    ensures waits { (count : ℕ) → result ≡ Got.Bytes count → queues.new.ahead.waiting ≢ [] }
+    ensures read { (taken : List ℕ) → S.given stream.old ≡ taken ++ queues.old.ahead.waiting
+        → S.given stream.new ≡ taken ++ queues.new.ahead.waiting }
+    ensures written { S.sent stream.new ++ queues.new.behind.waiting
+        ≡ S.sent stream.old ++ queues.old.behind.waiting }
+    ensures end { result ≡ Got.End → queues.new.ahead.waiting ≡ [] }
+    ensures first { (result ≡ Got.End ⊎ S.given stream.new ≢ S.given stream.old) → queues.new.behind.waiting ≡ [] }
     ensures open { S.shut stream.new ≡ false }
+    ensures admitted { S.admitted stream.new ≡ S.admitted stream.old }
     ensures blame { S.faults stream.new ≡ faults_after_read result (S.faults stream.old) }
 {
-    if !ahead.is_empty() {
-        return Got::Bytes(ahead.waiting().len());
+    if !queues.both.ahead.is_empty() {
+        return Got::Bytes(queues.both.ahead.waiting().len());
     }
-    match write_out(stream, behind) {
-        Reach::Ready => ahead.fill(stream),
+    match write_out(stream, &mut queues.both.behind) {
+        Reach::Ready => queues.both.ahead.fill(stream),
         Reach::Failed => Got::Failed,
     }
 }
@@ -168,7 +176,8 @@ fn make_room<S: Duplex>(stream: &mut S, behind: &mut Queue) -> Reach
     requires { S.shut stream.old ≡ false }
     ensures written { S.sent stream.new ++ behind.new.waiting ≡ S.sent stream.old ++ behind.old.waiting }
     ensures ready { result ≡ Reach.Ready → 0 < behind.new.room }
-    ensures others { AreSame (S.given stream.old) (S.given stream.new) (S.shut stream.old) (S.shut stream.new) }
+    ensures others { AreSame (S.given stream.old) (S.given stream.new) (S.shut stream.old) (S.shut stream.new)
+        (S.admitted stream.old) (S.admitted stream.new) }
     ensures blame { S.faults stream.new ≡ faults_after_reach result (S.faults stream.old) }
 {
     if behind.room() > 0 {
@@ -182,7 +191,8 @@ fn write_out<S: Duplex>(stream: &mut S, behind: &mut Queue) -> Reach
     requires { S.shut stream.old ≡ false }
     ensures written { S.sent stream.new ++ behind.new.waiting ≡ S.sent stream.old ++ behind.old.waiting }
     ensures ready { result ≡ Reach.Ready → behind.new ≡ record { waiting = []; room = 4096 } }
-    ensures others { AreSame (S.given stream.old) (S.given stream.new) (S.shut stream.old) (S.shut stream.new) }
+    ensures others { AreSame (S.given stream.old) (S.given stream.new) (S.shut stream.old) (S.shut stream.new)
+        (S.admitted stream.old) (S.admitted stream.new) }
     ensures blame { S.faults stream.new ≡ faults_after_reach result (S.faults stream.old) }
 {
     while !behind.is_empty() {

@@ -22,6 +22,9 @@ pub trait Duplex {
     /// Whether it was shut.
     ghost shut: { Self → Bool };
 
+    /// Whether it was told that its peer is admitted. `admit` alone sets it.
+    ghost admitted: { Self → Bool };
+
     /// How often it has failed. The count stands still at its type's end.
     ghost faults: { Self → ℕ };
 
@@ -32,7 +35,8 @@ pub trait Duplex {
         requires open { shut self.old ≡ false }
         ensures within { ReadsWithin result into.new }
         ensures given { given self.new ≡ given_after result (given self.old) into.new }
-        ensures others { AreSame (sent self.old) (sent self.new) (shut self.old) (shut self.new) }
+        ensures others { AreSame (sent self.old) (sent self.new) (shut self.old) (shut self.new) (admitted self.old)
+            (admitted self.new) }
         ensures count { faults self.new ≡ faults_after_read result (faults self.old) };
 
     /// Writes some bytes of the front of a piece, which has one at least. The count of faults rises by one at `Failed` and at no
@@ -42,11 +46,13 @@ pub trait Duplex {
         requires open { shut self.old ≡ false }
         ensures within { WritesWithin result piece.now }
         ensures bytes { Writes result (sent self.old) (sent self.new) piece.now }
-        ensures others { AreSame (given self.old) (given self.new) (shut self.old) (shut self.new) }
+        ensures others { AreSame (given self.old) (given self.new) (shut self.old) (shut self.new) (admitted self.old)
+            (admitted self.new) }
         ensures count { faults self.new ≡ faults_after_write result (faults self.old) };
 
     /// Tells the stream that its peer is admitted.
     fn admit(&mut self)
+        ensures admitted { admitted self.new ≡ true }
         ensures given { given self.new ≡ given self.old }
         ensures sent { sent self.new ≡ sent self.old }
         ensures shut { shut self.new ≡ shut self.old }
@@ -57,6 +63,7 @@ pub trait Duplex {
         ensures shut { shut self.new ≡ true }
         ensures given { given self.new ≡ given self.old }
         ensures sent { sent self.new ≡ sent self.old }
+        ensures admitted { admitted self.new ≡ admitted self.old }
         ensures count { faults self.new ≡ faults self.old };
 
     /// Whether it was shut.
@@ -71,6 +78,7 @@ pub struct StdDuplex<S: Read + Write> {
     stream: Option<S>,
     given: History,
     sent: History,
+    admitted: bool,
     faults: u64,
 }
 
@@ -87,6 +95,7 @@ impl<S: Read + Write> Model for StdDuplex<S> {
       given = bytes_of d.given;
       sent = bytes_of d.sent;
       shut = is_none d.stream;
+      admitted = d.admitted;
       faults = d.faults;
     } };
 }
@@ -100,6 +109,7 @@ impl<S: Read + Write> StdDuplex<S> {
             stream: Some(stream),
             given: History::Start,
             sent: History::Start,
+            admitted: false,
             faults: 0,
         }
     }
@@ -124,6 +134,8 @@ impl<S: Read + Write + Drop> Duplex for StdDuplex<S> {
 
     ghost shut = { λ d. d.shut };
 
+    ghost admitted = { λ d. d.admitted };
+
     ghost faults = { λ d. d.faults };
 
     /// As of any stream. A read that a signal interrupted is tried again, and is no fault.
@@ -132,7 +144,8 @@ impl<S: Read + Write + Drop> Duplex for StdDuplex<S> {
         requires open { self.old.shut ≡ false }
         ensures within { ReadsWithin result into.new }
         ensures given { self.new.given ≡ given_after result self.old.given into.new }
-        ensures others { AreSame self.old.sent self.new.sent self.old.shut self.new.shut }
+        ensures others { AreSame self.old.sent self.new.sent self.old.shut self.new.shut self.old.admitted
+            self.new.admitted }
         ensures count { self.new.faults ≡ faults_after_read result self.old.faults }
         ensures handed { HandsOn result self.old.remaining self.new.remaining into.new }
     {
@@ -158,7 +171,8 @@ impl<S: Read + Write + Drop> Duplex for StdDuplex<S> {
         requires open { self.old.shut ≡ false }
         ensures within { WritesWithin result piece.now }
         ensures bytes { Writes result self.old.sent self.new.sent piece.now }
-        ensures others { AreSame self.old.given self.new.given self.old.shut self.new.shut }
+        ensures others { AreSame self.old.given self.new.given self.old.shut self.new.shut self.old.admitted
+            self.new.admitted }
         ensures count { self.new.faults ≡ faults_after_write result self.old.faults }
         ensures handed { HandsTo result self.old.contents self.new.contents piece.now }
     {
@@ -177,16 +191,19 @@ impl<S: Read + Write + Drop> Duplex for StdDuplex<S> {
         }
     }
 
-    /// As of any stream. It does nothing.
+    /// As of any stream. It waits as before.
     fn admit(&mut self)
-        ensures { self.new ≡ self.old }
-    {}
+        ensures { self.new ≡ record self.old { admitted = true } }
+    {
+        self.admitted = true;
+    }
 
     /// As of any stream.
     fn shut(&mut self)
         ensures shut { self.new.shut ≡ true }
         ensures given { self.new.given ≡ self.old.given }
         ensures sent { self.new.sent ≡ self.old.sent }
+        ensures admitted { self.new.admitted ≡ self.old.admitted }
         ensures count { self.new.faults ≡ self.old.faults }
     {
         self.stream = None;

@@ -1,10 +1,11 @@
 // Bytes that wait their turn.
-ghost use Rattle.std.specs.Prelude.{false, ◌≡◌, ◌≢◌, ◌↔◌, ◌<◌, ◌≤◌, ◌++◌, ◌-◌, ◌⊎◌, [], IsTrue, ℕ, drop, length, min, take};
+ghost use Rattle.std.specs.Prelude.{false, IfOk, ◌≡◌, ◌≢◌, ◌↔◌, ◌<◌, ◌≤◌, ◌++◌, ◌-◌, ◌⊎◌, [], IsTrue, ℕ, drop, length, min, take};
 ghost use Rattle.nx_io.specs.Duplexes.{AreSame};
 ghost use Rattle.nx_io.specs.Streams.{faults_after_read};
 
 use crate::duplex::Duplex;
 use crate::streams::Got;
+use std::alloc::{AllocError, Global};
 use std::marker::Model;
 
 /// How many bytes a queue holds.
@@ -113,7 +114,8 @@ impl Queue {
         ensures read { S.given stream.new ≡ S.given stream.old ++ self.new.waiting }
         ensures empty { (result ≡ Got.End ⊎ result ≡ Got.Failed) → self.new.waiting ≡ [] }
         ensures filled { (count : ℕ) → result ≡ Got.Bytes count → (1 ≤ count) × (length self.new.waiting ≡ count) }
-        ensures others { AreSame (S.sent stream.old) (S.sent stream.new) (S.shut stream.old) (S.shut stream.new) }
+        ensures others { AreSame (S.sent stream.old) (S.sent stream.new) (S.shut stream.old) (S.shut stream.new)
+            (S.admitted stream.old) (S.admitted stream.new) }
         ensures count { S.faults stream.new ≡ faults_after_read result (S.faults stream.old) }
     {
         let got = stream.read(&mut self.bytes);
@@ -123,5 +125,42 @@ impl Queue {
             self.end = count;
         }
         got
+    }
+}
+
+/// Two queues.
+#[derive(Drop)]
+pub(crate) struct Both {
+    pub(crate) ahead: Queue,
+    pub(crate) behind: Queue,
+}
+
+/// The queues of a link, on the heap: bytes that came and were not yet taken, and bytes that wait to be written.
+#[derive(Drop)]
+pub(crate) struct Queues {
+    pub(crate) both: Box<Both>,
+}
+
+impl Model for Queues {
+    ghost use Rattle.nx_io.specs.Inner.Queues.{BothQueued};
+
+    ghost Value = { BothQueued };
+
+    ghost view = { λ q. record { ahead = q.both.value.ahead; behind = q.both.value.behind } };
+}
+
+impl Queues {
+    /// Two empty queues. An `Err` says that there was no memory for them.
+    pub(crate) fn new(alloc: Global) -> Result<Queues, AllocError>
+        ensures ahead { IfOk result (λ queues. queues.ahead ≡ record { waiting = []; room = 4096 }) }
+        ensures behind { IfOk result (λ queues. queues.behind ≡ record { waiting = []; room = 4096 }) }
+    {
+        let both = Both {
+            ahead: Queue::new(),
+            behind: Queue::new(),
+        };
+        Ok(Queues {
+            both: Box::new(alloc, both)?,
+        })
     }
 }

@@ -1,5 +1,5 @@
 // Links and doors over sockets of the system.
-ghost use Rattle.std.specs.Prelude.{◌≡◌, ◌≢◌, ◌∷◌, ◌++◌, [], None, Some};
+ghost use Rattle.std.specs.Prelude.{◌≡◌, ◌≢◌, ◌∷◌, ◌++◌, [], IfOk, None, Some};
 ghost use Rattle.std.specs.Option.{option_map};
 ghost use Rattle.nx_io.specs.Histories.{bytes_of};
 ghost use Rattle.nx_io.specs.DoorCalls.{faults_in, gave_in, new_origin, next_call};
@@ -11,10 +11,12 @@ use crate::door_history::{DoorHistory, LoggedCall};
 use crate::doors::{Dial, Door, Next};
 use crate::history::History;
 use crate::links::Link;
+use crate::queues::Queues;
 use crate::stream_links::StreamLink;
 use crate::streams::{Got, Put, Reach, Shared};
 use crate::system_streams::{SystemListener, SystemStream};
 use crate::timed_streams::TimedStream;
+use std::alloc::Global;
 use std::fs::Files;
 use std::io::{self, ErrorKind};
 use std::marker::Model;
@@ -38,15 +40,22 @@ impl<C: Clock + Copy> Model for SocketLink<C> {
 }
 
 impl<C: Clock + Copy> SocketLink<C> {
-    // A link over a stream. Small pieces go out at once where the system allows that.
-    fn over(stream: TimedStream<C>, place: u64, toward: Option<History>) -> SocketLink<C>
-        requires { stream ≡ new_stream None None }
-        ensures fresh { IsFreshLink result.taken result.sent result.over result.stream.shut result.admitted
-            result.faults }
+    // A link over a stream, with empty queues.
+    fn over(
+        stream: TimedStream<C>,
+        queues: Queues,
+        place: u64,
+        toward: Option<History>,
+    ) -> SocketLink<C>
+        requires stream { stream ≡ new_stream None None }
+        requires ahead { queues.ahead.waiting ≡ [] }
+        requires behind { queues.behind.waiting ≡ [] }
+        ensures fresh { IsFreshLink result.taken result.sent result.over result.stream.shut
+            result.stream.admitted result.faults }
         ensures origin { (result.place ≡ place) × (result.toward ≡ option_map bytes_of toward) }
     {
         SocketLink {
-            link: StreamLink::over(stream, place, toward),
+            link: StreamLink::over(stream, queues, place, toward),
         }
     }
 
@@ -76,7 +85,7 @@ impl<C: Clock + Copy> Link for SocketLink<C> {
 
     ghost closed = { λ t. t.stream.shut };
 
-    ghost admitted = { λ t. t.admitted };
+    ghost admitted = { λ t. t.stream.admitted };
 
     ghost place = { λ t. t.place };
 
@@ -102,11 +111,13 @@ impl<C: Clock + Copy> Link for SocketLink<C> {
 }
 
 /// Where connections of the system come from: over TCP, and where an address begins with `unix:`, over local sockets. It accepts at the
-/// address at which it listened last. Its links read the time from a clock of their own.
+/// address at which it listened last. Its links read the time from a clock of their own, and their queues are taken from this memory: a
+/// connection for which there is none is closed, and the door has failed.
 #[derive(Drop)]
 pub struct SocketDoor<C: Clock + Copy> {
     listener: Option<SystemListener>,
     patience: u64,
+    alloc: Global,
     clock: C,
     history: DoorHistory,
 }
@@ -121,12 +132,13 @@ impl<C: Clock + Copy> Model for SocketDoor<C> {
 
 impl<C: Clock + Copy> SocketDoor<C> {
     /// A door that doesn't listen yet.
-    pub fn new(clock: C) -> SocketDoor<C>
+    pub fn new(alloc: Global, clock: C) -> SocketDoor<C>
         ensures { result ≡ record { origin = new_origin; calls = [] } }
     {
         SocketDoor {
             listener: None,
             patience: 0,
+            alloc,
             clock,
             history: DoorHistory::new(),
         }
@@ -186,6 +198,7 @@ impl<C: Clock + Copy> Door for SocketDoor<C> {
                 Shared::Made(SocketDoor {
                     listener,
                     patience: self.patience,
+                    alloc: self.alloc,
                     clock: self.clock,
                     history,
                 })
@@ -204,7 +217,7 @@ impl<C: Clock + Copy> Door for SocketDoor<C> {
         _rt: &R,
     ) -> Next<SocketLink<C>>
         ensures fresh { IfGiven result
-            (λ link. IsFreshLink link.taken link.sent link.over link.stream.shut link.admitted link.faults) }
+            (λ link. IsFreshLink link.taken link.sent link.over link.stream.shut link.stream.admitted link.faults) }
         ensures place { IfGiven result (λ link. link.place ≡ gave_in self.new.calls) }
         ensures toward { IfGiven result (λ link. link.toward ≡ None) }
         ensures links { Gives {L = SocketLink C} result None None }
@@ -212,12 +225,12 @@ impl<C: Clock + Copy> Door for SocketDoor<C> {
         ensures origin { self.new.origin ≡ self.old.origin }
         ensures endless { result ≢ Next.NoMore }
     {
-        match accepted(&self.listener) {
-            Ok(stream) => {
+        match with_queues(self.alloc, accepted(&self.listener)) {
+            Ok((stream, queues)) => {
                 self.history.add(LoggedCall::Gave);
-                stream.set_prompt();
                 let stream = TimedStream::patient(self.clock, stream, self.patience);
-                Next::Link(SocketLink::over(stream, self.history.gave(), None))
+                let place = self.history.gave();
+                Next::Link(SocketLink::over(stream, queues, place, None))
             }
             Err(_) => {
                 self.history.add(LoggedCall::NotGiven);
@@ -233,12 +246,12 @@ impl<C: Clock + Copy> Door for SocketDoor<C> {
         address: &[u8],
     ) -> Dial<SocketLink<C>> {
         let told = History::of(address);
-        match SystemStream::connect(rt, address) {
-            Ok(stream) => {
+        match with_queues(self.alloc, SystemStream::connect(rt, address)) {
+            Ok((stream, queues)) => {
                 self.history.add(LoggedCall::Dialed { address: told });
-                stream.set_prompt();
                 let stream = TimedStream::endless(self.clock, stream);
-                Dial::Link(SocketLink::over(stream, 0, Some(History::of(address))))
+                let toward = Some(History::of(address));
+                Dial::Link(SocketLink::over(stream, queues, 0, toward))
             }
             Err(_) => {
                 self.history.add(LoggedCall::NotDialed { address: told });
@@ -262,4 +275,18 @@ fn accepted(listener: &Option<SystemListener>) -> io::Result<SystemStream> {
         Some(listener) => listener.accept(),
         None => Err(io::Error::from(ErrorKind::NotConnected)),
     }
+}
+
+/// A connection, if there is one, with queues for it. Small pieces go out at once where the system allows that.
+fn with_queues(
+    alloc: Global,
+    connected: io::Result<SystemStream>,
+) -> io::Result<(SystemStream, Queues)>
+    ensures ahead { IfOk result (λ r. r.1.ahead.waiting ≡ []) }
+    ensures behind { IfOk result (λ r. r.1.behind.waiting ≡ []) }
+{
+    let stream = connected?;
+    let queues = Queues::new(alloc)?;
+    stream.set_prompt();
+    Ok((stream, queues))
 }

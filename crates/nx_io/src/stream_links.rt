@@ -1,5 +1,5 @@
 // Links over streams.
-ghost use Rattle.std.specs.Prelude.{◌<◌, ◌≡◌, ◌≢◌, ◌⊎◌, ◌≤◌, [], None, false, length, true};
+ghost use Rattle.std.specs.Prelude.{◌<◌, ◌≡◌, ◌≢◌, ◌⊎◌, ◌≤◌, [], IfOk, None, false, length, true};
 ghost use Rattle.std.specs.Option.{option_map};
 ghost use Rattle.nx_io.specs.Histories.{bytes_of};
 ghost use Rattle.nx_io.specs.Links.{KeepsComing, KeepsGoing, KeepsOrigin};
@@ -10,7 +10,9 @@ use crate::buffered::Buffered;
 use crate::duplex::Duplex;
 use crate::history::History;
 use crate::links::Link;
+use crate::queues::Queues;
 use crate::streams::{Got, Put, Reach};
+use std::alloc::{AllocError, Global};
 use std::marker::Model;
 
 /// A link over any stream, which counts its faults. It reads ahead, and gathers what it is sent until it would wait for bytes
@@ -20,7 +22,6 @@ use std::marker::Model;
 pub struct StreamLink<S: Duplex> {
     traffic: Buffered<S>,
     over: bool,
-    admitted: bool,
     place: u64,
     toward: Option<History>,
     faults: u64,
@@ -38,7 +39,6 @@ impl<S: Duplex> Model for StreamLink<S> {
       taken = l.traffic.taken;
       sent = l.traffic.sent;
       over = l.over;
-      admitted = l.admitted;
       place = l.place;
       toward = option_map bytes_of l.toward;
       faults = l.faults;
@@ -46,29 +46,27 @@ impl<S: Duplex> Model for StreamLink<S> {
 }
 
 impl<S: Duplex> StreamLink<S> {
-    // A link over a stream, under the number by which a door gives it, or toward the address that was dialed.
-    pub(crate) fn over(stream: S, place: u64, toward: Option<History>) -> StreamLink<S>
+    // A link over an open stream, with empty queues, under the number by which a door gives it, or toward the address that was dialed.
+    pub(crate) fn over(
+        stream: S,
+        queues: Queues,
+        place: u64,
+        toward: Option<History>,
+    ) -> StreamLink<S>
         requires given { S.given stream ≡ [] }
         requires sent { S.sent stream ≡ [] }
+        requires open { S.shut stream ≡ false }
+        requires ahead { queues.ahead.waiting ≡ [] }
+        requires behind { queues.behind.waiting ≡ [] }
         ensures { result ≡ new_socket stream place (option_map bytes_of toward) }
     {
         StreamLink {
-            traffic: Buffered::new(stream),
+            traffic: Buffered::new(stream, queues),
             over: false,
-            admitted: false,
             place,
             toward,
             faults: 0,
         }
-    }
-
-    /// A link over a stream that was neither read nor written yet, which no door gave and nobody dialed.
-    pub fn new(stream: S) -> StreamLink<S>
-        requires given { S.given stream ≡ [] }
-        requires sent { S.sent stream ≡ [] }
-        ensures { result ≡ new_socket stream 0 None }
-    {
-        StreamLink::over(stream, 0, None)
     }
 
     /// Whether the link was closed.
@@ -86,6 +84,20 @@ impl<S: Duplex> StreamLink<S> {
     }
 }
 
+impl<S: Duplex + Drop> StreamLink<S> {
+    /// A link over an open stream that was neither read nor written yet, which no door gave and nobody dialed. An `Err` says that
+    /// there was no memory for its queues.
+    pub fn new(alloc: Global, stream: S) -> Result<StreamLink<S>, AllocError>
+        requires given { S.given stream ≡ [] }
+        requires sent { S.sent stream ≡ [] }
+        requires open { S.shut stream ≡ false }
+        ensures { IfOk result (λ link. link ≡ new_socket stream 0 None) }
+    {
+        let queues = Queues::new(alloc)?;
+        Ok(StreamLink::over(stream, queues, 0, None))
+    }
+}
+
 impl<S: Duplex> Link for StreamLink<S> {
     ghost left = { λ _. None };
 
@@ -97,7 +109,7 @@ impl<S: Duplex> Link for StreamLink<S> {
 
     ghost closed = { λ l. S.shut l.stream };
 
-    ghost admitted = { λ l. l.admitted };
+    ghost admitted = { λ l. S.admitted l.stream };
 
     ghost place = { λ l. l.place };
 
@@ -115,7 +127,7 @@ impl<S: Duplex> Link for StreamLink<S> {
         ensures over { self.new.over ≡ over_after result self.old.over }
         ensures going { KeepsGoing self.old.sent self.new.sent (S.shut self.old.stream) (S.shut self.new.stream) }
         ensures origin { KeepsOrigin self.old.place self.new.place self.old.toward self.new.toward }
-        ensures admitted { self.new.admitted ≡ self.old.admitted }
+        ensures admitted { S.admitted self.new.stream ≡ S.admitted self.old.stream }
         ensures later { self.old.faults ≤ self.new.faults }
         ensures count { self.new.faults ≡ faults_after_read result self.old.faults }
         ensures order { InOrder (S.given self.new.stream) (S.sent self.new.stream) self.new.taken self.new.sent }
@@ -142,7 +154,7 @@ impl<S: Duplex> Link for StreamLink<S> {
         ensures closed { S.shut self.new.stream ≡ S.shut self.old.stream }
         ensures coming { KeepsComing None None self.old.taken self.new.taken self.old.over self.new.over }
         ensures origin { KeepsOrigin self.old.place self.new.place self.old.toward self.new.toward }
-        ensures admitted { self.new.admitted ≡ self.old.admitted }
+        ensures admitted { S.admitted self.new.stream ≡ S.admitted self.old.stream }
         ensures later { self.old.faults ≤ self.new.faults }
         ensures count { self.new.faults ≡ faults_after_write result self.old.faults }
         ensures order { InOrder (S.given self.new.stream) (S.sent self.new.stream) self.new.taken self.new.sent }
@@ -158,9 +170,9 @@ impl<S: Duplex> Link for StreamLink<S> {
         put
     }
 
-    /// As of any link. The stream is told it too.
+    /// As of any link. The stream is told it.
     fn admit(&mut self)
-        ensures admitted { self.new.admitted ≡ true }
+        ensures admitted { S.admitted self.new.stream ≡ true }
         ensures coming { KeepsComing None None self.old.taken self.new.taken self.old.over self.new.over }
         ensures going { KeepsGoing self.old.sent self.new.sent (S.shut self.old.stream) (S.shut self.new.stream) }
         ensures origin { KeepsOrigin self.old.place self.new.place self.old.toward self.new.toward }
@@ -169,7 +181,6 @@ impl<S: Duplex> Link for StreamLink<S> {
             × (S.sent self.new.stream ≡ S.sent self.old.stream) }
         ensures blame { S.faults self.new.stream ≡ S.faults self.old.stream }
     {
-        self.admitted = true;
         self.traffic.admit();
     }
 
@@ -180,7 +191,7 @@ impl<S: Duplex> Link for StreamLink<S> {
         ensures sent { self.new.sent ≡ self.old.sent }
         ensures coming { KeepsComing None None self.old.taken self.new.taken self.old.over self.new.over }
         ensures origin { KeepsOrigin self.old.place self.new.place self.old.toward self.new.toward }
-        ensures admitted { self.new.admitted ≡ self.old.admitted }
+        ensures admitted { S.admitted self.new.stream ≡ S.admitted self.old.stream }
         ensures later { self.old.faults ≤ self.new.faults }
         ensures count { MayRise self.old.faults self.new.faults }
         ensures order { InOrder (S.given self.new.stream) (S.sent self.new.stream) self.new.taken self.new.sent }

@@ -99,6 +99,8 @@ impl<C: Clock + Copy> Duplex for TimedStream<C> {
 
     ghost shut = { λ t. t.shut };
 
+    ghost admitted = { λ t. t.admitted };
+
     ghost faults = { λ t. t.faults };
 
     /// As of any stream.
@@ -133,6 +135,7 @@ impl<C: Clock + Copy> Duplex for TimedStream<C> {
 
     /// As of any stream.
     fn admit(&mut self) {
+        self.stream.admit();
         if let Limit::Until { then, .. } = self.limit {
             self.limit = Limit::Each(then);
         }

@@ -210,7 +210,7 @@ fn go_both_ways<R>(rt: &R, alloc: Global)
 where
     R: Net<Listener = TcpListener, Stream = TcpStream> + Clock + Copy + Send + Files + Abort,
 {
-    let mut door = SocketDoor::new(*rt);
+    let mut door = SocketDoor::new(alloc, *rt);
     let does_listen = match listening(rt, alloc, &mut door) {
         Ok(Some(address)) => {
             connected(rt, &mut door, address.as_bytes(), STEPS);
@@ -258,8 +258,9 @@ fn reaches_nobody_at<R: Net<Listener = TcpListener, Stream = TcpStream> + Clock 
 // Each call is counted as a fault.
 fn fails_at_each_call<R: Net<Listener = TcpListener, Stream = TcpStream> + Clock + Copy + Files>(
     rt: &R,
+    alloc: Global,
 ) -> bool {
-    let mut door = SocketDoor::new(*rt);
+    let mut door = SocketDoor::new(alloc, *rt);
     let fails = gives_nothing(rt, &mut door)
         && reaches_nobody(rt, &mut door)
         && door.listen(rt, b"no address", PATIENCE) == Reach::Failed
@@ -270,7 +271,7 @@ fn fails_at_each_call<R: Net<Listener = TcpListener, Stream = TcpStream> + Clock
 
 #[test]
 fn a_door_fails_where_nobody_is(rt: HostRuntime) {
-    assert!(rt; fails_at_each_call(&rt));
+    assert!(rt; fails_at_each_call(&rt, rt.alloc()));
 }
 
 // Whether the next link of a door ends at once.
@@ -291,13 +292,13 @@ fn gives_one_that_ends<R: Net<Listener = TcpListener, Stream = TcpStream> + Cloc
 
 // A door at a path, and another one. No other may listen there while the first does: it finds out by a connection, which the first
 // one gives. What that leaves behind is replaced.
-fn one_door_at_a_path<R>(rt: &R)
+fn one_door_at_a_path<R>(rt: &R, alloc: Global)
 where
     R: Net<Listener = TcpListener, Stream = TcpStream> + Clock + Copy + Send + Files + Abort,
 {
     let address = b"unix:door";
-    let mut first = SocketDoor::new(*rt);
-    let mut other = SocketDoor::new(*rt);
+    let mut first = SocketDoor::new(alloc, *rt);
+    let mut other = SocketDoor::new(alloc, *rt);
     assert!(rt; first.listen(rt, address, PATIENCE) == Reach::Ready);
     connected(rt, &mut first, address, LOCAL_STEPS);
     assert!(rt; other.listen(rt, address, PATIENCE) == Reach::Failed && other.faults() == 1);
@@ -312,15 +313,15 @@ where
 
 #[test]
 fn one_door_listens_at_a_path(rt: HostRuntime) {
-    one_door_at_a_path(&rt);
+    one_door_at_a_path(&rt, rt.alloc());
 }
 
 // What is no socket stays as it is, and nobody listens there.
-fn is_left_alone<R>(rt: &R) -> bool
+fn is_left_alone<R>(rt: &R, alloc: Global) -> bool
 where
     R: Net<Listener = TcpListener, Stream = TcpStream> + Clock + Copy + Files,
 {
-    let mut door = SocketDoor::new(*rt);
+    let mut door = SocketDoor::new(alloc, *rt);
     let fails = fs::write(rt, "file", "some bytes").is_ok()
         && door.listen(rt, b"unix:file", PATIENCE) == Reach::Failed
         && door.listen(rt, b"unix:no folder/door", PATIENCE) == Reach::Failed
@@ -340,5 +341,5 @@ fn has_length<R: Files>(rt: &R, path: &str, length: u64) -> bool {
 
 #[test]
 fn a_file_that_is_no_socket_is_left_alone(rt: HostRuntime) {
-    assert!(rt; is_left_alone(&rt));
+    assert!(rt; is_left_alone(&rt, rt.alloc()));
 }
