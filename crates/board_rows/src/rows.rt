@@ -3,7 +3,7 @@
 ghost use Rattle.std.specs.Prelude.{◌≡◌, [], None};
 
 use crate::flags::{ALLOWED, Flag, Flags, case_place};
-use crate::slots;
+use crate::{rolls, slots};
 use std::alloc::{AllocError, Global};
 use std::process::Abort;
 use verdict_words::{Board, BookSeat};
@@ -134,13 +134,15 @@ fn meetings(
         flag: 9,
     };
     board.publish(seat, &flag);
-    let passes = Vec::from_array(alloc, [one, two])?;
-    let passes = board.settle(seat, passes);
+    let lists = Vec::from_array(alloc, [Vec::from_array(alloc, [one, two])?])?;
+    let lists = board.settle(seat, lists, Vec::new(alloc));
     let mut found = [[0u64; 2]; 2];
-    for (slot, pass) in found.iter_mut().zip(passes.as_slice()) {
-        *slot = [pass.session(), pass.at()];
+    if let Some(passes) = lists.as_slice().first() {
+        for (slot, pass) in found.iter_mut().zip(passes.as_slice()) {
+            *slot = [pass.session(), pass.at()];
+        }
     }
-    drop(passes);
+    drop(lists);
     format!(in alloc; "{steps:?} {found:?}")
 }
 
@@ -159,6 +161,7 @@ fn told_on(
         "a look misses behind a change of another session" => change(alloc, board, seat),
         "a read is of the last step of any session" => reads(alloc, board, seat),
         "passes are met together" => meetings(alloc, board, seat),
+        "sessions begin by a roll" => rolls::told(alloc, board, seat),
         _ => Err(AllocError),
     }
 }
@@ -179,7 +182,8 @@ const ROWS: &str = "an entry makes only its own region miss -> \
 a register step answers what the register held -> [1, 2] [0, 0, 7, 6, 8, 0] [0, 8, 0]
 a look misses behind a change of another session -> Hit { at: 0, held: Held { code: 1, line: 0, fault: 0 } } Miss
 a read is of the last step of any session -> [0, 5, 9]
-passes are met together -> [0, 5] [[1, 1], [2, 1]]";
+passes are met together -> [0, 5] [[1, 1], [2, 1]]
+sessions begin by a roll -> [1, 2, 1, 4] Hit { at: 0, held: Held { code: 1, line: 0, fault: 0 } } [[1, 1], [2, 1]] [4, 1]";
 
 // The first row that comes to something else, with what it comes to. Nothing where there is none.
 fn first_other(alloc: Global, rows: &str) -> Result<String, AllocError> {

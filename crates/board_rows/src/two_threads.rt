@@ -10,7 +10,7 @@ use std::process::Abort;
 use std::sync::{Mutex, Wait};
 use std::test::Fail;
 use std::thread::{Threads, join};
-use verdict_words::{Board, BookSeat, Look, Naming, Pass};
+use verdict_words::{Board, BookSeat, Look, Naming, Pass, Roll};
 
 const MOST: u64 = 262_144;
 
@@ -158,6 +158,28 @@ fn two_sessions_tell_the_same_under_every_schedule(rt: HostRuntime) -> Result<()
     board.fill(&mut one, &case_place(8), 0, &ALLOWED);
     board.fill(&mut one, &case_place(100), 0, &ALLOWED);
     told(&rt, &board, seat, one, two);
+    drop(board);
+    Ok(())
+}
+
+// The session that a roll begins first, or 0 where there is none.
+fn first_of(roll: Roll<Flags>) -> u64 {
+    let mut roll = roll;
+    match roll.next() {
+        Some(pass) => pass.session(),
+        None => 0,
+    }
+}
+
+#[test]
+fn a_roll_is_handed_to_each_thread(rt: HostRuntime) -> Result<(), Fail> {
+    let entries = Vec::new(rt.alloc());
+    let (board, mut seat) = Board::<Flags>::make(rt.alloc(), &(), &entries, 1)?;
+    let one = board.enroll(rt.alloc(), &mut seat, 4)?;
+    let two = board.enroll(rt.alloc(), &mut seat, 4)?;
+    let sessions = join(&rt, || first_of(one), || first_of(two));
+    assert_eq!(rt; sessions, (1, 5));
+    drop(seat);
     drop(board);
     Ok(())
 }

@@ -12,6 +12,8 @@ mod plays;
 #[cfg(test)]
 mod recordings;
 #[cfg(test)]
+mod rolls;
+#[cfg(test)]
 mod rows;
 #[cfg(test)]
 mod told;

@@ -90,8 +90,8 @@ fn told_with<R: Net<Listener = TcpListener, Stream = TcpStream> + Clock + Wait>(
     }
 }
 
-// The text of a journal without its last line, where it has two principals and its sessions have small numbers.
-fn front_of(alloc: Global, journal: &Journal) -> Option<Vec<u8>>
+/// The text of a journal without its last line, where it has two principals and its sessions have small numbers.
+pub fn front_of(alloc: Global, journal: &Journal) -> Option<Vec<u8>>
     ensures text { IfSome result (λ text. text.items ≡ front journal.now.head (entry_trees journal.now.entries)) }
     ensures sessions { IfSome result (λ _. greatest_of (entry_trees journal.now.entries) ≤ 1000) }
     ensures principals { IfSome result (λ _. 2 ≤ length journal.now.head.principals) }

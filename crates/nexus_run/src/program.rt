@@ -6,7 +6,8 @@ ghost use Rattle.policy_history.specs.declared.events.Entry.{Entry};
 ghost use Rattle.policy_history.specs.Values.{entry_trees};
 ghost use Rattle.nexus_serve.specs.Services.{IsJournal};
 ghost use Rattle.nexus_serve.specs.TrueReports.{AreTrue};
-ghost use Rattle.nexus_serve.specs.Views.{door_view, link_view, report_view};
+ghost use Rattle.nexus_serve.specs.Views.{door_view, link_view};
+ghost use Rattle.verdict_words.specs.Settling.{flat};
 ghost use Rattle.nexus_client.specs.declared.inputs.TalkInput.{TalkInput};
 ghost use Rattle.service_commands.specs.Clients.{EndsClient, RunsClient};
 ghost use Rattle.nexus_run.specs.Commanded.{RunsCommand};
@@ -128,8 +129,7 @@ where
           status = result.status;
           output = option_map (λ k. record { sent = K.sent k; synced = K.synced k; faults = K.faults k }) result.output;
           journal = result.journal;
-          reports = map (report_view (link_view D.Link.left D.Link.taken D.Link.sent D.Link.over D.Link.closed
-              D.Link.admitted D.Link.place D.Link.toward D.Link.faults)) result.reports.items;
+          reports = flat result.reports.items;
           door = (door_view (link_view D.Link.left D.Link.taken D.Link.sent D.Link.over D.Link.closed
               D.Link.admitted D.Link.place D.Link.toward D.Link.faults) D.links D.origin D.calls result.door);
           doors = map (door_view (link_view D.Link.left D.Link.taken D.Link.sent D.Link.over D.Link.closed
@@ -139,8 +139,7 @@ where
         }) }
     ensures earned { (h : Head) (es : List Entry) → IsJournal result.journal h es → (low : ℕ)
         × AreTrue h (entry_trees es) low
-        (map (report_view (link_view D.Link.left D.Link.taken D.Link.sent D.Link.over D.Link.closed D.Link.admitted
-        D.Link.place D.Link.toward D.Link.faults)) result.reports.items) }
+        (flat result.reports.items) }
     ensures other_door { ¬ IsServiceCall (map (λ w. w.now) words.now) → ¬ IsTalkCall (map (λ w. w.now) words.now)
         → result.door ≡ door }
     ensures unshared { ¬ IsServiceCall (map (λ w. w.now) words.now) → (result.reports.items ≡ [])

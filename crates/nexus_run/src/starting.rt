@@ -7,7 +7,8 @@ ghost use Rattle.policy_history.specs.declared.events.Entry.{Entry};
 ghost use Rattle.policy_history.specs.Values.{entry_trees};
 ghost use Rattle.nexus_serve.specs.Services.{IsJournal};
 ghost use Rattle.nexus_serve.specs.TrueReports.{AreTrue};
-ghost use Rattle.nexus_serve.specs.Views.{door_view, link_view, report_view};
+ghost use Rattle.nexus_serve.specs.Views.{door_view, link_view};
+ghost use Rattle.verdict_words.specs.Settling.{flat};
 ghost use Rattle.nexus_run.specs.Arguments.{words_of_call};
 ghost use Rattle.nexus_client.specs.declared.inputs.TalkInput.{TalkInput};
 ghost use Rattle.service_commands.specs.Clients.{RunsClient};
@@ -19,9 +20,9 @@ ghost use Rattle.script_command.specs.Scripts.{HasMore, panel_run};
 use crate::arguments::{Arguments, texts, words_of_call};
 use crate::program::run;
 use authority_ask::Panel;
+use nexus_serve::Reports;
 use nx_io::{Door, Gate, Link, Sink, Source};
 use policy_history::Journal;
-use session_core::Report;
 use std::alloc::{AllocGlobal, Global};
 use std::fs::Files;
 use std::net::{Net, TcpListener, TcpStream};
@@ -36,7 +37,7 @@ pub struct Finished<D: Door, P: Panel, K: Sink> {
     pub code: ExitCode,
     pub output: Option<K>,
     pub journal: Option<Journal>,
-    pub reports: Vec<Report<D::Link>>,
+    pub reports: Vec<Reports<D::Link>>,
     pub dialed: Option<D::Link>,
     pub door: D,
     pub doors: Vec<D>,
@@ -132,8 +133,7 @@ where
           status = exit_status result.code;
           output = option_map (λ k. record { sent = K.sent k; synced = K.synced k; faults = K.faults k }) result.output;
           journal = result.journal;
-          reports = map (report_view (link_view D.Link.left D.Link.taken D.Link.sent D.Link.over D.Link.closed
-              D.Link.admitted D.Link.place D.Link.toward D.Link.faults)) result.reports.items;
+          reports = flat result.reports.items;
           door = (door_view (link_view D.Link.left D.Link.taken D.Link.sent D.Link.over D.Link.closed
               D.Link.admitted D.Link.place D.Link.toward D.Link.faults) D.links D.origin D.calls result.door);
           doors = map (door_view (link_view D.Link.left D.Link.taken D.Link.sent D.Link.over D.Link.closed
@@ -143,8 +143,7 @@ where
         }) }
     ensures earned { (h : Head) (es : List Entry) → IsJournal result.journal h es → (low : ℕ)
         × AreTrue h (entry_trees es) low
-        (map (report_view (link_view D.Link.left D.Link.taken D.Link.sent D.Link.over D.Link.closed D.Link.admitted
-        D.Link.place D.Link.toward D.Link.faults)) result.reports.items) }
+        (flat result.reports.items) }
     ensures other_door { ¬ IsServiceCall (words_of_call (gained (A.told arguments.old) (A.told arguments.new)))
         → ¬ IsTalkCall (words_of_call (gained (A.told arguments.old) (A.told arguments.new))) → result.door ≡ door }
     ensures unshared { ¬ IsServiceCall (words_of_call (gained (A.told arguments.old) (A.told arguments.new)))

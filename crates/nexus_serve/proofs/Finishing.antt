@@ -18,28 +18,25 @@ use Rattle.verdict_words.specs.Orders.{found_told, told_of, trail_steps}
 use Rattle.verdict_words.specs.Rule.{last_met}
 use Rattle.verdict_words.specs.declared.views.AtomicStep.{AtomicStep}
 use Rattle.verdict_words.proofs.ForCallers.{trail_steps_snoc}
-use Rattle.verdict_words.specs.Settling.{all_met, met_of}
+use Rattle.verdict_words.specs.Settling.{all_of}
 use Rattle.verdict_words.specs.Values.{Identity, PassValue}
 use Rattle.verdict_words.specs.declared.views.Item.TheVariants.{Met}
 use Rattle.policy_book.specs.Books.{BookValue, IsMetIn, session_of}
 use Rattle.session_core.specs.ToldLaws.{ToldStaysTold}
-use Rattle.nexus_serve.specs.declared.service.ServeEnd.TheVariants.{Done, DoorFault}
+use Rattle.nexus_serve.specs.declared.closing.ServeEnd.{ServeEnd}
+use Rattle.nexus_serve.specs.declared.closing.ServeEnd.TheVariants.{Done, DoorFault, NoRoom}
 use Rattle.nexus_serve.specs.Views.{ReportView}
-use Rattle.nexus_serve.specs.Workers.{HaveWorked, SomeFailed}
-use Rattle.nexus_serve.specs.Services.{HasSeenAll, HaveOneOrder, IsServed, ServedView, Serves, SinkView, done, is_fault, sessions_of}
-use Rattle.nexus_serve.specs.Inner.Gathering.{gathered_all, joined, nothing, pass_of, rest_of, with_unused}
+use Rattle.nexus_serve.specs.Workers.{HaveWorked, SomeCutShort, SomeFailed}
+use Rattle.nexus_serve.specs.Services.{HasSeenAll, HaveOneOrder, IsServed, ServedView, Serves, SinkView, done, sessions_of}
+use Rattle.nexus_serve.specs.Inner.Gathering.{gathered_all, nothing, pass_of}
 use Rattle.nexus_serve.specs.Inner.Joining.{IsMetBy, met_report, reports_of, unused_of}
-use Rattle.nexus_serve.specs.Inner.Reporting.{IsReported, end_of}
+use Rattle.nexus_serve.specs.Inner.Reporting.{IsReported}
 use Rattle.nexus_serve.specs.Inner.Serving.{AreDone, doors_of, panels_of}
-use Rattle.nexus_serve.specs.Inner.Working.{IsUnused, WorkerValue}
-use Rattle.nexus_serve.proofs.Gathering.{doors_gathered, joined_met, panels_gathered, passes_gathered, rests_gathered, some_failed, tells_all, unused_gathered}
+use Rattle.nexus_serve.specs.Inner.Working.{IsUnused, WorkerValue, end_of}
+use Rattle.nexus_serve.proofs.Gathering.{all_gathered, doors_gathered, panels_gathered, reports_gathered, some_failed, some_short, tells_all}
 use Rattle.nexus_serve.proofs.Joining.{have_worked, of_reports, works_same}
 use Rattle.nexus_serve.proofs.Lists.{all_both, all_filter, all_left, all_right, all_unfilter, contains_unfilter}
 use Rattle.nexus_serve.proofs.Seeing.{own_within}
-
-fault_is : (b : Bool) → is_fault (end_of b) ≡ b
-fault_is true = refl
-fault_is false = refl
 
 all_unmap : {X Y : Type 0} (P : Y → Type 0) (f : X → Y) (xs : List X) → All P (map f xs) → All (λ x. P (f x)) xs
 all_unmap P f [] h = All-nil (λ x. P (f x))
@@ -70,9 +67,9 @@ all_behind P low whole front (e ∷ rest) is long each =
     let grown = length-append front (e ∷ []) in
     All-cons P e rest (each front e rest is long) (all_behind P low whole (front ++ e ∷ []) rest (is ∙ sym (append_assoc front (e ∷ []) rest)) (omega (arith, long, grown)) each)
 
-module _ {K P : Type 0} (panel : P → PanelHistory) (stays : ToldStaysTold) (book : BookValue K) (synced : ℕ) (served : ServedView P) (most : ℕ) (hired workers : List (WorkerValue P)) (places spare : ℕ)
+module _ {K P : Type 0} (panel : P → PanelHistory) (stays : ToldStaysTold) (book : BookValue K) (synced : ℕ) (served : ServedView P) (most : ℕ) (hired workers : List (WorkerValue P)) (places : ℕ)
     (are_done : AreDone panel book.board book.board.origin.first most hired workers) (all_numbers : book.next ≡ book.board.origin.first + length workers * most)
-    (reported : IsReported book (with_unused (gathered_all (nothing places spare) workers)) served) (total : ℕ) (is_counted : All (λ (worker : WorkerValue P). worker.unrecorded ≤ total) workers) (is_failed : 0 < total → book.is_broken ≡ true) (first_is : book.board.origin.first ≡ greatest_of (entry_trees book.board.origin.opening) + 1) where
+    (reported : IsReported book (gathered_all (nothing places) workers) served) (total : ℕ) (is_counted : All (λ (worker : WorkerValue P). worker.unrecorded ≤ total) workers) (is_failed : 0 < total → book.is_broken ≡ true) (first_is : book.board.origin.first ≡ greatest_of (entry_trees book.board.origin.opening) + 1) where
   abbrev board : Identity Entry Head
   board = book.board
 
@@ -88,14 +85,11 @@ module _ {K P : Type 0} (panel : P → PanelHistory) (stays : ToldStaysTold) (bo
   abbrev unused : List (PassValue Entry Head)
   unused = unused_of workers
 
-  passes : (with_unused (gathered_all (nothing places spare) workers)).passes ≡ map pass_of reports ++ unused
-  passes = ap (λ l. l ++ (gathered_all (nothing places spare) workers).unused) (passes_gathered (nothing places spare) workers) ∙ ap (λ l. map pass_of reports ++ l) (unused_gathered (nothing places spare) workers)
+  passes : all_of (gathered_all (nothing places) workers).used (gathered_all (nothing places) workers).unused ≡ map pass_of reports ++ unused
+  passes = all_gathered places workers
 
   handed : served.reports ≡ map (met_report board es known) reports
-  handed =
-      reported.reports ∙ ap (λ l. joined l (all_met book.board es known (with_unused (gathered_all (nothing places spare) workers)).passes)) (rests_gathered (nothing places spare) workers)
-      ∙ ap (λ l. joined (map rest_of reports) (all_met book.board es known l)) passes
-      ∙ ap (joined (map rest_of reports)) (map-append (λ (pass : PassValue Entry Head). met_of board es known pass.session pass.trail) (map pass_of reports) unused) ∙ joined_met board es known reports (all_met board es known unused)
+  handed = reported.reports ∙ reports_gathered board es known places workers
 
   met : All (IsMetIn book) (map pass_of reports ++ unused)
   met = subst (All (IsMetIn book)) passes reported.met
@@ -105,9 +99,6 @@ module _ {K P : Type 0} (panel : P → PanelHistory) (stays : ToldStaysTold) (bo
 
   met_by : All (λ (report : ReportView). IsMetBy es report.pass) reports
   met_by = All-weaker (λ (report : ReportView). IsMetIn book report.pass) (λ (report : ReportView). IsMetBy es report.pass) (λ report is. record { seen = is.seen; own_is = is.own_met }) reports met_reports
-
-  fault : is_fault served.end ≡ (gathered_all (nothing places spare) workers).has_failed
-  fault = ap is_fault reported.end ∙ fault_is (gathered_all (nothing places spare) workers).has_failed
 
   seen_all : (report : ReportView) → IsMetBy es report.pass × (report.pass.session ≡ report.session) → HasSeenAll es (met_report board es known report)
   seen_all report (is, same) = record {
@@ -217,22 +208,30 @@ module _ {K P : Type 0} (panel : P → PanelHistory) (stays : ToldStaysTold) (bo
     within = within;
   }
 
-  ends : (served.end ≡ Done) ⊎ ((served.end ≡ DoorFault) × SomeFailed (doors_of hired) (doors_of workers))
-  ends = by_fault (gathered_all (nothing places spare) workers).has_failed refl
+  abbrev told : ServeEnd
+  told = end_of (gathered_all (nothing places) workers).has_failed (gathered_all (nothing places) workers).lacks_room
+
+  abbrev Ends : Type 0
+  Ends = (served.end ≡ Done) ⊎ ((served.end ≡ DoorFault) × SomeFailed (doors_of hired) (doors_of workers)) ⊎ ((served.end ≡ NoRoom) × SomeCutShort most (doors_of hired) (doors_of workers))
+
+  -- it was not so before the workers began
+  of_workers : {A : Type 0} → (false ≡ true) ⊎ A → A
+  of_workers (inl never) = absurd (cc never)
+  of_workers (inr is) = is
+
+  ends : Ends
+  ends = by_ends (gathered_all (nothing places) workers).has_failed (gathered_all (nothing places) workers).lacks_room refl refl
     where
-      by_fault : (b : Bool) → (gathered_all (nothing places spare) workers).has_failed ≡ b → (served.end ≡ Done) ⊎ ((served.end ≡ DoorFault) × SomeFailed (doors_of hired) (doors_of workers))
-      by_fault false is = inl (reported.end ∙ ap end_of is)
-      by_fault true is = inr (reported.end ∙ ap end_of is, of_some (some_failed panel board board.origin.first most (nothing places spare) hired workers are_done is))
-        where
-          of_some : (false ≡ true) ⊎ SomeFailed (doors_of hired) (doors_of workers) → SomeFailed (doors_of hired) (doors_of workers)
-          of_some (inl never) = absurd (cc never)
-          of_some (inr some) = some
+      by_ends : (has_failed lacks_room : Bool) → (gathered_all (nothing places) workers).has_failed ≡ has_failed → (gathered_all (nothing places) workers).lacks_room ≡ lacks_room → Ends
+      by_ends true lacks_room failed short = inr (inl (reported.end ∙ (λ i. end_of (failed i) (short i)), of_workers (some_failed panel board board.origin.first most (nothing places) hired workers are_done failed)))
+      by_ends false true failed short = inr (inr (reported.end ∙ (λ i. end_of (failed i) (short i)), of_workers (some_short panel board board.origin.first most (nothing places) hired workers are_done short)))
+      by_ends false false failed short = inl (reported.end ∙ (λ i. end_of (failed i) (short i)))
 
   doors : served.doors ≡ doors_of workers
-  doors = reported.doors ∙ doors_gathered (nothing places spare) workers
+  doors = reported.doors ∙ doors_gathered (nothing places) workers
 
   panels : served.panels ≡ panels_of workers
-  panels = reported.panels ∙ panels_gathered (nothing places spare) workers
+  panels = reported.panels ∙ panels_gathered (nothing places) workers
 
   -- the text has failed
   abbrev Failed : Type 0
@@ -242,11 +241,11 @@ module _ {K P : Type 0} (panel : P → PanelHistory) (stays : ToldStaysTold) (bo
   counted = All-weaker (λ (worker : WorkerValue P). worker.unrecorded ≤ total) (λ (worker : WorkerValue P). 0 < worker.unrecorded → Failed)
       (λ worker most some. reported.failed (is_failed (omega (arith, most, some)))) workers is_counted
 
-  worked : HaveWorked board.origin.setting (length board.origin.opening) 1 Failed (is_fault served.end) (greatest_of (entry_trees board.origin.opening) + 1) most (doors_of hired) (doors_of workers) (map panel (panels_of hired)) (map panel (panels_of workers)) (map (met_report board es known) reports)
+  worked : HaveWorked board.origin.setting (length board.origin.opening) 1 Failed served.end (greatest_of (entry_trees board.origin.opening) + 1) most (doors_of hired) (doors_of workers) (map panel (panels_of hired)) (map panel (panels_of workers)) (map (met_report board es known) reports)
   worked =
-      subst (λ n. HaveWorked board.origin.setting (length board.origin.opening) 1 Failed (is_fault served.end) n most (doors_of hired) (doors_of workers) (map panel (panels_of hired)) (map panel (panels_of workers)) (map (met_report board es known) reports)) first_is
-      (subst (λ b. HaveWorked board.origin.setting (length board.origin.opening) 1 Failed b board.origin.first most (doors_of hired) (doors_of workers) (map panel (panels_of hired)) (map panel (panels_of workers)) (map (met_report board es known) reports)) (sym fault)
-      (have_worked panel stays board es known Failed (gathered_all (nothing places spare) workers).has_failed most board.origin.first hired workers are_done (tells_all (nothing places spare) workers) counted met_by))
+      subst (λ n. HaveWorked board.origin.setting (length board.origin.opening) 1 Failed served.end n most (doors_of hired) (doors_of workers) (map panel (panels_of hired)) (map panel (panels_of workers)) (map (met_report board es known) reports)) first_is
+      (subst (λ b. HaveWorked board.origin.setting (length board.origin.opening) 1 Failed b board.origin.first most (doors_of hired) (doors_of workers) (map panel (panels_of hired)) (map panel (panels_of workers)) (map (met_report board es known) reports)) (sym reported.end)
+      (have_worked panel stays board es known Failed told most board.origin.first hired workers are_done (tells_all (nothing places) workers) counted met_by))
 
   is_served : IsServed board.origin.setting board.origin.opening es Failed most (doors_of hired) (doors_of workers) (map panel (panels_of hired)) (map panel (panels_of workers)) (map (met_report board es known) reports) served.end
   is_served = record {
@@ -267,4 +266,4 @@ module _ {K P : Type 0} (panel : P → PanelHistory) (stays : ToldStaysTold) (bo
 
   -- what was reported is what a service hands back
   pub finished : Serves panel most board.origin.setting board.origin.opening (record { sent = book.start; synced = synced; faults = book.start_faults }) (doors_of hired) (panels_of hired) served
-  finished = done es reported.sink_now reported.journal reported.sink all_served reported.text
+  finished = done es reported.sink_now reported.journal reported.sink all_served reported.text reported.lasts

@@ -1,2 +1,4 @@
--- Laws of services, which the proofs of other crates may cite: the reports that are handed back are true.
+-- Laws of services, which the proofs of other crates may cite: the reports that are handed back are true, and what is told of each session is
+-- told by its report.
+pub use Rattle.nexus_serve.proofs.Gathering.{joined_map}
 pub use Rattle.nexus_serve.proofs.TruthOfReports.{hosts_true, none_true, serves_true}

@@ -1,21 +1,54 @@
 -- What workers leave, by their parts.
-use Rattle.std.proofs.Common.{◌≡◌, ◌⊎◌, inl, inr, ℕ, Bool, true, false, List, [], ◌∷◌, ◌++◌, refl, sym, ap, ◌∙◌, append_assoc, append-nil, ◌+◌}
-use Rattle.std.proofs.lemmas.List.{map-append}
-use Rattle.std.proofs.lemmas.List.Elements.{All-append, All-head, All-map, All-tail, All-weaker}
+use Rattle.std.proofs.Common.{◌≡◌, ◌≢◌, ◌⊎◌, inl, inr, ℕ, Bool, true, false, List, [], ◌∷◌, ◌++◌, length, refl, sym, ap, ◌∙◌, subst, append_assoc, append-nil, ◌+◌}
+use Rattle.std.proofs.lemmas.List.{length-map, map-append}
+use Rattle.std.proofs.lemmas.List.Elements.{All-append, All-head, All-map, All-nil, All-tail, All-weaker}
 use Rattle.std.specs.Prelude.{All, map, ◌||◌}
+use Rattle.std.specs.declared.vec.Vec.{Vec}
 use Rattle.authority_ask.specs.PanelCalls.{PanelHistory}
 use Rattle.policy_history.specs.declared.events.Entry.{Entry}
 use Rattle.policy_history.specs.declared.heads.Head.{Head}
 use Rattle.verdict_words.specs.declared.views.AtomicStep.{AtomicStep}
-use Rattle.verdict_words.specs.Settling.{all_met}
+use Rattle.verdict_words.specs.Settling.{all_met, all_of, flat, items_of, met_of}
 use Rattle.verdict_words.specs.Values.{Identity, PassValue}
-use Rattle.nexus_serve.specs.declared.gathered.Rest.{Rest}
-use Rattle.nexus_serve.specs.Views.{DoorView, LinkView, ReportView, report_view}
-use Rattle.nexus_serve.specs.Workers.{SomeFailed}
-use Rattle.nexus_serve.specs.Inner.Gathering.{GatheredValue, RestView, gathered_all, gathered_from, joined, pass_of, raw_joined, rest_of, rest_view, with_pass, with_unused}
+use Rattle.nexus_serve.specs.declared.closing.ServeEnd.{ServeEnd}
+use Rattle.nexus_serve.specs.declared.closing.ServeEnd.TheVariants.{Done, DoorFault}
+use Rattle.nexus_serve.specs.Views.{DoorView, ReportView, SessionView, joined, with_pass}
+use Rattle.nexus_serve.specs.Workers.{IsCutShort, SomeCutShort, SomeFailed}
+use Rattle.nexus_serve.specs.Inner.Gathering.{GatheredValue, gathered_all, gathered_from, joined_each, nothing, pass_of, session_of}
 use Rattle.nexus_serve.specs.Inner.Joining.{met_report, reports_of, unused_of}
 use Rattle.nexus_serve.specs.Inner.Serving.{AreDone, AreOfBoard, doors_of, panels_of}
-use Rattle.nexus_serve.specs.Inner.Working.{IsUnused, WorkerValue}
+use Rattle.nexus_serve.specs.Inner.Working.{IsUnused, WorkerValue, end_of}
+
+-- ---- Reports, by their parts
+
+-- reports that were put together give their parts
+pub sessions_back : (sessions : List SessionView) (passes : List (PassValue Entry Head)) → length sessions ≡ length passes → map session_of (joined sessions passes) ≡ sessions
+sessions_back [] passes same = refl
+sessions_back (s ∷ ss) [] same = absurd (cc same)
+sessions_back (s ∷ ss) (p ∷ ps) same = ap (λ l. s ∷ l) (sessions_back ss ps (cc same))
+
+pub passes_back : (sessions : List SessionView) (passes : List (PassValue Entry Head)) → length sessions ≡ length passes → map pass_of (joined sessions passes) ≡ passes
+passes_back [] [] same = refl
+passes_back [] (p ∷ ps) same = absurd (cc same)
+passes_back (s ∷ ss) [] same = absurd (cc same)
+passes_back (s ∷ ss) (p ∷ ps) same = ap (λ l. p ∷ l) (passes_back ss ps (cc same))
+
+-- what is told of each session is told by its report
+pub joined_map : {A : Type 0} (of_report : ReportView → A) (of_session : SessionView → A) → ((session : SessionView) (pass : PassValue Entry Head) → of_report (with_pass session pass) ≡ of_session session)
+    → (sessions : List SessionView) (passes : List (PassValue Entry Head)) → length sessions ≡ length passes → map of_report (joined sessions passes) ≡ map of_session sessions
+joined_map of_report of_session same [] passes count = refl
+joined_map of_report of_session same (s ∷ ss) [] count = absurd (cc count)
+joined_map of_report of_session same (s ∷ ss) (p ∷ ps) count = (λ i. same s p i ∷ joined_map of_report of_session same ss ps (cc count) i)
+
+-- one report more
+pub joined_last : (sessions : List SessionView) (passes : List (PassValue Entry Head)) (session : SessionView) (pass : PassValue Entry Head) → length sessions ≡ length passes
+    → joined (sessions ++ session ∷ []) (passes ++ pass ∷ []) ≡ joined sessions passes ++ with_pass session pass ∷ []
+joined_last [] [] session pass same = refl
+joined_last [] (p ∷ ps) session pass same = absurd (cc same)
+joined_last (s ∷ ss) [] session pass same = absurd (cc same)
+joined_last (s ∷ ss) (p ∷ ps) session pass same = ap (λ l. with_pass s p ∷ l) (joined_last ss ps session pass (cc same))
+
+-- ---- What all workers leave
 
 pub doors_gathered : {P : Type 0} (g : GatheredValue P) (workers : List (WorkerValue P)) → (gathered_all g workers).doors ≡ g.doors ++ doors_of workers
 doors_gathered g [] = sym (append-nil g.doors)
@@ -25,27 +58,69 @@ pub panels_gathered : {P : Type 0} (g : GatheredValue P) (workers : List (Worker
 panels_gathered g [] = sym (append-nil g.panels)
 panels_gathered g (w ∷ ws) = panels_gathered (gathered_from g w) ws ∙ append_assoc g.panels (w.panel ∷ []) (panels_of ws)
 
-pub rests_gathered : {P : Type 0} (g : GatheredValue P) (workers : List (WorkerValue P)) → (gathered_all g workers).rests ≡ g.rests ++ map rest_of (reports_of workers)
-rests_gathered g [] = sym (append-nil g.rests)
-rests_gathered g (w ∷ ws) =
-    rests_gathered (gathered_from g w) ws ∙ append_assoc g.rests (map rest_of w.reports) (map rest_of (reports_of ws)) ∙ ap (λ xs. g.rests ++ xs) (sym (map-append rest_of w.reports (reports_of ws)))
+pub sessions_gathered : {P : Type 0} (g : GatheredValue P) (workers : List (WorkerValue P)) → (gathered_all g workers).sessions ≡ g.sessions ++ map (λ (worker : WorkerValue P). map session_of worker.reports) workers
+sessions_gathered g [] = sym (append-nil g.sessions)
+sessions_gathered g (w ∷ ws) = sessions_gathered (gathered_from g w) ws ∙ append_assoc g.sessions (map session_of w.reports ∷ []) (map (λ worker. map session_of worker.reports) ws)
 
-pub passes_gathered : {P : Type 0} (g : GatheredValue P) (workers : List (WorkerValue P)) → (gathered_all g workers).passes ≡ g.passes ++ map pass_of (reports_of workers)
-passes_gathered g [] = sym (append-nil g.passes)
-passes_gathered g (w ∷ ws) =
-    passes_gathered (gathered_from g w) ws ∙ append_assoc g.passes (map pass_of w.reports) (map pass_of (reports_of ws)) ∙ ap (λ xs. g.passes ++ xs) (sym (map-append pass_of w.reports (reports_of ws)))
+pub used_gathered : {P : Type 0} (g : GatheredValue P) (workers : List (WorkerValue P)) → (gathered_all g workers).used ≡ g.used ++ map (λ (worker : WorkerValue P). map pass_of worker.reports) workers
+used_gathered g [] = sym (append-nil g.used)
+used_gathered g (w ∷ ws) = used_gathered (gathered_from g w) ws ∙ append_assoc g.used (map pass_of w.reports ∷ []) (map (λ worker. map pass_of worker.reports) ws)
 
-pub unused_gathered : {P : Type 0} (g : GatheredValue P) (workers : List (WorkerValue P)) → (gathered_all g workers).unused ≡ g.unused ++ unused_of workers
+pub unused_gathered : {P : Type 0} (g : GatheredValue P) (workers : List (WorkerValue P)) → (gathered_all g workers).unused ≡ g.unused ++ map (λ (worker : WorkerValue P). worker.passes) workers
 unused_gathered g [] = sym (append-nil g.unused)
-unused_gathered g (w ∷ ws) = unused_gathered (gathered_from g w) ws ∙ append_assoc g.unused w.passes (unused_of ws)
+unused_gathered g (w ∷ ws) = unused_gathered (gathered_from g w) ws ∙ append_assoc g.unused (w.passes ∷ []) (map (λ worker. worker.passes) ws)
+
+flat_used : {P : Type 0} (workers : List (WorkerValue P)) → flat (map (λ (worker : WorkerValue P). map pass_of worker.reports) workers) ≡ map pass_of (reports_of workers)
+flat_used [] = refl
+flat_used (w ∷ ws) = ap (λ l. map pass_of w.reports ++ l) (flat_used ws) ∙ sym (map-append pass_of w.reports (reports_of ws))
+
+flat_unused : {P : Type 0} (workers : List (WorkerValue P)) → flat (map (λ (worker : WorkerValue P). worker.passes) workers) ≡ unused_of workers
+flat_unused [] = refl
+flat_unused (w ∷ ws) = ap (λ l. w.passes ++ l) (flat_unused ws)
+
+-- the passes of all workers: those of the reports, and those that were not used
+pub all_gathered : {P : Type 0} (places : ℕ) (workers : List (WorkerValue P))
+    → all_of (gathered_all (nothing places) workers).used (gathered_all (nothing places) workers).unused ≡ map pass_of (reports_of workers) ++ unused_of workers
+all_gathered places workers =
+    ap (λ used. all_of used (gathered_all (nothing places) workers).unused) (used_gathered (nothing places) workers)
+    ∙ ap (λ unused. all_of (map (λ worker. map pass_of worker.reports) workers) unused) (unused_gathered (nothing places) workers)
+    ∙ ap (λ l. l ++ flat (map (λ worker. worker.passes) workers)) (flat_used workers)
+    ∙ ap (λ l. map pass_of (reports_of workers) ++ l) (flat_unused workers)
 
 -- the reports, each with its pass as it was met once more
-pub joined_met : (board : Identity Entry Head) (es : List Entry) (known : List AtomicStep) (reports : List ReportView) (more : List (PassValue Entry Head))
-    → joined (map rest_of reports) (all_met board es known (map pass_of reports) ++ more) ≡ map (met_report board es known) reports
-joined_met board es known [] more = refl
-joined_met board es known (r ∷ rs) more = ap (λ xs. met_report board es known r ∷ xs) (joined_met board es known rs more)
+joined_met : (board : Identity Entry Head) (es : List Entry) (known : List AtomicStep) (reports : List ReportView)
+    → joined (map session_of reports) (all_met board es known (map pass_of reports)) ≡ map (met_report board es known) reports
+joined_met board es known [] = refl
+joined_met board es known (r ∷ rs) = ap (λ xs. met_report board es known r ∷ xs) (joined_met board es known rs)
 
--- that a door has failed is not forgotten
+each_met : {P : Type 0} (board : Identity Entry Head) (es : List Entry) (known : List AtomicStep) (workers : List (WorkerValue P))
+    → flat (joined_each (map (λ (worker : WorkerValue P). map session_of worker.reports) workers) (map (all_met board es known) (map (λ (worker : WorkerValue P). map pass_of worker.reports) workers)))
+    ≡ map (met_report board es known) (reports_of workers)
+each_met board es known [] = refl
+each_met board es known (w ∷ ws) = (λ i. joined_met board es known w.reports i ++ each_met board es known ws i) ∙ sym (map-append (met_report board es known) w.reports (reports_of ws))
+
+pub reports_gathered : {P : Type 0} (board : Identity Entry Head) (es : List Entry) (known : List AtomicStep) (places : ℕ) (workers : List (WorkerValue P))
+    → flat (joined_each (gathered_all (nothing places) workers).sessions (map (all_met board es known) (gathered_all (nothing places) workers).used)) ≡ map (met_report board es known) (reports_of workers)
+reports_gathered board es known places workers =
+    ap (λ sessions. flat (joined_each sessions (map (all_met board es known) (gathered_all (nothing places) workers).used))) (sessions_gathered (nothing places) workers)
+    ∙ ap (λ used. flat (joined_each (map (λ worker. map session_of worker.reports) workers) (map (all_met board es known) used))) (used_gathered (nothing places) workers)
+    ∙ each_met board es known workers
+
+-- each pass has its place where all were met once more
+pub lengths_met : {Z : Type 0} (board : Identity Entry Head) (es : List Entry) (known : List AtomicStep) (lists met : List (Vec (PassValue Entry Head) Z)) → items_of met ≡ map (all_met board es known) (items_of lists)
+    → map (λ mine. length mine.items) met ≡ map (λ mine. length mine.items) lists
+lengths_met board es known [] [] is = refl
+lengths_met board es known [] (m ∷ ms) is = absurd (cc is)
+lengths_met board es known (l ∷ ls) [] is = absurd (cc is)
+lengths_met board es known (l ∷ ls) (m ∷ ms) is =
+    let here : m.items ≡ all_met board es known l.items = cc is in
+    let others : items_of ms ≡ map (all_met board es known) (items_of ls) = cc is in
+    let count : length m.items ≡ length l.items = ap length here ∙ length-map l.items (λ (pass : PassValue Entry Head). met_of board es known pass.session pass.trail) in
+    (λ i. count i ∷ lengths_met board es known ls ms others i)
+
+-- ---- How the service ends
+
+-- that a door has failed is not forgotten, nor that there was no memory
 or_true : (b c : Bool) → b ≡ true → (b || c) ≡ true
 or_true true c is = refl
 or_true false c is = absurd (cc is)
@@ -58,18 +133,46 @@ or_either : (b c : Bool) → (b || c) ≡ true → (b ≡ true) ⊎ (c ≡ true)
 or_either true c is = inl refl
 or_either false c is = inr is
 
-pub failed_stays : {P : Type 0} (g : GatheredValue P) (workers : List (WorkerValue P)) → g.has_failed ≡ true → (gathered_all g workers).has_failed ≡ true
+failed_stays : {P : Type 0} (g : GatheredValue P) (workers : List (WorkerValue P)) → g.has_failed ≡ true → (gathered_all g workers).has_failed ≡ true
 failed_stays g [] is = is
 failed_stays g (w ∷ ws) is = failed_stays (gathered_from g w) ws (or_true g.has_failed w.has_failed is)
 
--- it is told of all where it is of one
-abbrev pub TellsAll : {P : Type 0} → Bool → List (WorkerValue P) → Type 0
-TellsAll told [] = Unit {0}
-TellsAll told (w ∷ ws) = (w.has_failed ≡ true → told ≡ true) × TellsAll told ws
+short_stays : {P : Type 0} (g : GatheredValue P) (workers : List (WorkerValue P)) → g.lacks_room ≡ true → (gathered_all g workers).lacks_room ≡ true
+short_stays g [] is = is
+short_stays g (w ∷ ws) is = short_stays (gathered_from g w) ws (or_true g.lacks_room w.lacks_room is)
 
-pub tells_all : {P : Type 0} (g : GatheredValue P) (workers : List (WorkerValue P)) → TellsAll (gathered_all g workers).has_failed workers
+-- how a service ends that ends with a fault, and with no want
+is_fault : (has_failed lacks_room : Bool) → end_of has_failed lacks_room ≡ DoorFault → has_failed ≡ true
+is_fault true lacks_room is = refl
+is_fault false true is = absurd (cc is)
+is_fault false false is = absurd (cc is)
+
+fault_told : (has_failed lacks_room : Bool) → has_failed ≡ true → end_of has_failed lacks_room ≡ DoorFault
+fault_told true lacks_room is = refl
+fault_told false lacks_room is = absurd (cc is)
+
+want_told : (has_failed lacks_room failed_too short_too : Bool) → (has_failed ≡ true → failed_too ≡ true) → (lacks_room ≡ true → short_too ≡ true) → end_of has_failed lacks_room ≢ Done → end_of failed_too short_too ≢ Done
+want_told true lacks_room true short_too failed short other = λ is. absurd (cc is)
+want_told true lacks_room false short_too failed short other = absurd (cc (failed refl))
+want_told false true true short_too failed short other = λ is. absurd (cc is)
+want_told false true false true failed short other = λ is. absurd (cc is)
+want_told false true false false failed short other = absurd (cc (short refl))
+want_told false false failed_too short_too failed short other = absurd (other refl)
+
+-- it is told of all where it is of one
+abbrev pub TellsAll : {P : Type 0} → ServeEnd → List (WorkerValue P) → Type 0
+TellsAll end [] = Unit {0}
+TellsAll end (w ∷ ws) = (end_of w.has_failed w.lacks_room ≡ DoorFault → end ≡ DoorFault) × (end_of w.has_failed w.lacks_room ≢ Done → end ≢ Done) × TellsAll end ws
+
+pub tells_all : {P : Type 0} (g : GatheredValue P) (workers : List (WorkerValue P)) → TellsAll (end_of (gathered_all g workers).has_failed (gathered_all g workers).lacks_room) workers
 tells_all g [] = tt
-tells_all g (w ∷ ws) = (λ is. failed_stays (gathered_from g w) ws (or_last g.has_failed w.has_failed is), tells_all (gathered_from g w) ws)
+tells_all g (w ∷ ws) =
+    let failed : w.has_failed ≡ true → (gathered_all (gathered_from g w) ws).has_failed ≡ true = λ is. failed_stays (gathered_from g w) ws (or_last g.has_failed w.has_failed is) in
+    let short : w.lacks_room ≡ true → (gathered_all (gathered_from g w) ws).lacks_room ≡ true = λ is. short_stays (gathered_from g w) ws (or_last g.lacks_room w.lacks_room is) in (
+      λ is. fault_told (gathered_all (gathered_from g w) ws).has_failed (gathered_all (gathered_from g w) ws).lacks_room (failed (is_fault w.has_failed w.lacks_room is)),
+      want_told w.has_failed w.lacks_room (gathered_all (gathered_from g w) ws).has_failed (gathered_all (gathered_from g w) ws).lacks_room failed short,
+      tells_all (gathered_from g w) ws,
+    )
 
 -- where it is told, a door has failed
 pub some_failed : {P : Type 0} (panel : P → PanelHistory) (board : Identity Entry Head) (first most : ℕ) (g : GatheredValue P) (hired workers : List (WorkerValue P)) → AreDone panel board first most hired workers
@@ -87,18 +190,30 @@ some_failed panel board first most g (j ∷ js) (w ∷ ws) done is = of_rest (so
 some_failed panel board first most g [] (w ∷ ws) done is = absurd done
 some_failed panel board first most g (j ∷ js) [] done is = absurd done
 
--- what was gathered is told by its parts
-pub gathered_same : {P : Type 0} {doors doors_too : List DoorView} {panels panels_too : List P} {rests rests_too : List RestView} {passes passes_too unused unused_too : List (PassValue Entry Head)} {b b_too : Bool}
-    {places places_too spare spare_too : ℕ} → doors ≡ doors_too → panels ≡ panels_too → rests ≡ rests_too → passes ≡ passes_too → unused ≡ unused_too → b ≡ b_too → places ≡ places_too → spare ≡ spare_too
-    → ◌≡◌ {A = GatheredValue P} (record { doors = doors; panels = panels; rests = rests; passes = passes; unused = unused; has_failed = b; places = places; spare = spare })
-    (record { doors = doors_too; panels = panels_too; rests = rests_too; passes = passes_too; unused = unused_too; has_failed = b_too; places = places_too; spare = spare_too })
-gathered_same d p r s u f m n = rw (d, p, r, s, u, f, m, n) refl
+-- where it is told that there was no memory, a worker has stopped for that
+pub some_short : {P : Type 0} (panel : P → PanelHistory) (board : Identity Entry Head) (first most : ℕ) (g : GatheredValue P) (hired workers : List (WorkerValue P)) → AreDone panel board first most hired workers
+    → (gathered_all g workers).lacks_room ≡ true → (g.lacks_room ≡ true) ⊎ SomeCutShort most (doors_of hired) (doors_of workers)
+some_short panel board first most g [] [] done is = inl is
+some_short panel board first most g (j ∷ js) (w ∷ ws) done is = of_rest (some_short panel board (first + most) most (gathered_from g w) js ws done.2 is)
+  where
+    of_rest : ((g.lacks_room || w.lacks_room) ≡ true) ⊎ SomeCutShort most (doors_of js) (doors_of ws) → (g.lacks_room ≡ true) ⊎ SomeCutShort most (doors_of (j ∷ js)) (doors_of (w ∷ ws))
+    of_rest (inr later) = inr (inr later)
+    of_rest (inl here) = of_here (or_either g.lacks_room w.lacks_room here)
+      where
+        of_here : (g.lacks_room ≡ true) ⊎ (w.lacks_room ≡ true) → (g.lacks_room ≡ true) ⊎ SomeCutShort most (doors_of (j ∷ js)) (doors_of (w ∷ ws))
+        of_here (inl before) = inl before
+        of_here (inr now) = inr (inl (subst (λ n. IsCutShort n j.door w.door) done.0.count (done.1.short now)))
+some_short panel board first most g [] (w ∷ ws) done is = absurd done
+some_short panel board first most g (j ∷ js) [] done is = absurd done
 
--- reports, each with its pass, by what they tell
-pub joined_views : {L : Type 0} (view : L → LinkView) (rests : List (Rest L)) (passes : List (PassValue Entry Head)) → map (report_view view) (raw_joined rests passes) ≡ joined (map (rest_view view) rests) passes
-joined_views view [] passes = refl
-joined_views view (r ∷ rs) [] = refl
-joined_views view (r ∷ rs) (p ∷ ps) = ap (λ l. with_pass (rest_view view r) p ∷ l) (joined_views view rs ps)
+-- ---- The parts
+
+-- what was gathered is told by its parts
+pub gathered_same : {P : Type 0} {doors doors_too : List DoorView} {panels panels_too : List P} {sessions sessions_too : List (List SessionView)} {used used_too unused unused_too : List (List (PassValue Entry Head))}
+    {b b_too c c_too : Bool} {places places_too : ℕ} → doors ≡ doors_too → panels ≡ panels_too → sessions ≡ sessions_too → used ≡ used_too → unused ≡ unused_too → b ≡ b_too → c ≡ c_too → places ≡ places_too
+    → ◌≡◌ {A = GatheredValue P} (record { doors = doors; panels = panels; sessions = sessions; used = used; unused = unused; has_failed = b; lacks_room = c; places = places })
+    (record { doors = doors_too; panels = panels_too; sessions = sessions_too; used = used_too; unused = unused_too; has_failed = b_too; lacks_room = c_too; places = places_too })
+gathered_same d p s u n f l m = rw (d, p, s, u, n, f, l, m) refl
 
 -- a pass of this board
 abbrev pub IsOfBoard : Identity Entry Head → PassValue Entry Head → Type 0
@@ -106,21 +221,19 @@ IsOfBoard board pass = pass.board ≡ board
 
 -- all passes that were gathered are of the board
 module _ {P : Type 0} (board : Identity Entry Head) where
-  of_used : (worker : WorkerValue P) → AreOfBoard board worker → All (IsOfBoard board) (map pass_of worker.reports)
-  of_used worker is = All-map (IsOfBoard board) pass_of worker.reports is.used
+  used_of_board : (workers : List (WorkerValue P)) → All (AreOfBoard board) workers → All (λ (report : ReportView). report.pass.board ≡ board) (reports_of workers)
+  used_of_board [] all = All-nil (λ (report : ReportView). report.pass.board ≡ board)
+  used_of_board (w ∷ ws) all =
+      let here = All-head (AreOfBoard board) w ws all in
+      All-append (λ (report : ReportView). report.pass.board ≡ board) w.reports (reports_of ws) here.used (used_of_board ws (All-tail (AreOfBoard board) w ws all))
 
-  of_unused : (worker : WorkerValue P) → AreOfBoard board worker → All (IsOfBoard board) worker.passes
-  of_unused worker is = All-weaker (IsUnused board) (IsOfBoard board) (λ pass un. un.board_is) worker.passes is.unused
+  unused_of_board : (workers : List (WorkerValue P)) → All (AreOfBoard board) workers → All (IsOfBoard board) (unused_of workers)
+  unused_of_board [] all = All-nil (IsOfBoard board)
+  unused_of_board (w ∷ ws) all =
+      let here = All-head (AreOfBoard board) w ws all in
+      All-append (IsOfBoard board) w.passes (unused_of ws) (All-weaker (IsUnused board) (IsOfBoard board) (λ pass un. un.board_is) w.passes here.unused) (unused_of_board ws (All-tail (AreOfBoard board) w ws all))
 
-  passes_of_board : (g : GatheredValue P) (workers : List (WorkerValue P)) → All (IsOfBoard board) g.passes → All (AreOfBoard board) workers → All (IsOfBoard board) (gathered_all g workers).passes
-  passes_of_board g [] here all = here
-  passes_of_board g (w ∷ ws) here all =
-      passes_of_board (gathered_from g w) ws (All-append (IsOfBoard board) g.passes (map pass_of w.reports) here (of_used w (All-head (AreOfBoard board) w ws all))) (All-tail (AreOfBoard board) w ws all)
-
-  unused_of_board : (g : GatheredValue P) (workers : List (WorkerValue P)) → All (IsOfBoard board) g.unused → All (AreOfBoard board) workers → All (IsOfBoard board) (gathered_all g workers).unused
-  unused_of_board g [] here all = here
-  unused_of_board g (w ∷ ws) here all =
-      unused_of_board (gathered_from g w) ws (All-append (IsOfBoard board) g.unused w.passes here (of_unused w (All-head (AreOfBoard board) w ws all))) (All-tail (AreOfBoard board) w ws all)
-
-  pub all_of_board : (g : GatheredValue P) (workers : List (WorkerValue P)) → All (IsOfBoard board) g.passes → All (IsOfBoard board) g.unused → All (AreOfBoard board) workers → All (IsOfBoard board) (with_unused (gathered_all g workers)).passes
-  all_of_board g workers used unused all = All-append (IsOfBoard board) (gathered_all g workers).passes (gathered_all g workers).unused (passes_of_board g workers used all) (unused_of_board g workers unused all)
+  pub all_of_board : (places : ℕ) (workers : List (WorkerValue P)) → All (AreOfBoard board) workers → All (IsOfBoard board) (all_of (gathered_all (nothing places) workers).used (gathered_all (nothing places) workers).unused)
+  all_of_board places workers all =
+      subst (All (IsOfBoard board)) (sym (all_gathered places workers))
+      (All-append (IsOfBoard board) (map pass_of (reports_of workers)) (unused_of workers) (All-map (IsOfBoard board) pass_of (reports_of workers) (used_of_board workers all)) (unused_of_board workers all))

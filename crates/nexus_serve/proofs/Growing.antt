@@ -1,5 +1,5 @@
 -- What a session was told over what its pass had seen it was told over the whole journal.
-use Rattle.std.proofs.Common.{◌≡◌, ◌<◌, ◌+◌, ◌-◌, ℕ, Bool, true, List, [], ◌∷◌, ◌++◌, length, take, sym, ap, ◌∙◌, subst, arith, length-append, append-nil}
+use Rattle.std.proofs.Common.{◌≡◌, ◌≢◌, ◌<◌, ◌+◌, ◌-◌, ℕ, List, [], ◌∷◌, ◌++◌, length, take, sym, ap, ◌∙◌, subst, arith, length-append, append-nil}
 use Rattle.std.proofs.Math.Seq.{take-append_seam}
 use Rattle.std.proofs.lemmas.List.{map-append, length-map}
 use Rattle.nexus_serve.proofs.Lists.{all_left, all_last}
@@ -13,8 +13,10 @@ use Rattle.verdict_words.specs.Values.{Identity}
 use Rattle.verdict_words.specs.declared.views.Item.{Item}
 use Rattle.verdict_words.specs.declared.views.Item.TheVariants.{Met}
 use Rattle.session_core.specs.ToldLaws.{ToldStaysTold}
+use Rattle.nexus_serve.specs.declared.closing.ServeEnd.{ServeEnd}
+use Rattle.nexus_serve.specs.declared.closing.ServeEnd.TheVariants.{Done, DoorFault}
 use Rattle.nexus_serve.specs.Views.{DoorView, LinkView, ReportView}
-use Rattle.nexus_serve.specs.Workers.{HasComeFrom, HasWorked, IsHeard, Stops, Works, all, failed, next, no_more, nobody}
+use Rattle.nexus_serve.specs.Workers.{HasComeFrom, HasWorked, IsHeard, Stops, Works, all, failed, next, no_more, no_room, nobody}
 use Rattle.nexus_serve.specs.Inner.Joining.{IsMetBy, met_report}
 
 all_of : (trail : List Item) → take (length trail - 0) trail ≡ trail
@@ -66,11 +68,11 @@ module _ (stays : ToldStaysTold) (board : Identity Entry Head) (es : List Entry)
       (next (met_report board es known report) link door_now panel_now (works_met first door panel reports door_then panel_then works before) answered (from_met report link from) (place, same)
       (heard_met report panel_then panel_now last heard))
 
-  -- a worker that has stopped, once the passes were met again; that its door has failed may be told of more workers than of it
-  pub worked_met : (is_told may_tell : Bool) (first most : ℕ) (door door_now : DoorView) (panel panel_now : PanelHistory) (reports : List ReportView)
-      → (is_told ≡ true → may_tell ≡ true) → HasWorked h low 0 Failed is_told first most door door_now panel panel_now reports → All (λ (report : ReportView). IsMetBy es report.pass) reports
-      → HasWorked h low 1 Failed may_tell first most door door_now panel panel_now (map (met_report board es known) reports)
-  worked_met is_told may_tell first most door door_now panel panel_now reports told worked met = record {
+  -- A worker that has stopped, once the passes were met again. How it ended may be told of more workers than of it
+  pub worked_met : (own end : ServeEnd) (first most : ℕ) (door door_now : DoorView) (panel panel_now : PanelHistory) (reports : List ReportView)
+      → (own ≡ DoorFault → end ≡ DoorFault) → (own ≢ Done → end ≢ Done) → HasWorked h low 0 Failed own first most door door_now panel panel_now reports
+      → All (λ (report : ReportView). IsMetBy es report.pass) reports → HasWorked h low 1 Failed end first most door door_now panel panel_now (map (met_report board es known) reports)
+  worked_met own end first most door door_now panel panel_now reports fault short worked met = record {
     door_then = worked.door_then;
     works = works_met first door panel reports worked.door_then panel_now worked.works met;
     stops = stops_met worked.stops;
@@ -79,7 +81,8 @@ module _ (stays : ToldStaysTold) (board : Identity Entry Head) (es : List Entry)
       count : length (map (met_report board es known) reports) ≡ length reports
       count = length-map reports (met_report board es known)
 
-      stops_met : Stops is_told most (length reports) worked.door_then door_now → Stops may_tell most (length (map (met_report board es known) reports)) worked.door_then door_now
+      stops_met : Stops own most (length reports) worked.door_then door_now → Stops end most (length (map (met_report board es known) reports)) worked.door_then door_now
       stops_met (all as_many same) = all (count ∙ as_many) same
       stops_met (no_more fewer answered) = no_more (subst (λ n. n < most) (sym count) fewer) answered
-      stops_met (failed fewer answered is) = failed (subst (λ n. n < most) (sym count) fewer) answered (told is)
+      stops_met (failed fewer answered is) = failed (subst (λ n. n < most) (sym count) fewer) answered (fault is)
+      stops_met (no_room fewer same is) = no_room (subst (λ n. n < most) (sym count) fewer) same (short is)

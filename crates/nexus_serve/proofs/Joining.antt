@@ -1,5 +1,5 @@
 -- What holds of a service behind its workers.
-use Rattle.std.proofs.Common.{◌≡◌, ◌≢◌, ◌⊎◌, inl, inr, ◌<◌, ◌≤◌, ◌+◌, ◌*◌, ◌-◌, ℕ, suc, Bool, List, [], ◌∷◌, ◌++◌, length, cond, refl, sym, ap, ◌∙◌, subst, arith, length-append}
+use Rattle.std.proofs.Common.{◌≡◌, ◌≢◌, ◌⊎◌, inl, inr, ◌<◌, ◌≤◌, ◌+◌, ◌*◌, ◌-◌, ℕ, suc, List, [], ◌∷◌, ◌++◌, length, cond, refl, sym, ap, ◌∙◌, subst, arith, length-append}
 use Rattle.std.proofs.Math.Nat.{suc-mul}
 use Rattle.std.proofs.lemmas.List.{map-append}
 use Rattle.std.proofs.lemmas.List.Elements.{All-cons, All-contains, All-head, All-nil, All-push, All-tail, All-weaker, All-contains_itself, Contains-append_left, Contains-append_right}
@@ -13,12 +13,13 @@ use Rattle.authority_ask.specs.PanelCalls.{PanelHistory}
 use Rattle.policy_history.specs.declared.events.Entry.{Entry}
 use Rattle.policy_history.specs.declared.heads.Head.{Head}
 use Rattle.verdict_words.specs.Values.{Identity, PassValue}
+use Rattle.nexus_serve.specs.declared.closing.ServeEnd.{ServeEnd}
 use Rattle.nexus_serve.specs.Views.{DoorView, ReportView}
 use Rattle.nexus_serve.specs.Workers.{HasWorked, HaveWorked, Works, next, nobody}
 use Rattle.nexus_serve.specs.Services.{sessions_of}
 use Rattle.nexus_serve.specs.Inner.Joining.{IsMetBy, met_report, reports_of, unused_of}
 use Rattle.nexus_serve.specs.Inner.Serving.{AreDone, doors_of, panels_of}
-use Rattle.nexus_serve.specs.Inner.Working.{AreNumbered, WorkerValue}
+use Rattle.nexus_serve.specs.Inner.Working.{AreNumbered, WorkerValue, end_of}
 use Rattle.session_core.specs.ToldLaws.{ToldStaysTold}
 use Rattle.nexus_serve.proofs.Gathering.{TellsAll}
 use Rattle.nexus_serve.proofs.Growing.{worked_met}
@@ -26,26 +27,26 @@ use Rattle.nexus_serve.proofs.Lists.{all_left, all_right}
 use Rattle.nexus_serve.proofs.Working.{works_weaker}
 
 -- what follows from a fault of the text, a worker's sessions tell too
-worked_weaker : {h : Head} {low later first most : ℕ} {Failed Other : Type 0} {is_told : Bool} {door door_now : DoorView} {panel panel_now : PanelHistory} {reports : List ReportView}
-    → (Failed → Other) → HasWorked h low later Failed is_told first most door door_now panel panel_now reports → HasWorked h low later Other is_told first most door door_now panel panel_now reports
+worked_weaker : {h : Head} {low later first most : ℕ} {Failed Other : Type 0} {end : ServeEnd} {door door_now : DoorView} {panel panel_now : PanelHistory} {reports : List ReportView}
+    → (Failed → Other) → HasWorked h low later Failed end first most door door_now panel panel_now reports → HasWorked h low later Other end first most door door_now panel panel_now reports
 worked_weaker follows worked = record { door_then = worked.door_then; works = works_weaker follows worked.works; stops = worked.stops }
 
-module _ {P : Type 0} (panel : P → PanelHistory) (stays : ToldStaysTold) (board : Identity Entry Head) (es : List Entry) (known : List AtomicStep) (Failed : Type 0) (is_told : Bool) (most : ℕ) where
+module _ {P : Type 0} (panel : P → PanelHistory) (stays : ToldStaysTold) (board : Identity Entry Head) (es : List Entry) (known : List AtomicStep) (Failed : Type 0) (end : ServeEnd) (most : ℕ) where
   -- all workers have worked, once the passes were met again
-  pub have_worked : (first : ℕ) (hired workers : List (WorkerValue P)) → AreDone panel board first most hired workers → TellsAll is_told workers
+  pub have_worked : (first : ℕ) (hired workers : List (WorkerValue P)) → AreDone panel board first most hired workers → TellsAll end workers
       → All (λ (worker : WorkerValue P). 0 < worker.unrecorded → Failed) workers → All (λ (report : ReportView). IsMetBy es report.pass) (reports_of workers)
-      → HaveWorked board.origin.setting (length board.origin.opening) 1 Failed is_told first most (doors_of hired) (doors_of workers) (map panel (panels_of hired)) (map panel (panels_of workers)) (map (met_report board es known) (reports_of workers))
+      → HaveWorked board.origin.setting (length board.origin.opening) 1 Failed end first most (doors_of hired) (doors_of workers) (map panel (panels_of hired)) (map panel (panels_of workers)) (map (met_report board es known) (reports_of workers))
   have_worked first [] [] done tells counted met = refl
-  have_worked first (j ∷ js) (w ∷ ws) (hired, done, others) (tells, rest) counted met =
+  have_worked first (j ∷ js) (w ∷ ws) (hired, done, others) (fault, want, rest) counted met =
       let mine = all_left (λ (report : ReportView). IsMetBy es report.pass) w.reports (reports_of ws) met in
       let later = all_right (λ (report : ReportView). IsMetBy es report.pass) w.reports (reports_of ws) met in
       let here = All-head (λ (worker : WorkerValue P). 0 < worker.unrecorded → Failed) w ws counted in
-      let worked : HasWorked board.origin.setting (length board.origin.opening) 0 Failed w.has_failed first most j.door w.door (panel j.panel) (panel w.panel) w.reports =
+      let worked : HasWorked board.origin.setting (length board.origin.opening) 0 Failed (end_of w.has_failed w.lacks_room) first most j.door w.door (panel j.panel) (panel w.panel) w.reports =
       worked_weaker here (rw (← hired.first_is, ← hired.count) done.worked) in (
         map (met_report board es known) w.reports,
         map (met_report board es known) (reports_of ws),
         map-append (met_report board es known) w.reports (reports_of ws),
-        worked_met stays board es known board.origin.setting (length board.origin.opening) Failed w.has_failed is_told first most j.door w.door (panel j.panel) (panel w.panel) w.reports tells worked mine,
+        worked_met stays board es known board.origin.setting (length board.origin.opening) Failed (end_of w.has_failed w.lacks_room) end first most j.door w.door (panel j.panel) (panel w.panel) w.reports fault want worked mine,
         have_worked (first + most) js ws others rest (All-tail (λ (worker : WorkerValue P). 0 < worker.unrecorded → Failed) w ws counted) later,
       )
   have_worked first [] (w ∷ ws) done tells counted met = absurd done

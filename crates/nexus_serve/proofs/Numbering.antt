@@ -1,40 +1,51 @@
 -- How workers are hired, one after another.
-use Rattle.std.proofs.Common.{◌≡◌, ◌≢◌, ◌<◌, ◌≤◌, ◌+◌, ◌*◌, ℕ, suc, List, [], ◌∷◌, ◌++◌, length, refl, sym, ap, ◌∙◌, subst, arith}
+use Rattle.std.proofs.Common.{◌≡◌, ◌≢◌, ◌<◌, ◌≤◌, ◌+◌, ◌*◌, ℕ, zero, suc, List, [], ◌∷◌, ◌++◌, length, refl, sym, ap, ◌∙◌, subst, arith}
 use Rattle.std.proofs.Math.Nat.{mul-le-mul_right, suc-mul}
-use Rattle.std.proofs.lemmas.List.Elements.{All-cons, All-nil}
+use Rattle.std.proofs.lemmas.List.Elements.{All-cons, All-head, All-nil, All-tail}
 use Rattle.std.specs.Prelude.{All, slice_index_or}
 use Rattle.policy_history.specs.declared.events.Entry.{Entry}
 use Rattle.authority_ask.specs.PanelCalls.{PanelHistory}
 use Rattle.policy_history.specs.declared.heads.Head.{Head}
 use Rattle.verdict_words.specs.declared.views.AtomicStep.{AtomicStep}
-use Rattle.verdict_words.specs.Values.{Identity, PassValue}
+use Rattle.verdict_words.specs.Values.{Identity, PassValue, enrolled}
+use Rattle.verdict_words.proofs.ForCallers.{enrolled_count}
 use Rattle.nexus_serve.specs.Inner.Desks.{AreLaid, DeskValue, IsLaid}
 use Rattle.nexus_serve.specs.Inner.Serving.{AreDone, AreHired, AreOfBoard}
 use Rattle.policy_book.specs.Books.{BookValue}
 use Rattle.nexus_serve.specs.Inner.Working.{AreNumbered, IsDone, IsHired, IsUnused, WorkerValue}
 
--- a book behind one pass more
-pub entered : {K : Type 0} (book book_then : BookValue K) (n : ℕ) → book_then ≡ record book { next = book.next + n } → record book_then { next = book_then.next + 1 } ≡ record book { next = book.next + (n + 1) }
-entered book book_then n is =
-    let sum : book.next + n + 1 ≡ book.next + (n + 1) = omega arith in
-    rw (is) (ap (λ m. record book { next = m }) sum)
-
+-- a book behind some passes more
 pub with_next : {K : Type 0} (book book_then : BookValue K) (n m : ℕ) → book_then ≡ record book { next = n } → record book_then { next = book_then.next + m } ≡ record book { next = n + m }
 with_next book book_then n m is = rw (is) refl
 
 pub next_of : {K : Type 0} (book book_then : BookValue K) (n : ℕ) → book_then ≡ record book { next = n } → book_then.next ≡ n
 next_of book book_then n is = rw (is) refl
 
--- a pass that was made now is not used
-pub pass_entered : {known : List AtomicStep} (board : Identity Entry Head) (entries : List Entry) (session : ℕ) (pass : PassValue Entry Head) → pass ≡ record { board = board; session = session; seen = entries; trail = []; known = known }
-    → All (λ (entry : Entry). entry.session ≢ session) entries → IsUnused board pass × (pass.session ≡ session)
-pass_entered board entries session pass is none = rw (is) (record { board_is = refl; trail = refl; unused = none }, refl)
+-- the passes of a roll are numbered from its first session on
+pub numbered_enrolled : (board : Identity Entry Head) (first : ℕ) (entries : List Entry) (known : List AtomicStep) (count : ℕ) → AreNumbered first (enrolled board first entries known count)
+numbered_enrolled board first entries known zero = tt
+numbered_enrolled board first entries known (suc n) = (refl, numbered_enrolled board (first + 1) entries known n)
 
--- one pass more
-pub numbered_last : (first : ℕ) (passes : List (PassValue Entry Head)) (pass : PassValue Entry Head) → AreNumbered first passes → pass.session ≡ first + length passes → AreNumbered first (passes ++ pass ∷ [])
-numbered_last first [] pass numbered is = (let none : first + 0 ≡ first = omega arith in is ∙ none, tt)
-numbered_last first (p ∷ ps) pass numbered is =
-    (numbered.0, numbered_last (first + 1) ps pass numbered.1 (let moved : first + suc (length ps) ≡ first + 1 + length ps = omega arith in is ∙ moved))
+-- and are not used
+pub unused_enrolled : (board : Identity Entry Head) (first : ℕ) (entries : List Entry) (known : List AtomicStep) (count : ℕ)
+    → All (λ (pass : PassValue Entry Head). All (λ (entry : Entry). entry.session ≢ pass.session) entries) (enrolled board first entries known count) → All (IsUnused board) (enrolled board first entries known count)
+unused_enrolled board first entries known zero none = All-nil (IsUnused board)
+unused_enrolled board first entries known (suc n) none =
+    let pass : PassValue Entry Head = record { board = board; session = first; seen = entries; trail = []; known = known } in
+    let others = enrolled board (first + 1) entries known n in
+    let NoEntry = λ (pass : PassValue Entry Head). All (λ (entry : Entry). entry.session ≢ pass.session) entries in
+    let here : IsUnused board pass = record { board_is = refl; trail = refl; unused = All-head NoEntry pass others none } in
+    All-cons (IsUnused board) pass others here (unused_enrolled board (first + 1) entries known n (All-tail NoEntry pass others none))
+
+-- a desk with such a roll
+pub laid_enrolled : (board : Identity Entry Head) (first : ℕ) (entries : List Entry) (known : List AtomicStep) (count : ℕ) (desk : DeskValue) → desk.first ≡ first → desk.passes ≡ enrolled board first entries known count
+    → All (λ (pass : PassValue Entry Head). All (λ (entry : Entry). entry.session ≢ pass.session) entries) desk.passes → IsLaid board first count desk
+laid_enrolled board first entries known count desk same roll none = record {
+  first_is = same;
+  numbered = subst (AreNumbered first) (sym roll) (numbered_enrolled board first entries known count);
+  count = ap length roll ∙ enrolled_count board first entries known count;
+  unused = subst (All (IsUnused board)) (sym roll) (unused_enrolled board first entries known count (subst (All (λ (pass : PassValue Entry Head). All (λ (entry : Entry). entry.session ≢ pass.session) entries)) roll none));
+}
 
 -- the number behind the sessions of one worker more
 pub one_more_worker : (first k most : ℕ) → first + suc k * most ≡ first + most + k * most

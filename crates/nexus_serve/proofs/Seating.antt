@@ -1,17 +1,13 @@
 -- Workers at their desks, and the memory for what they leave.
-use Rattle.std.proofs.Common.{◌≡◌, ◌<◌, ◌+◌, ◌*◌, ◌++◌, ℕ, suc, List, [], ◌∷◌, length, refl, sym, ap, ◌∙◌, arith, append-nil}
-use Rattle.std.proofs.Math.Nat.{suc-mul}
-use Rattle.std.proofs.lemmas.List.Elements.{All-head, All-tail}
-use Rattle.std.specs.Prelude.{All, slice_index_or}
+use Rattle.std.proofs.Common.{◌≡◌, ◌+◌, ◌++◌, ℕ, suc, List, [], ◌∷◌, length, refl, sym, ap, ◌∙◌, arith, append-nil}
 use Rattle.policy_history.specs.declared.events.Entry.{Entry}
-use Rattle.authority_ask.specs.PanelCalls.{PanelHistory}
 use Rattle.policy_history.specs.declared.heads.Head.{Head}
 use Rattle.verdict_words.specs.Values.{Identity}
 use Rattle.nexus_serve.specs.Views.{DoorView}
 use Rattle.nexus_serve.specs.Inner.Desks.{AreLaid, DeskValue, seated, seated_at}
-use Rattle.nexus_serve.specs.Inner.Gathering.{GatheredValue, IsRoomFor, nothing, wanted}
+use Rattle.nexus_serve.specs.Inner.Gathering.{GatheredValue, IsRoomFor, nothing}
 use Rattle.nexus_serve.specs.Inner.Serving.{AreHired, doors_of, panels_of}
-use Rattle.nexus_serve.specs.Inner.Working.{IsDone, IsHired, WorkerValue}
+use Rattle.nexus_serve.specs.Inner.Working.{IsHired, WorkerValue}
 
 module _ {P : Type 0} where
   -- who sits at a desk that was laid is hired
@@ -20,7 +16,7 @@ module _ {P : Type 0} where
   seated_hired board first most (k ∷ ks) [] panels laid = tt
   seated_hired board first most (k ∷ ks) (d ∷ ds) [] laid = tt
   seated_hired board first most (k ∷ ks) (d ∷ ds) (p ∷ ps) (here, others) =
-      let one : IsHired board first most (seated_at k d p) = record { first_is = here.first_is; numbered = here.numbered; count = here.count; unused = here.unused; room = here.room; reports = refl; failed = refl; has_part = omega arith; recorded = refl } in
+      let one : IsHired board first most (seated_at k d p) = record { first_is = here.first_is; numbered = here.numbered; count = here.count; unused = here.unused; reports = refl; failed = refl; short = refl; has_part = omega arith; recorded = refl } in
       (one, seated_hired board (first + most) most ks ds ps others)
 
   -- where there are as many of each, all have a place
@@ -49,40 +45,11 @@ module _ {P : Type 0} where
   all_seated workers all [] doors panels none is = sym (append-nil workers) ∙ is
   all_seated workers all (k ∷ ks) doors panels none is = absurd (omega (arith, none))
 
-  -- what the hired leave wants memory for each of their sessions
-  pub hired_wanted : (board : Identity Entry Head) (first most : ℕ) (workers : List (WorkerValue P)) → AreHired board first most workers → wanted workers ≡ length workers * most
-  hired_wanted board first most [] hired = (let none : 0 ≡ 0 * most = omega arith in none)
-  hired_wanted board first most (w ∷ ws) (here, others) =
-      let none : length w.reports ≡ 0 = ap length here.reports in
-      let count = here.count in
-      let rest = hired_wanted board (first + most) most ws others in
-      let more = suc-mul (length ws) most in
-      omega (arith, none, count, rest, more)
+  -- there is memory for what they leave
+  pub room_hired : (n : ℕ) (workers : List (WorkerValue P)) (room : GatheredValue P) → length workers ≡ n → room ≡ nothing n → IsRoomFor workers room
+  room_hired n workers room count is = rw (is) (record { empty = refl; places = omega (arith, count) })
 
-  -- and no more once they are done
-  pub done_wanted : (panel : P → PanelHistory) (board : Identity Entry Head) (hired workers : List (WorkerValue P)) → All (λ (worker : WorkerValue P). IsHired board worker.first (length worker.passes) worker) hired → length workers ≡ length hired
-      → ((i : ℕ) (d : WorkerValue P) → i < length hired → IsDone panel board (slice_index_or workers i d).unrecorded (slice_index_or hired i d) (slice_index_or workers i d)) → wanted workers ≡ wanted hired
-  done_wanted panel board [] [] are long each = refl
-  done_wanted panel board (j ∷ js) (w ∷ ws) are long each =
-      let first = All-head (λ (worker : WorkerValue P). IsHired board worker.first (length worker.passes) worker) j js are in
-      let others = All-tail (λ (worker : WorkerValue P). IsHired board worker.first (length worker.passes) worker) j js are in
-      let none : length j.reports ≡ 0 = ap length first.reports in
-      let here = each 0 j (omega arith) in
-      let count = here.count in
-      let rest = done_wanted panel board js ws others (cc long) (λ i d below. each (suc i) d (omega (arith, below))) in
-      omega (arith, none, count, rest)
-  done_wanted panel board [] (w ∷ ws) are long each = absurd (cc long)
-  done_wanted panel board (j ∷ js) [] are long each = absurd (cc long)
-
-  pub room_hired : (board : Identity Entry Head) (first most n : ℕ) (workers : List (WorkerValue P)) (room : GatheredValue P) → AreHired board first most workers → length workers ≡ n → room ≡ nothing n (n * most) → IsRoomFor workers room
-  room_hired board first most n workers room hired count is =
-      let all = hired_wanted board first most workers hired in
-      rw (is) (record { empty = refl; places = omega (arith, count); spare = (let same : length workers * most ≡ n * most = ap (λ k. k * most) count in omega (arith, all, same)) })
-
-  pub room_done : (panel : P → PanelHistory) (board : Identity Entry Head) (hired workers : List (WorkerValue P)) (room : GatheredValue P) → All (λ (worker : WorkerValue P). IsHired board worker.first (length worker.passes) worker) hired → length workers ≡ length hired
-      → ((i : ℕ) (d : WorkerValue P) → i < length hired → IsDone panel board (slice_index_or workers i d).unrecorded (slice_index_or hired i d) (slice_index_or workers i d)) → IsRoomFor hired room → IsRoomFor workers room
-  room_done panel board hired workers room are long each is =
-      let same = done_wanted panel board hired workers are long each in
+  pub room_done : (hired workers : List (WorkerValue P)) (room : GatheredValue P) → length workers ≡ length hired → IsRoomFor hired room → IsRoomFor workers room
+  room_done hired workers room long is =
       let places = is.places in
-      let spare = is.spare in
-      record { empty = is.empty; places = omega (arith, long, places); spare = omega (arith, same, spare) }
+      record { empty = is.empty; places = omega (arith, long, places) }

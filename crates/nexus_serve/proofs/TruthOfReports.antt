@@ -1,5 +1,5 @@
 -- The reports of a service are true.
-use Rattle.std.proofs.Common.{◌≡◌, ◌+◌, ℕ, List, [], ◌∷◌, length, Bool, Option, Some, None, sym, ap, subst, ◌∙◌}
+use Rattle.std.proofs.Common.{◌≡◌, ◌+◌, ℕ, List, [], ◌∷◌, length, Option, Some, None, sym, ap, subst, ◌∙◌}
 use Rattle.std.proofs.lemmas.List.Elements.{All-append, All-cons, All-nil, All-tail, All-head}
 use Rattle.std.specs.Prelude.{All}
 use Rattle.policy_history.specs.declared.heads.Head.{Head}
@@ -11,6 +11,7 @@ use Rattle.authority_ask.specs.Panels.{Told}
 use Rattle.session_core.specs.Earned.{IsTrueReport}
 use Rattle.session_core.specs.Served.{IsServedSo}
 use Rattle.session_core.proofs.ForCallers.{report_is_true}
+use Rattle.nexus_serve.specs.declared.closing.ServeEnd.{ServeEnd}
 use Rattle.nexus_serve.specs.TrueReports.{AreTrue}
 use Rattle.nexus_serve.specs.Views.{DoorView, ReportView, reported}
 use Rattle.nexus_serve.specs.Workers.{HaveWorked, Works, nobody, next}
@@ -31,12 +32,12 @@ module _ (h : Head) (low later : ℕ) where
       let mine : IsServedReport report = (_, heard.served) in
       All-append IsServedReport before (report ∷ []) (works_served works) (All-cons IsServedReport report [] mine (All-nil IsServedReport))
 
-  have_served : (Failed : Type 0) (is_told : Bool) (first most : ℕ) (doors doors_now : List DoorView) (panels panels_now : List PanelHistory) (reports : List ReportView)
-      → HaveWorked h low later Failed is_told first most doors doors_now panels panels_now reports → All IsServedReport reports
-  have_served Failed is_told first most [] [] [] [] reports none = subst (All IsServedReport) (sym none) (All-nil IsServedReport)
-  have_served Failed is_told first most (d ∷ ds) (e ∷ es) (p ∷ ps) (q ∷ qs) reports w =
-      subst (All IsServedReport) (sym w.2) (All-append IsServedReport w.0 w.1 (works_served w.3.works) (have_served Failed is_told (first + most) most ds es ps qs w.1 w.4))
-  have_served Failed is_told first most _ _ _ _ reports w = absurd w
+  have_served : (Failed : Type 0) (end : ServeEnd) (first most : ℕ) (doors doors_now : List DoorView) (panels panels_now : List PanelHistory) (reports : List ReportView)
+      → HaveWorked h low later Failed end first most doors doors_now panels panels_now reports → All IsServedReport reports
+  have_served Failed end first most [] [] [] [] reports none = subst (All IsServedReport) (sym none) (All-nil IsServedReport)
+  have_served Failed end first most (d ∷ ds) (e ∷ es) (p ∷ ps) (q ∷ qs) reports w =
+      subst (All IsServedReport) (sym w.2) (All-append IsServedReport w.0 w.1 (works_served w.3.works) (have_served Failed end (first + most) most ds es ps qs w.1 w.4))
+  have_served Failed end first most _ _ _ _ reports w = absurd w
 
 -- the report is true of a journal with these entries
 abbrev IsTrueOf : Head → List EntryTree → ℕ → ReportView → Type 0
@@ -65,7 +66,7 @@ none_true h es low reports none = subst (AreTrue h es low) (sym none) (All-nil (
 -- what is handed back of a service, over the journal that is handed back
 pub serves_true : {P : Type 0} {panel : P → PanelHistory} {sessions : ℕ} {h : Head} {opening : List Entry} {sink : SinkView} {doors : List DoorView} {panels : List P} {served : ServedView P} (es : List Entry)
     → Serves panel sessions h opening sink doors panels served → IsJournal served.journal h es → AreTrue h (entry_trees es) (length opening) served.reports
-serves_true {h = h} {opening = opening} {served = served} es (service.done es2 sink_now journal sink_is is_served text) is =
+serves_true {h = h} {opening = opening} {served = served} es (service.done es2 sink_now journal sink_is is_served text lasts) is =
     let same = same_entries served.journal h es es2 is journal in
     let all = have_served h (length opening) 1 _ _ _ _ _ _ _ _ served.reports is_served.worked in
     subst (λ (xs : List Entry). AreTrue h (entry_trees xs) (length opening) served.reports) same (all_true h es2 (length opening) 1 served.reports all is_served.seen)
@@ -80,10 +81,10 @@ same_head (Some journal) h h2 es es2 is is2 = sym is2.0 ∙ is.0
 -- the same, by the head and the entries of the journal that is handed back
 handed_true : {P : Type 0} {panel : P → PanelHistory} {sessions : ℕ} {h : Head} {opening : List Entry} {sink : SinkView} {doors : List DoorView} {panels : List P} {served : ServedView P} (h2 : Head) (es : List Entry)
     → Serves panel sessions h opening sink doors panels served → IsJournal served.journal h2 es → AreTrue h2 (entry_trees es) (length opening) served.reports
-handed_true {h = h} {opening = opening} {sink = sink} {served = served} h2 es (service.done es2 sink_now journal sink_is is_served text) is =
+handed_true {h = h} {opening = opening} {sink = sink} {served = served} h2 es (service.done es2 sink_now journal sink_is is_served text lasts) is =
     let same = same_head served.journal h2 h es es2 is journal in
     subst (λ (x : Head). AreTrue x (entry_trees es) (length opening) served.reports) same
-    (serves_true {sink = sink} es (service.done es2 sink_now journal sink_is is_served text) (subst (λ (x : Head). IsJournal served.journal x es) (sym same) is))
+    (serves_true {sink = sink} es (service.done es2 sink_now journal sink_is is_served text lasts) (subst (λ (x : Head). IsJournal served.journal x es) (sym same) is))
 handed_true {opening = opening} h2 es (service.unopened sink_now journal sink_is sends rose none doors_are panels_are written ends) is = none_true h2 (entry_trees es) (length opening) _ none
 handed_true {opening = opening} h2 es (service.no_memory journal sink_is none doors_are panels_are written ends) is = none_true h2 (entry_trees es) (length opening) _ none
 

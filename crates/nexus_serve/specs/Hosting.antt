@@ -7,8 +7,8 @@ use Rattle.authority_ask.specs.PanelCalls as panels
 use Rattle.policy_history.specs.declared.events.Entry.{Entry}
 use Rattle.policy_history.specs.declared.heads.Head.{Head}
 use Rattle.session_core.specs.Reaching.{HaveReached, reached_at}
-use Rattle.nexus_serve.specs.declared.service.ServeEnd.{ServeEnd}
-use Rattle.nexus_serve.specs.declared.service.ServeEnd.TheVariants.{Done, DoorFault, Memory}
+use Rattle.nexus_serve.specs.declared.closing.ServeEnd.{ServeEnd}
+use Rattle.nexus_serve.specs.declared.closing.ServeEnd.TheVariants.{Done, DoorFault, Memory, NoRoom}
 use Rattle.nexus_serve.specs.Views.{DoorView}
 use Rattle.nexus_serve.specs.Services.{ServedView, Serves, SinkView}
 
@@ -74,12 +74,15 @@ pub data IsHeld (plan : Plan) (h : Head) (doors shares : ℕ) (door door_now : D
   no_door : doors < plan.workers → shares ≡ plan.workers → HasCalled (ready_calls (listening_of plan) doors ++ no_room_to_share ∷ []) door door_now
       → HasCalledPanel (panel_calls h shares) panel panel_now → IsHeld plan h doors shares door door_now panel panel_now
 
--- the status with which a service ends: 5 where its text was not written whole, then 7 where a door has failed, and else 0; but 6 where there was no memory
+-- the status with which a service ends: 6 where there was no memory to begin with, else 5 where its text was not written whole, else 7 where a
+-- door has failed, else 6 where there was no memory for one more session, and else 0
 abbrev pub status_of : Bool → ServeEnd → ℕ
 status_of written Memory = 6
 status_of false DoorFault = 5
+status_of false NoRoom = 5
 status_of false Done = 5
 status_of true DoorFault = 7
+status_of true NoRoom = 6
 status_of true Done = 0
 
 -- Nobody was served, and nothing was written: the shares that were made are handed back, and nothing was asked of them

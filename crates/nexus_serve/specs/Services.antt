@@ -15,11 +15,11 @@ use Rattle.verdict_words.specs.Words.{first_words}
 use Rattle.verdict_words.specs.declared.views.AtomicStep.{AtomicStep}
 use Rattle.verdict_words.specs.declared.views.Item.{Item}
 use Rattle.verdict_words.specs.declared.views.Item.TheVariants.{Met}
-use Rattle.policy_book.specs.Books.{SendsFront, session_of}
-use Rattle.nexus_serve.specs.declared.service.ServeEnd.{ServeEnd}
-use Rattle.nexus_serve.specs.declared.service.ServeEnd.TheVariants.{Done, DoorFault, Memory}
+use Rattle.policy_book.specs.Books.{AreLasting, SendsFront, session_of}
+use Rattle.nexus_serve.specs.declared.closing.ServeEnd.{ServeEnd}
+use Rattle.nexus_serve.specs.declared.closing.ServeEnd.TheVariants.{Done, DoorFault, Memory, NoRoom}
 use Rattle.nexus_serve.specs.Views.{DoorView, ReportView}
-use Rattle.nexus_serve.specs.Workers.{HaveWorked, SomeFailed}
+use Rattle.nexus_serve.specs.Workers.{HaveWorked, SomeCutShort, SomeFailed}
 
 -- what a sink tells: what it was sent, how many bytes of its front a sync has brought to where they last, and how often it has failed
 pub record SinkView : Type 0 where
@@ -41,11 +41,6 @@ pub record ServedView (P : Type 0) : Type 0 where
 abbrev pub IsJournal : Option History → Head → List Entry → Type 0
 IsJournal None h es = ⊥
 IsJournal (Some journal) h es = (journal.head ≡ h) × (journal.entries ≡ es)
-
--- whether the service ended with a fault of a door
-abbrev pub is_fault : ServeEnd → Bool
-is_fault DoorFault = true
-is_fault _ = false
 
 -- The pass of a session was met once more when all workers had stopped, and has seen the whole journal, in which no entry of its session stands
 -- behind the last meeting before that
@@ -78,8 +73,8 @@ pub record HaveOneOrder (opening es : List Entry) (reports : List ReportView) : 
 pub record IsServed (h : Head) (opening es : List Entry) (Failed : Type 0) (sessions : ℕ) (doors doors_now : List DoorView) (panels panels_now : List PanelHistory) (reports : List ReportView) (end : ServeEnd) : Type 0 where
   pub legal : IsLegal h (entry_trees es)
   pub begins : IsPrefix opening es
-  pub worked : HaveWorked h (length opening) 1 Failed (is_fault end) (greatest_of (entry_trees opening) + 1) sessions doors doors_now panels panels_now reports
-  pub ends : (end ≡ Done) ⊎ ((end ≡ DoorFault) × SomeFailed doors doors_now)
+  pub worked : HaveWorked h (length opening) 1 Failed end (greatest_of (entry_trees opening) + 1) sessions doors doors_now panels panels_now reports
+  pub ends : (end ≡ Done) ⊎ ((end ≡ DoorFault) × SomeFailed doors doors_now) ⊎ ((end ≡ NoRoom) × SomeCutShort sessions doors doors_now)
   pub seen : All (HasSeenAll es) reports
   pub made : All (λ (entry : Entry). Contains (sessions_of reports) entry.session) (drop (length opening) es)
   pub order : HaveOneOrder opening es reports
@@ -93,12 +88,12 @@ pub data IsTextSent (h : Head) (es : List EntryTree) (written : Bool) (start : L
   end_cut : written ≡ false → SendsFront (start ++ front h es) sink_now.sent (ended (codes "end")) → Rose start_faults sink_now.faults → IsTextSent h es written start start_faults sink_now
 
 -- `Serves panel sessions h opening sink doors panels served`: a service of so many sessions for each worker, over the journal with this head and these
--- entries, this sink, and these doors and panels, hands this back. It was served, and a change was told not to be recorded only where the sink failed; or the front of the text could not be sent, so nobody was served; or there was no memory, and then nobody was
+-- entries, this sink, and these doors and panels, hands this back. It was served, each change that was made lasts, and a change was told not to be recorded only where the sink failed; or the front of the text could not be sent, so nobody was served; or there was no memory, and then nobody was
 -- served, nothing was written, and all is handed back as it was handed in.
 pub data Serves {P : Type 0} (panel : P → PanelHistory) (sessions : ℕ) (h : Head) (opening : List Entry) (sink : SinkView) (doors : List DoorView) (panels : List P) (served : ServedView P) : Type 0 where
   done : (es : List Entry) (sink_now : SinkView) → IsJournal served.journal h es → served.sink ≡ Some sink_now
       → IsServed h opening es (Rose sink.faults sink_now.faults) sessions doors served.doors (map panel panels) (map panel served.panels) served.reports served.end
-      → IsTextSent h (entry_trees es) served.written sink.sent sink.faults sink_now → Serves panel sessions h opening sink doors panels served
+      → IsTextSent h (entry_trees es) served.written sink.sent sink.faults sink_now → AreLasting h opening es sink.sent sink_now.synced → Serves panel sessions h opening sink doors panels served
   unopened : (sink_now : SinkView) → IsJournal served.journal h opening → served.sink ≡ Some sink_now
       → SendsPart sink.sent sink_now.sent (front h (entry_trees opening)) → Rose sink.faults sink_now.faults
       → served.reports ≡ [] → served.doors ≡ doors → served.panels ≡ panels → served.written ≡ false → served.end ≡ Done → Serves panel sessions h opening sink doors panels served

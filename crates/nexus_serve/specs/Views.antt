@@ -1,5 +1,5 @@
 -- What doors, links and reports tell, as plain values.
-use Rattle.std.specs.Prelude.{ℕ, List, Bool, Option, map, option_map}
+use Rattle.std.specs.Prelude.{ℕ, List, [], ◌∷◌, Bool, Option, map, option_map}
 use Rattle.nx_io.specs.DoorCalls.{DoorCall, DoorOrigin}
 use Rattle.nx_io.specs.declared.doors.Next.{Next}
 use Rattle.nx_io.specs.declared.doors.Next.TheVariants.{Link as NextLink, NoMore as NextNoMore, Failed as NextFailed}
@@ -8,8 +8,8 @@ use Rattle.policy_history.specs.declared.heads.Head.{Head}
 use Rattle.policy_history.specs.Values.{entry_trees}
 use Rattle.verdict_words.specs.Values.{PassValue}
 use Rattle.session_core.specs.declared.ends.SessionEnd.{SessionEnd}
-use Rattle.session_core.specs.declared.board_serving.Report.{Report}
 use Rattle.session_core.specs.Served.{Reported}
+use Rattle.nexus_serve.specs.declared.reporting.ServedSession.{ServedSession}
 
 -- what a link tells; it is told to be admitted where its peer was
 pub record LinkView : Type 0 where
@@ -37,6 +37,23 @@ pub record ReportView : Type 0 where
   pub link : LinkView
   pub pass : PassValue Entry Head
 
+-- what is reported of a session beside its pass
+pub record SessionView : Type 0 where
+  pub session : ℕ
+  pub who : Option ℕ
+  pub end : SessionEnd
+  pub link : LinkView
+
+-- the report of a session and its pass
+abbrev pub with_pass : SessionView → PassValue Entry Head → ReportView
+with_pass session pass = record { session = session.session; who = session.who; end = session.end; link = session.link; pass = pass }
+
+-- the reports of these sessions, each with the pass at its place
+abbrev pub joined : List SessionView → List (PassValue Entry Head) → List ReportView
+joined [] passes = []
+joined (session ∷ sessions) [] = []
+joined (session ∷ sessions) (pass ∷ passes) = with_pass session pass ∷ joined sessions passes
+
 -- what a report says of what its session was told
 abbrev pub reported : ReportView → Reported
 reported report = record {
@@ -63,14 +80,13 @@ module _ {L : Type 0} (left : L → Option (List ℕ)) (taken sent : L → List 
     faults = faults link;
   }
 
--- a report, its link by what it tells
-abbrev pub report_view : {L : Type 0} → (L → LinkView) → Report L → ReportView
-report_view view report = record {
-  session = report.session;
-  who = report.principal;
-  end = report.end;
-  link = view report.link;
-  pass = report.pass;
+-- what is reported of a session beside its pass, its link by what it tells
+abbrev pub session_view : {L : Type 0} → (L → LinkView) → ServedSession L → SessionView
+session_view view session = record {
+  session = session.session;
+  who = session.principal;
+  end = session.end;
+  link = view session.link;
 }
 
 module _ {L D : Type 0} (view : L → LinkView) (links : D → Option (List L)) (origin : D → DoorOrigin) (calls : D → List DoorCall) where

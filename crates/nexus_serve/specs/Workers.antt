@@ -1,9 +1,9 @@
 -- What workers do: each serves the links that its door gives, one after another, and its panel is asked for them.
-use Rattle.std.specs.Prelude.{◌≡◌, ◌<◌, ◌+◌, ◌⊎◌, ℕ, List, [], ◌∷◌, ◌++◌, length, Bool, true, None}
+use Rattle.std.specs.Prelude.{◌≡◌, ◌≢◌, ◌<◌, ◌+◌, ◌⊎◌, ℕ, List, [], ◌∷◌, ◌++◌, length, replicate, true, None}
 use Rattle.std.specs.Option.{is_some}
 use Rattle.nx_io.specs.Streams.{Gave, MayRise, Rose}
 use Rattle.nx_io.specs.Links.{IsFreshLink}
-use Rattle.nx_io.specs.DoorCalls.{faults_in, gave_in, next_call}
+use Rattle.nx_io.specs.DoorCalls.{faults_in, gave, gave_in, next_call}
 use Rattle.nx_io.specs.Doors.{Gives, IfGiven}
 use Rattle.nx_io.specs.declared.doors.Next.{Next}
 use Rattle.nx_io.specs.declared.doors.Next.TheVariants.{Link as NextLink, NoMore as NextNoMore, Failed as NextFailed}
@@ -11,6 +11,8 @@ use Rattle.policy_history.specs.declared.heads.Head.{Head}
 use Rattle.authority_ask.specs.PanelCalls.{HasOnlyAsked, PanelHistory, asked_since}
 use Rattle.session_core.specs.Ends.{faults_after_end, is_over}
 use Rattle.session_core.specs.Served.{IsServedSo, UnrecordedOnlyWhere}
+use Rattle.nexus_serve.specs.declared.closing.ServeEnd.{ServeEnd}
+use Rattle.nexus_serve.specs.declared.closing.ServeEnd.TheVariants.{Done, DoorFault}
 use Rattle.nexus_serve.specs.Views.{DoorView, LinkView, ReportView, reported}
 
 -- What a door answered to `next`, which was its one call: a link that it gives is the first to come, is fresh, and has as its place the
@@ -51,26 +53,37 @@ pub data Works (h : Head) (low later : ℕ) (Failed : Type 0) (first : ℕ) (doo
       → IsHeard h low later Failed report panel_then panel_now
       → Works h low later Failed first door panel (reports ++ report ∷ []) door_now panel_now
 
--- Why a worker stops: it has served as many links as it may; or fewer, and its door has no more; or the door has failed, which is told
-pub data Stops (is_told : Bool) (most count : ℕ) (door door_now : DoorView) : Type 0 where
-  all : count ≡ most → door_now ≡ door → Stops is_told most count door door_now
-  no_more : count < most → HasAnswered NextNoMore door door_now → Stops is_told most count door door_now
-  failed : count < most → HasAnswered NextFailed door door_now → is_told ≡ true → Stops is_told most count door door_now
+-- Why a worker of a service that ends so stops: it has served as many links as it may; or fewer, and its door has no more; or the door has
+-- failed, and the end tells it; or there was no memory for one more session, so that nothing more was asked of the door, and the end is not `Done`
+pub data Stops (end : ServeEnd) (most count : ℕ) (door door_now : DoorView) : Type 0 where
+  all : count ≡ most → door_now ≡ door → Stops end most count door door_now
+  no_more : count < most → HasAnswered NextNoMore door door_now → Stops end most count door door_now
+  failed : count < most → HasAnswered NextFailed door door_now → end ≡ DoorFault → Stops end most count door door_now
+  no_room : count < most → door_now ≡ door → end ≢ Done → Stops end most count door door_now
 
 -- a worker has served its links, at most so many, and stopped
-pub record HasWorked (h : Head) (low later : ℕ) (Failed : Type 0) (is_told : Bool) (first most : ℕ) (door door_now : DoorView) (panel panel_now : PanelHistory) (reports : List ReportView) : Type 0 where
+pub record HasWorked (h : Head) (low later : ℕ) (Failed : Type 0) (end : ServeEnd) (first most : ℕ) (door door_now : DoorView) (panel panel_now : PanelHistory) (reports : List ReportView) : Type 0 where
   pub door_then : DoorView
   pub works : Works h low later Failed first door panel reports door_then panel_now
-  pub stops : Stops is_told most (length reports) door_then door_now
+  pub stops : Stops end most (length reports) door_then door_now
 
 -- The workers, in the order of their doors and panels, have worked, the first of them in sessions numbered from `first` on, and each in
 -- the next `most` numbers. The reports stand worker by worker.
-abbrev pub HaveWorked : Head → ℕ → ℕ → Type 0 → Bool → ℕ → ℕ → List DoorView → List DoorView → List PanelHistory → List PanelHistory → List ReportView → Type 0
-HaveWorked h low later Failed is_told first most [] [] [] [] reports = reports ≡ []
-HaveWorked h low later Failed is_told first most (door ∷ doors) (door_now ∷ doors_now) (panel ∷ panels) (panel_now ∷ panels_now) reports =
-    (mine : List ReportView) × (others : List ReportView) × (reports ≡ mine ++ others) × HasWorked h low later Failed is_told first most door door_now panel panel_now mine
-    × HaveWorked h low later Failed is_told (first + most) most doors doors_now panels panels_now others
-HaveWorked h low later Failed is_told first most _ _ _ _ reports = ⊥
+abbrev pub HaveWorked : Head → ℕ → ℕ → Type 0 → ServeEnd → ℕ → ℕ → List DoorView → List DoorView → List PanelHistory → List PanelHistory → List ReportView → Type 0
+HaveWorked h low later Failed end first most [] [] [] [] reports = reports ≡ []
+HaveWorked h low later Failed end first most (door ∷ doors) (door_now ∷ doors_now) (panel ∷ panels) (panel_now ∷ panels_now) reports =
+    (mine : List ReportView) × (others : List ReportView) × (reports ≡ mine ++ others) × HasWorked h low later Failed end first most door door_now panel panel_now mine
+    × HaveWorked h low later Failed end (first + most) most doors doors_now panels panels_now others
+HaveWorked h low later Failed end first most _ _ _ _ reports = ⊥
+
+-- The door of a worker gave each link that it was asked for, which are fewer than so many, and was asked for nothing else
+abbrev pub IsCutShort : ℕ → DoorView → DoorView → Type 0
+IsCutShort most door door_now = (count : ℕ) × (count < most) × (door_now.calls ≡ door.calls ++ replicate count gave)
+
+-- So it is with some worker: it stopped, and not by an answer of its door
+abbrev pub SomeCutShort : ℕ → List DoorView → List DoorView → Type 0
+SomeCutShort most (door ∷ doors) (door_now ∷ doors_now) = IsCutShort most door door_now ⊎ SomeCutShort most doors doors_now
+SomeCutShort most _ _ = ⊥
 
 -- some door has failed, by the count of its calls that did
 abbrev pub SomeFailed : List DoorView → List DoorView → Type 0

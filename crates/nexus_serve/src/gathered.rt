@@ -1,94 +1,88 @@
-//! What the workers leave: their doors and panels, and the reports of their sessions.
-ghost use Rattle.std.specs.Prelude.{◌≡◌, ◌<◌, ◌≤◌, ◌+◌, [], ◌++◌, length, map, All, IfOk};
+//! What the workers leave: their doors and panels, what is reported of their sessions, and the passes that they have not used.
+ghost use Rattle.std.specs.Prelude.{◌≡◌, ◌≤◌, [], length, map, All, IfOk};
 ghost use Rattle.std.specs.Vec.{vec_capacity};
-ghost use Rattle.std.specs.VecDeque.{deque_capacity};
-ghost use Rattle.nexus_serve.specs.Inner.Gathering.{gathered_all, gathered_from, raw_joined, nothing, wanted};
+ghost use Rattle.verdict_words.specs.Settling.{items_of};
+ghost use Rattle.nexus_serve.specs.Views.{link_view, session_view};
+ghost use Rattle.nexus_serve.specs.Inner.Gathering.{gathered_all, gathered_from, joined_each, nothing};
 
+use crate::reporting::{Reports, ServedSession};
 use crate::worker::Worker;
 use authority_ask::Panel;
 use nx_io::{Door, Link};
 use policy_book::NalMatter;
-use session_core::{Report, SessionEnd};
 use std::alloc::{AllocError, Global};
 use std::collections::VecDeque;
 use std::marker::Model;
 use std::sync::ledger::{Ledger, Total};
-use verdict_words::Pass;
+use verdict_words::{Pass, Roll};
 
-/// A report without its pass.
-#[derive(Drop)]
-pub struct Rest<L> {
-    session: u64,
-    principal: Option<u32>,
-    link: L,
-    end: SessionEnd,
-}
-
-/// What the workers leave, the reports without their passes. The memory for all of it is taken before they begin, so no want of
-/// memory can lose it.
+/// What the workers leave, a place for each in every list. The memory for these places is taken before the workers begin, so no want
+/// of memory can lose what they leave.
 #[derive(Drop)]
 pub struct Gathered<D: Door, P: Panel> {
     pub doors: Vec<D>,
     pub panels: Vec<P>,
-    pub rests: VecDeque<Rest<D::Link>>,
-    pub passes: Vec<Pass<NalMatter>>,
-    pub unused: Vec<Pass<NalMatter>>,
-    pub reports: Vec<Report<D::Link>>,
+    pub sessions: Vec<Vec<ServedSession<D::Link>>>,
+    pub used: Vec<Vec<Pass<NalMatter>>>,
+    pub unused: Vec<Roll<NalMatter>>,
+    pub reports: Vec<Reports<D::Link>>,
     pub has_failed: bool,
+    pub lacks_room: bool,
 }
 
 impl<D: Door, P: Panel> Model for Gathered<D, P> {
-    ghost use Rattle.std.specs.Prelude.{◌≡◌, ◌≤◌, ◌+◌, ◌-◌, [], map};
+    ghost use Rattle.std.specs.Prelude.{◌≡◌, ◌≤◌, ◌-◌, [], length, map};
     ghost use Rattle.std.specs.Vec.{vec_capacity, vec_len};
-    ghost use Rattle.std.specs.VecDeque.{deque_capacity, deque_len};
     ghost use Rattle.std.specs.Coded.{codes};
     ghost use Rattle.nal_term.specs.contracts.terms.Term as t;
     ghost use Rattle.nal_term.specs.contracts.formulas.Formula as f;
-    ghost use Rattle.nexus_serve.specs.Views.{door_view, link_view};
-    ghost use Rattle.nexus_serve.specs.Inner.Gathering.{GatheredValue, rest_view};
+    ghost use Rattle.verdict_words.specs.Settling.{items_of};
+    ghost use Rattle.nexus_serve.specs.Views.{door_view, link_view, session_view};
+    ghost use Rattle.nexus_serve.specs.Inner.Gathering.{GatheredValue};
 
     ghost Value = { GatheredValue P };
 
     ghost coded = { Prim.hlevel (codes, t.the_row.coded, f.the_row.coded) };
 
     ghost view = { λ g. record {
-      doors = map (door_view (link_view D.Link.left D.Link.taken D.Link.sent D.Link.over D.Link.closed D.Link.admitted D.Link.place D.Link.toward D.Link.faults) D.links D.origin D.calls) g.doors.items;
+      doors = map (door_view (link_view D.Link.left D.Link.taken D.Link.sent D.Link.over D.Link.closed D.Link.admitted D.Link.place
+          D.Link.toward D.Link.faults) D.links D.origin D.calls) g.doors.items;
       panels = g.panels.items;
-      rests = map (rest_view (link_view D.Link.left D.Link.taken D.Link.sent D.Link.over D.Link.closed D.Link.admitted D.Link.place D.Link.toward D.Link.faults)) g.rests.items;
-      passes = g.passes.items;
+      sessions = map (λ mine. map (session_view (link_view D.Link.left D.Link.taken D.Link.sent D.Link.over D.Link.closed
+          D.Link.admitted D.Link.place D.Link.toward D.Link.faults)) mine.items) g.sessions.items;
+      used = items_of g.used.items;
       unused = g.unused.items;
       has_failed = g.has_failed;
+      lacks_room = g.lacks_room;
       places = vec_capacity g.doors - vec_len g.doors;
-      spare = vec_capacity g.passes - (vec_len g.passes + vec_len g.unused);
     } };
 
     ghost invariant = { λ g. (g.reports.items ≡ [])
         × (vec_len g.panels ≡ vec_len g.doors) × (vec_capacity g.doors ≤ vec_capacity g.panels)
-        × (vec_len g.passes + vec_len g.unused ≤ vec_capacity g.passes) × (vec_capacity g.passes ≤ vec_capacity g.unused)
-        × (deque_len g.rests ≡ vec_len g.passes) × (vec_capacity g.passes ≤ deque_capacity g.rests)
-        × (vec_capacity g.passes ≤ vec_capacity g.reports) };
+        × (vec_len g.sessions ≡ vec_len g.doors) × (vec_capacity g.doors ≤ vec_capacity g.sessions)
+        × (vec_len g.used ≡ vec_len g.doors) × (vec_capacity g.doors ≤ vec_capacity g.used)
+        × (vec_len g.unused ≡ vec_len g.doors) × (vec_capacity g.doors ≤ vec_capacity g.unused)
+        × (vec_capacity g.doors ≤ vec_capacity g.reports)
+        × (map (λ mine. length mine.items) g.sessions.items ≡ map (λ mine. length mine.items) g.used.items) };
 }
 
 impl<D: Door + Drop, P: Panel + Drop> Gathered<D, P>
 where
     D::Link: Drop,
 {
-    /// Nothing yet, with room for so many workers and sessions.
-    pub fn with_room(
-        alloc: Global,
-        workers: usize,
-        sessions: usize,
-    ) -> Result<Gathered<D, P>, AllocError>
-        ensures { IfOk result (λ g. g ≡ nothing workers sessions) }
+    /// Nothing yet, with room for so many workers.
+    pub fn with_room(alloc: Global, workers: usize) -> Result<Gathered<D, P>, AllocError>
+        ensures { IfOk result (λ g. g ≡ nothing workers) }
     {
         Ok(Gathered {
             doors: Vec::with_capacity(alloc, workers)?,
             panels: Vec::with_capacity(alloc, workers)?,
-            rests: VecDeque::with_capacity(alloc, sessions)?,
-            passes: Vec::with_capacity(alloc, sessions)?,
-            unused: Vec::with_capacity(alloc, sessions)?,
-            reports: Vec::with_capacity(alloc, sessions)?,
+            sessions: Vec::with_capacity(alloc, workers)?,
+            used: Vec::with_capacity(alloc, workers)?,
+            unused: Vec::with_capacity(alloc, workers)?,
+            reports: Vec::with_capacity(alloc, workers)?,
             has_failed: false,
+            lacks_room: false,
         })
     }
 
@@ -100,7 +94,6 @@ where
         total: &Total<T>,
     ) -> Gathered<D, P>
         requires places { length workers.items ≤ self.places }
-        requires room { wanted workers.items ≤ self.spare }
         ensures gathered { result ≡ gathered_all self workers.items }
         ensures counted { All (λ worker. worker.unrecorded ≤ total.now.amount) workers.items }
     {
@@ -115,16 +108,17 @@ where
     /// Takes in what a worker leaves.
     fn take_in<T: Ledger>(&mut self, worker: Worker<D, P, T>, total: &Total<T>)
         requires place { 1 ≤ self.old.places }
-        requires room { length worker.reports + length worker.passes ≤ self.old.spare }
         ensures gathered { self.new ≡ gathered_from self.old worker }
         ensures counted { worker.unrecorded ≤ total.now.amount }
     {
         let Worker {
             door,
             panel,
-            passes,
-            reports,
+            roll,
+            sessions,
+            used,
             has_failed,
+            lacks_room,
             mark,
             ..
         } = worker;
@@ -132,83 +126,36 @@ where
         total.audit(&mut mark);
         self.doors.push_reserved(door);
         self.panels.push_reserved(panel);
-        take_apart(reports, &mut self.rests, &mut self.passes);
-        add_all(&mut self.unused, Vec::from(passes));
-        self.has_failed = self.has_failed || has_failed;
+        self.sessions.push_reserved(sessions);
+        self.used.push_reserved(used);
+        self.unused.push_reserved(roll);
+        self.has_failed |= has_failed;
+        self.lacks_room |= lacks_room;
     }
 }
 
-/// Adds passes to a list that has room for them.
-pub fn add_all(passes: &mut Vec<Pass<NalMatter>>, more: Vec<Pass<NalMatter>>)
-    requires room { length passes.old.items + length more.items ≤ vec_capacity passes.old }
-    ensures items { passes.new.items ≡ passes.old.items ++ more.items }
-    ensures capacity { vec_capacity passes.old ≤ vec_capacity passes.new }
-{
-    let mut more = more;
-    let added = passes.append(&mut more);
-    prove!(added.is_ok());
-}
-
-/// Takes the reports apart: what they are without their passes, and their passes. There is room for both.
-fn take_apart<L: Link + Drop>(
-    reports: Vec<Report<L>>,
-    rests: &mut VecDeque<Rest<L>>,
-    passes: &mut Vec<Pass<NalMatter>>,
-)
-    requires rests { length rests.old.items + length reports.items ≤ deque_capacity rests.old }
-    requires passes { length passes.old.items + length reports.items ≤ vec_capacity passes.old }
-    ensures rests { rests.new.items ≡ rests.old.items ++ map (λ r. record { session = r.session; principal = r.principal; link = r.link; end = r.end }) reports.items }
-    ensures passes { passes.new.items ≡ passes.old.items ++ map (λ r. r.pass) reports.items }
-    ensures rest_room { deque_capacity rests.new ≡ deque_capacity rests.old }
-    ensures pass_room { vec_capacity passes.new ≡ vec_capacity passes.old }
-{
-    let mut left = VecDeque::from(reports);
-    while let Some(report) = left.pop_front() {
-        let Report {
-            session,
-            principal,
-            link,
-            pass,
-            end,
-        } = report;
-        rests.push_back_reserved(Rest {
-            session,
-            principal,
-            link,
-            end,
-        });
-        passes.push_reserved(pass);
-    }
-}
-
-/// The reports, each with its pass, behind those that are there. There is room for them.
+/// The reports of each worker, by what is reported of its sessions and their passes. There is room for them.
 pub fn with_passes<L: Link + Drop>(
-    rests: VecDeque<Rest<L>>,
-    passes: Vec<Pass<NalMatter>>,
-    reports: Vec<Report<L>>,
-) -> Vec<Report<L>>
-    requires room { length reports.items + length rests.items ≤ vec_capacity reports }
-    ensures { result.items ≡ reports.items ++ raw_joined rests.items passes.items }
+    sessions: Vec<Vec<ServedSession<L>>>,
+    passes: Vec<Vec<Pass<NalMatter>>>,
+    reports: Vec<Reports<L>>,
+) -> Vec<Reports<L>>
+    requires none { reports.items ≡ [] }
+    requires room { length sessions.items ≤ vec_capacity reports }
+    requires pairs { map (λ mine. length mine.items) sessions.items ≡ map (λ mine. length mine.items) passes.items }
+    ensures { result.items ≡ joined_each (map (λ mine. map (session_view (link_view L.left L.taken L.sent L.over
+        L.closed L.admitted L.place L.toward L.faults)) mine.items) sessions.items) (items_of passes.items) }
 {
     let mut reports = reports;
-    let mut rests = rests;
+    let mut sessions = VecDeque::from(sessions);
     let mut passes = VecDeque::from(passes);
-    while let Some(rest) = rests.pop_front() {
-        let Some(pass) = passes.pop_front() else {
-            return reports;
+    while let Some(mine) = sessions.pop_front() {
+        let Some(used) = passes.pop_front() else {
+            unreachable!()
         };
-        let Rest {
-            session,
-            principal,
-            link,
-            end,
-        } = rest;
-        reports.push_reserved(Report {
-            session,
-            principal,
-            link,
-            pass,
-            end,
+        reports.push_reserved(Reports {
+            sessions: mine,
+            passes: used,
         });
     }
     reports

@@ -1,37 +1,31 @@
-//! How workers are hired: desks with the passes of their sessions and the memory for their reports are laid, which may want memory,
-//! before doors and panels are put to them, which wants none.
+//! How workers are hired: desks with the rolls of their sessions are laid, which may want memory, before doors and panels are put to
+//! them, which wants none.
 ghost use Rattle.std.specs.Prelude.{◌≡◌, ◌≢◌, ◌<◌, ◌≤◌, ◌+◌, ◌*◌, ◌-◌, ◌^◌, [], length, map, All, IfOk, OnOk};
 ghost use Rattle.std.specs.Vec.{vec_capacity};
-ghost use Rattle.verdict_words.specs.Values.{PassValue};
-ghost use Rattle.policy_book.specs.Books.{BookValue};
 ghost use Rattle.nexus_serve.specs.Views.{door_view, link_view};
 ghost use Rattle.nexus_serve.specs.Inner.Desks.{AreLaid, IsLaid, seated, seated_at};
-ghost use Rattle.nexus_serve.specs.Inner.Working.{AreNumbered, IsUnused};
 
 use crate::worker::Worker;
 use authority_ask::Panel;
 use nx_io::{Door, Sink};
 use policy_book::{Book, NalMatter};
-use session_core::Report;
 use std::alloc::{AllocError, Global};
 use std::collections::VecDeque;
 use std::marker::Model;
 use std::sync::ledger::{Ledger, Share};
-use verdict_words::{Board, Pass};
+use verdict_words::{Board, Roll};
 
-/// What a worker gets before it has a door: the number of its first session, the passes of its sessions, memory for their
-/// reports, and a share of the ledger that counts the changes that were not recorded, of which there are none yet.
+/// What a worker gets before it has a door: the number of its first session, the roll of the passes of its sessions, and a share of
+/// the ledger that counts the changes that were not recorded, of which there are none yet.
 #[derive(Drop)]
-pub struct Desk<L, T: Ledger> {
+pub struct Desk<T: Ledger> {
     first: u64,
-    passes: VecDeque<Pass<NalMatter>>,
-    reports: Vec<Report<L>>,
+    roll: Roll<NalMatter>,
     mark: Share<T>,
 }
 
-impl<L, T: Ledger> Model for Desk<L, T> {
-    ghost use Rattle.std.specs.Prelude.{◌≡◌, ◌-◌, []};
-    ghost use Rattle.std.specs.Vec.{vec_capacity, vec_len};
+impl<T: Ledger> Model for Desk<T> {
+    ghost use Rattle.std.specs.Prelude.{◌≡◌};
     ghost use Rattle.std.specs.Coded.{codes};
     ghost use Rattle.nal_term.specs.contracts.terms.Term as t;
     ghost use Rattle.nal_term.specs.contracts.formulas.Formula as f;
@@ -41,41 +35,20 @@ impl<L, T: Ledger> Model for Desk<L, T> {
 
     ghost coded = { Prim.hlevel (codes, t.the_row.coded, f.the_row.coded) };
 
-    ghost view = { λ d. record { first = d.first; passes = d.passes.items; spare = vec_capacity d.reports - vec_len d.reports } };
+    ghost view = { λ d. record { first = d.first; passes = d.roll } };
 
-    ghost invariant = { λ d. (d.reports.items ≡ []) × (d.mark.parts ≡ 1) × (d.mark.amount ≡ 0) };
-}
-
-/// The next passes of a book.
-fn enter_all<K: Sink>(
-    alloc: Global,
-    board: &Board<NalMatter>,
-    book: &mut Book<K>,
-    sessions: u64,
-) -> Result<VecDeque<Pass<NalMatter>>, AllocError>
-    requires board { book.old.board ≡ board.now }
-    requires room { book.old.next + sessions ≤ 2 ^ 64 - 1 }
-    requires few { sessions ≤ 65536 }
-    ensures passes { IfOk result (λ passes. AreNumbered book.old.next passes.items × (length passes.items ≡ sessions) × All (IsUnused board.now) passes.items) }
-    ensures book { OnOk result (book.new ≡ record book.old { next = book.old.next + sessions }) }
-    ensures kept { book.new ≡ record book.old { next = book.new.next } }
-{
-    let mut passes = VecDeque::with_capacity(alloc, sessions as usize)?;
-    for _ in 0..sessions {
-        passes.push_back(book.enter(board))?;
-    }
-    Ok(passes)
+    ghost invariant = { λ d. (d.mark.parts ≡ 1) × (d.mark.amount ≡ 0) };
 }
 
 /// Lays one desk.
-fn lay_desk<L: Drop, K: Sink, T: Ledger>(
+fn lay_desk<K: Sink, T: Ledger>(
     alloc: Global,
     board: &Board<NalMatter>,
     book: &mut Book<K>,
     first: u64,
     sessions: u64,
     mark: Share<T>,
-) -> Result<Desk<L, T>, AllocError>
+) -> Result<Desk<T>, AllocError>
     requires first { book.old.next ≡ first }
     requires board { book.old.board ≡ board.now }
     requires room { book.old.next + sessions ≤ 2 ^ 64 - 1 }
@@ -85,17 +58,12 @@ fn lay_desk<L: Drop, K: Sink, T: Ledger>(
     ensures book { OnOk result (book.new ≡ record book.old { next = book.old.next + sessions }) }
     ensures kept { book.new ≡ record book.old { next = book.new.next } }
 {
-    let passes = enter_all(alloc, board, book, sessions)?;
-    Ok(Desk {
-        first,
-        passes,
-        reports: Vec::with_capacity(alloc, sessions as usize)?,
-        mark,
-    })
+    let roll = book.enroll(alloc, board, sessions)?;
+    Ok(Desk { first, roll, mark })
 }
 
 /// Lays so many desks. Their sessions are the next ones of the book, which need not be open. Each has one part of the share.
-pub fn lay_desks<L: Drop, K: Sink, T: Ledger>(
+pub fn lay_desks<K: Sink, T: Ledger>(
     alloc: Global,
     board: &Board<NalMatter>,
     book: &mut Book<K>,
@@ -103,7 +71,7 @@ pub fn lay_desks<L: Drop, K: Sink, T: Ledger>(
     first: u64,
     sessions: u64,
     mark: Share<T>,
-) -> Result<Vec<Desk<L, T>>, AllocError>
+) -> Result<Vec<Desk<T>>, AllocError>
     requires first { book.old.next ≡ first }
     requires board { book.old.board ≡ board.now }
     requires room { book.old.next + workers * sessions ≤ 2 ^ 64 - 1 }
@@ -127,32 +95,32 @@ pub fn lay_desks<L: Drop, K: Sink, T: Ledger>(
 
 /// A worker at this desk. It takes no memory.
 fn seat_one<D: Door, P: Panel, T: Ledger>(
-    desk: Desk<D::Link, T>,
+    alloc: Global,
+    desk: Desk<T>,
     door: D,
     panel: P,
 ) -> Worker<D, P, T>
-    ensures { result ≡ seated_at desk (door_view (link_view D.Link.left D.Link.taken D.Link.sent D.Link.over D.Link.closed D.Link.admitted D.Link.place D.Link.toward D.Link.faults) D.links D.origin D.calls door) panel }
+    ensures { result ≡ seated_at desk (door_view (link_view D.Link.left D.Link.taken D.Link.sent D.Link.over
+        D.Link.closed D.Link.admitted D.Link.place D.Link.toward D.Link.faults) D.links D.origin D.calls door) panel }
 {
-    let Desk {
-        first,
-        passes,
-        reports,
-        mark,
-    } = desk;
+    let Desk { first, roll, mark } = desk;
     Worker {
         first,
         door,
         panel,
-        passes,
-        reports,
+        roll,
+        sessions: Vec::new(alloc),
+        used: Vec::new(alloc),
         has_failed: false,
+        lacks_room: false,
         mark,
     }
 }
 
 /// A worker for each desk, with the door and the panel of its place, in a list that has room for all. It takes no memory.
 pub fn seat<D: Door + Drop, P: Panel + Drop, T: Ledger>(
-    desks: Vec<Desk<D::Link, T>>,
+    alloc: Global,
+    desks: Vec<Desk<T>>,
     doors: Vec<D>,
     panels: Vec<P>,
     workers: Vec<Worker<D, P, T>>,
@@ -163,7 +131,9 @@ where
     requires panels { length panels.items ≡ length desks.items }
     requires none { workers.items ≡ [] }
     requires room { length desks.items ≤ vec_capacity workers }
-    ensures { result.items ≡ seated desks.items (map (door_view (link_view D.Link.left D.Link.taken D.Link.sent D.Link.over D.Link.closed D.Link.admitted D.Link.place D.Link.toward D.Link.faults) D.links D.origin D.calls) doors.items) panels.items }
+    ensures { result.items ≡ seated desks.items (map (door_view (link_view D.Link.left D.Link.taken D.Link.sent
+        D.Link.over D.Link.closed D.Link.admitted D.Link.place D.Link.toward D.Link.faults) D.links D.origin D.calls)
+        doors.items) panels.items }
 {
     let mut workers = workers;
     let mut desks = VecDeque::from(desks);
@@ -176,7 +146,7 @@ where
         let Some(panel) = panels.pop_front() else {
             unreachable!()
         };
-        workers.push_reserved(seat_one(desk, door, panel));
+        workers.push_reserved(seat_one(alloc, desk, door, panel));
     }
     workers
 }

@@ -6,7 +6,8 @@ ghost use Rattle.nexus_serve.specs.Inner.Reporting.{IsHandedBack};
 ghost use Rattle.nexus_serve.specs.Inner.Sharing.{unready_status};
 ghost use Rattle.nexus_serve.specs.Views.{door_view, link_view};
 
-use crate::service::{ServeEnd, Served, serve};
+use crate::closing::{ServeEnd, Served};
+use crate::service::serve;
 use crate::shares::{Unready, make_ready};
 use authority_ask::Panel;
 use nx_io::{Door, Gate, Link, Sink};
@@ -55,9 +56,11 @@ impl<D: Door, P: Panel, K: Sink> Model for Hosted<D, P, K> {
 /// Hosts a service over a journal: it reaches the authorities of its head, listens at the address, and lets so many workers
 /// serve so many sessions each, with shares of the door and of the panel. A link waits so many seconds for a peer that is admitted. The policy text goes to the sink as the journal grows.
 ///
-/// The status is 0 where all was done, 5 where the text was not written whole and synced, which comes only where the sink failed, 6
-/// where there was no memory, so that nobody was served, 7 where the door, or else a share of it, has failed, and 8 where an
-/// authority could not be reached, or the panel not be shared. `docs/FORMATS.md`, "Statuses", states this.
+/// The status is 0 where all was done; 5 where the text was not written whole and synced, which comes only where the sink failed; else
+/// 7 where a share of the door has failed; else 6 where a worker had no memory for one more session, the text being whole. Where the
+/// service was not begun it is 7 where the door could not listen or not be shared, 8 where an authority could not be reached or the
+/// panel not be shared, and 6 where there was no memory; and 6 where there was none to begin to serve. `docs/FORMATS.md`, "Statuses",
+/// states this.
 pub fn host<D, P, K, G, R>(
     rt: &R,
     alloc: Global,
@@ -139,8 +142,9 @@ fn status_of(written: bool, end: ServeEnd) -> u8
     match end {
         ServeEnd::Memory => 6,
         ServeEnd::DoorFault if written => 7,
+        ServeEnd::NoRoom if written => 6,
         ServeEnd::Done if written => 0,
-        ServeEnd::DoorFault | ServeEnd::Done => 5,
+        ServeEnd::DoorFault | ServeEnd::NoRoom | ServeEnd::Done => 5,
     }
 }
 

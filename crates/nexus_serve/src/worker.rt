@@ -1,42 +1,43 @@
 //! A worker: it serves the links of its door, one after another.
-ghost use Rattle.std.specs.Prelude.{◌≡◌, ◌<◌, ◌≤◌, ◌+◌, [], length, All, Some, true, false};
-ghost use Rattle.nx_io.specs.Links.{IsFreshLink};
-ghost use Rattle.nexus_serve.specs.Views.{link_view};
-ghost use Rattle.nexus_serve.specs.Inner.Working.{HasServedOne, IsDone, IsHired, IsStopped, IsUnused, IsWorking, WorkerValue, WorksOn};
+ghost use Rattle.std.specs.Prelude.{◌≡◌, ◌<◌, ◌≤◌, ◌+◌, ◌++◌, ◌∷◌, [], length, All, Some, true, false};
+ghost use Rattle.std.specs.Vec.{vec_capacity, vec_len};
+ghost use Rattle.nexus_serve.specs.Inner.Working.{IsDone, IsHired, IsStopped, IsUnused, IsWorking, WorkerValue, WorksOn};
 
+use crate::reporting::ServedSession;
 use authority_ask::Panel;
 use nx_io::{Door, Gate, Next, Sink};
 use policy_book::{BookAccess, BookNaming, LockedBook, NalMatter, SharedBook};
 use session_core::{Report, serve_link};
 use std::alloc::Global;
-use std::collections::VecDeque;
 use std::marker::Model;
 use std::net::{Net, TcpListener, TcpStream};
 use std::rt::Clock;
 use std::sync::Wait;
 use std::sync::ledger::{Ledger, Share};
-use verdict_words::{Board, Pass};
+use verdict_words::{Board, Pass, Roll};
 
-/// A worker: the number of its first session, its door and its panel, the passes that it has not used, the reports of its
-/// sessions, whether its door has failed, and its share of the ledger that counts the changes that were not recorded.
+/// A worker: the number of its first session, its door and its panel, the roll of the passes that it has not used, what is reported
+/// of its sessions, with their passes, whether its door has failed, whether there was no memory for one more report, and its share of
+/// the ledger that counts the changes that were not recorded.
 #[derive(Drop)]
 pub struct Worker<D: Door, P: Panel, T: Ledger> {
     pub first: u64,
     pub door: D,
     pub panel: P,
-    pub passes: VecDeque<Pass<NalMatter>>,
-    pub reports: Vec<Report<D::Link>>,
+    pub roll: Roll<NalMatter>,
+    pub sessions: Vec<ServedSession<D::Link>>,
+    pub used: Vec<Pass<NalMatter>>,
     pub has_failed: bool,
+    pub lacks_room: bool,
     pub mark: Share<T>,
 }
 
 impl<D: Door, P: Panel, T: Ledger> Model for Worker<D, P, T> {
-    ghost use Rattle.std.specs.Prelude.{map, ◌-◌};
-    ghost use Rattle.std.specs.Vec.{vec_capacity, vec_len};
+    ghost use Rattle.std.specs.Prelude.{◌≡◌, length, map};
     ghost use Rattle.std.specs.Coded.{codes};
     ghost use Rattle.nal_term.specs.contracts.terms.Term as t;
     ghost use Rattle.nal_term.specs.contracts.formulas.Formula as f;
-    ghost use Rattle.nexus_serve.specs.Views.{door_view, link_view, report_view};
+    ghost use Rattle.nexus_serve.specs.Views.{door_view, joined, link_view, session_view};
     ghost use Rattle.nexus_serve.specs.Inner.Working.{WorkerValue};
 
     ghost Value = { WorkerValue P };
@@ -45,15 +46,19 @@ impl<D: Door, P: Panel, T: Ledger> Model for Worker<D, P, T> {
 
     ghost view = { λ w. record {
       first = w.first;
-      door = door_view (link_view D.Link.left D.Link.taken D.Link.sent D.Link.over D.Link.closed D.Link.admitted D.Link.place D.Link.toward D.Link.faults) D.links D.origin D.calls w.door;
+      door = door_view (link_view D.Link.left D.Link.taken D.Link.sent D.Link.over D.Link.closed D.Link.admitted D.Link.place
+          D.Link.toward D.Link.faults) D.links D.origin D.calls w.door;
       panel = w.panel;
-      passes = w.passes.items;
-      reports = map (report_view (link_view D.Link.left D.Link.taken D.Link.sent D.Link.over D.Link.closed D.Link.admitted D.Link.place D.Link.toward D.Link.faults)) w.reports.items;
-      spare = vec_capacity w.reports - vec_len w.reports;
+      passes = w.roll;
+      reports = joined (map (session_view (link_view D.Link.left D.Link.taken D.Link.sent D.Link.over D.Link.closed
+          D.Link.admitted D.Link.place D.Link.toward D.Link.faults)) w.sessions.items) w.used.items;
       has_failed = w.has_failed;
+      lacks_room = w.lacks_room;
       parts = w.mark.parts;
       unrecorded = w.mark.amount;
     } };
+
+    ghost invariant = { λ w. length w.sessions.items ≡ length w.used.items };
 }
 
 impl<D: Door, P: Panel, T: Ledger> Worker<D, P, T>
@@ -84,7 +89,8 @@ where
         self.mark.merge(book.into_mark());
     }
 
-    /// Serves the links that the door gives, with one pass each, until all passes are used, or the door gives no more.
+    /// Serves the links that the door gives, with one pass each, until all passes are used, the door gives no more, or there is no
+    /// memory for one more report.
     fn work<B: BookAccess, G: Gate, R: Net<Listener = TcpListener, Stream = TcpStream> + Clock>(
         &mut self,
         rt: &R,
@@ -109,10 +115,11 @@ where
         ensures spent { result ≡ true → self.now.passes ≡ [] }
         ensures left { result ≡ false → 0 < length self.now.passes }
     {
-        self.passes.is_empty()
+        self.roll.is_empty()
     }
 
-    /// Serves the next link that the door gives. Whether it gave one.
+    /// Serves the next link that the door gives with the next pass. The memory for the report is taken before the door is asked. Whether
+    /// there was memory and the door gave a link.
     fn serve_next<
         B: BookAccess,
         G: Gate,
@@ -121,15 +128,22 @@ where
         requires named { B.board book.old ≡ board.now }
         requires some { 0 < length self.old.passes }
         requires unused { All (IsUnused board.now) self.old.passes }
-        requires room { length self.old.passes ≤ self.old.spare }
         ensures went { (start : WorkerValue P) → IsWorking P.history board.now (B.unrecorded book.old) start self.old
             → WorksOn P.history board.now (B.unrecorded book.new) result start self.new }
         ensures fewer { result ≡ true → length self.new.passes + 1 ≡ length self.old.passes }
         ensures book { B.board book.new ≡ B.board book.old }
     {
+        if !has_taken_room(&mut self.sessions, &mut self.used) {
+            self.lacks_room = true;
+            return false;
+        }
         match self.door.next(rt) {
             Next::Link(link) => {
-                self.serve_session(rt, alloc, board, book, gate, link);
+                let Some(pass) = self.roll.next() else {
+                    unreachable!()
+                };
+                let report = serve_link(rt, alloc, board, book, pass, link, &mut self.panel, gate);
+                add(report, &mut self.sessions, &mut self.used);
                 true
             }
             Next::NoMore => false,
@@ -139,36 +153,48 @@ where
             }
         }
     }
+}
 
-    /// Serves a link with the next pass.
-    fn serve_session<
-        B: BookAccess,
-        G: Gate,
-        R: Net<Listener = TcpListener, Stream = TcpStream> + Clock,
-    >(
-        &mut self,
-        rt: &R,
-        alloc: Global,
-        board: &Board<NalMatter>,
-        book: &mut B,
-        gate: &G,
-        link: D::Link,
-    )
-        requires named { B.board book.old ≡ board.now }
-        requires some { 0 < length self.old.passes }
-        requires unused { All (IsUnused board.now) self.old.passes }
-        requires room { length self.old.passes ≤ self.old.spare }
-        requires fresh { IsFreshLink (D.Link.taken link) (D.Link.sent link) (D.Link.over link) (D.Link.closed link) (D.Link.admitted link) (D.Link.faults link) }
-        ensures served { HasServedOne P.history board.now (B.unrecorded book.old) (B.unrecorded book.new)
-            (link_view D.Link.left D.Link.taken D.Link.sent D.Link.over D.Link.closed D.Link.admitted D.Link.place D.Link.toward D.Link.faults link)
-            self.old self.new }
-        ensures book { B.board book.new ≡ B.board book.old }
-    {
-        let Some(pass) = self.passes.pop_front() else {
-            unreachable!()
-        };
-        let report = serve_link(rt, alloc, board, book, pass, link, &mut self.panel, gate);
-        let pushed = self.reports.push(report);
-        prove!(pushed.is_ok());
-    }
+/// Takes the memory for one more report. Whether there was any.
+fn has_taken_room<L: Drop>(
+    sessions: &mut Vec<ServedSession<L>>,
+    used: &mut Vec<Pass<NalMatter>>,
+) -> bool
+    ensures items { (sessions.new.items ≡ sessions.old.items) × (used.new.items ≡ used.old.items) }
+    ensures room { result ≡ true → (vec_len sessions.new < vec_capacity sessions.new)
+        × (vec_len used.new < vec_capacity used.new) }
+{
+    sessions.reserve(1).is_ok() && used.reserve(1).is_ok()
+}
+
+/// Adds a report to the others, its pass to the passes. There is room for both.
+fn add<L: Drop>(
+    report: Report<L>,
+    sessions: &mut Vec<ServedSession<L>>,
+    used: &mut Vec<Pass<NalMatter>>,
+)
+    requires room { (vec_len sessions.old < vec_capacity sessions.old) × (vec_len used.old < vec_capacity used.old) }
+    ensures sessions { sessions.new.items ≡ sessions.old.items ++ record {
+      session = report.session;
+      principal =
+          report.principal;
+      link = report.link;
+      end = report.end;
+    } ∷ [] }
+    ensures used { used.new.items ≡ used.old.items ++ report.pass ∷ [] }
+{
+    let Report {
+        session,
+        principal,
+        link,
+        pass,
+        end,
+    } = report;
+    sessions.push_reserved(ServedSession {
+        session,
+        principal,
+        link,
+        end,
+    });
+    used.push_reserved(pass);
 }

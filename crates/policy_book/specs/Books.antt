@@ -1,5 +1,5 @@
 -- What contracts see of a book, what its sink was sent, and what it learns of a pass that it meets.
-use Rattle.std.specs.Prelude.{◌≡◌, ℕ, ◌<◌, ◌≤◌, Bool, true, false, List, [], ◌∷◌, ◌++◌, length, take, Option, Some, Result}
+use Rattle.std.specs.Prelude.{◌≡◌, ℕ, ◌+◌, ◌<◌, ◌≤◌, Bool, true, false, List, [], ◌∷◌, ◌++◌, length, take, Option, Some, Result}
 use Rattle.nx_io.specs.Streams.{Rose, Sends, SendsPart}
 use Rattle.nx_io.specs.declared.streams.Reach.{Reach}
 use Rattle.nx_io.specs.declared.streams.Reach.TheVariants.{Ready, Failed}
@@ -80,11 +80,17 @@ pub record IsMetAt (board : Identity Entry Head) (next : ℕ) (entries : List En
 abbrev pub decided_at : Identity Entry Head → List Entry → ℕ → ℕ → Event → Result Due Refusal
 decided_at board entries session principal event = decision board.origin.setting (replay board.origin.setting (entry_trees entries)) session principal (event_tree event)
 
--- The text that was written of a journal to a sink, by what the sink has sent and synced and how often it has failed. Where none has failed, each change that was made is synced. A write or a sync has failed exactly where the count has risen
+-- Each change that was made lasts, whatever failed since: once there is one, so much of what the sink was sent is synced that the text of the
+-- journal, but for its last line, is
+abbrev pub AreLasting : Head → (opening entries : List Entry) → List ℕ → ℕ → Type 0
+AreLasting h opening entries start synced = length opening < length entries → length start + length (front h (entry_trees entries)) ≤ synced
+
+-- The text that was written of a journal to a sink, by what the sink has sent and synced and how often it has failed. Each change that was made lasts. A write or a sync has failed exactly where the count has risen
 pub record HasWritten {K : Type 0} (sent : K → List ℕ) (synced faults : K → ℕ) (is_open is_broken : Bool) (board : Identity Entry Head) (entries : List Entry) (start : List ℕ) (start_faults : ℕ) (sink : K) : Type 0 where
   pub text : HasText is_open is_broken board.origin.setting (entry_trees entries) start (sent sink)
   pub unopened : is_open ≡ false → entries ≡ board.origin.opening
-  pub lasts : is_broken ≡ false → length board.origin.opening < length entries → synced sink ≡ length (sent sink)
+  pub lasts : AreLasting board.origin.setting board.origin.opening entries start (synced sink)
+  pub whole : is_broken ≡ false → length board.origin.opening < length entries → synced sink ≡ length (sent sink)
   pub failed : is_broken ≡ true → Rose start_faults (faults sink)
   pub unbroken : is_broken ≡ false → faults sink ≡ start_faults
   pub later : start_faults ≤ faults sink

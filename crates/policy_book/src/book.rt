@@ -1,9 +1,10 @@
 //! The book: how it is made, opened and given up, and how sessions get their passes.
-ghost use Rattle.std.specs.Prelude.{◌≡◌, ◌≢◌, ℕ, ◌+◌, ◌-◌, ◌^◌, ◌<◌, List, [], false, true, All, IfErr, IfOk};
+ghost use Rattle.std.specs.Prelude.{◌≡◌, ◌≢◌, ℕ, ◌+◌, ◌-◌, ◌^◌, ◌<◌, ◌≤◌, List, [], false, map, true, All, IfErr, IfOk, OnOk};
 ghost use Rattle.nx_io.specs.Streams.{SendsAll, faults_after_reach};
 ghost use Rattle.policy_history.specs.PolicyTexts.{front};
 ghost use Rattle.policy_history.specs.Values.{entry_trees, greatest_of};
-ghost use Rattle.verdict_words.specs.Settling.{all_met};
+ghost use Rattle.verdict_words.specs.Settling.{all_met, all_of, items_of};
+ghost use Rattle.verdict_words.specs.Values.{enrolled};
 ghost use Rattle.policy_book.specs.Books.{AreGatheredIn, IsLegalBook, IsMetIn, IsNumbered, IsWritten, head_of, is_failed, is_ready, new_book, trees_of};
 
 use crate::matter::NalMatter;
@@ -13,7 +14,7 @@ use nx_io::{Reach, Sink, send_all};
 use policy_history::Journal;
 use std::alloc::{AllocError, Global};
 use std::marker::Model;
-use verdict_words::{Board, Mark, Pass};
+use verdict_words::{Board, Mark, Pass, Roll};
 
 /// The journal of a policy, the seat of its board, and the sink of its text. Contracts see the board, the entries, the
 /// number of the next session, the sink with what it had sent when the book was made, whether the book is open, and whether a
@@ -121,23 +122,46 @@ impl<K: Sink> Book<K> {
         self.seated.enter(board)
     }
 
-    /// Meets each of the passes, in order; but all are held before the first is given back. So there is one order of all
-    /// atomic steps that were made on the board, which then all know: it begins with what each knew before, and of each session
-    /// it has the steps that its pass's trail tells. It takes no memory.
+    /// A roll of so many new sessions, each as `enter` would make it: no entry is of the session of any of them. The error is
+    /// want of memory, and then no more than the number of the next session has grown.
+    pub fn enroll(
+        &mut self,
+        alloc: Global,
+        board: &Board<NalMatter>,
+        sessions: u64,
+    ) -> Result<Roll<NalMatter>, AllocError>
+        requires board { self.old.board ≡ board.now }
+        requires room { self.old.next + sessions ≤ 2 ^ 64 - 1 }
+        ensures roll { IfOk result (λ roll. roll ≡ enrolled board.now self.old.next self.old.entries self.old.known
+            sessions) }
+        ensures unused { IfOk result (λ roll. All (λ pass. All (λ entry. entry.session ≢ pass.session)
+            self.old.entries) roll) }
+        ensures book { OnOk result (self.new ≡ record self.old { next = self.old.next + sessions }) }
+        ensures kept { self.new ≡ record self.old { next = self.new.next } }
+    {
+        self.seated.enroll(alloc, board, sessions)
+    }
+
+    /// Meets each of the passes, list by list, and behind them those that the rolls hold; but all are held before the first is
+    /// given back. So there is one order of all atomic steps that were made on the board, which then all know: it begins with
+    /// what each knew before, and of each session it has the steps that its pass's trail tells. The passes come back in lists
+    /// as they came; those of the rolls are let go. It takes no memory.
     pub fn settle(
         &mut self,
         board: &Board<NalMatter>,
-        passes: Vec<Pass<NalMatter>>,
-    ) -> Vec<Pass<NalMatter>>
+        passes: Vec<Vec<Pass<NalMatter>>>,
+        unused: Vec<Roll<NalMatter>>,
+    ) -> Vec<Vec<Pass<NalMatter>>>
         requires opened { self.old.is_open ≡ true }
         requires board { self.old.board ≡ board.now }
-        requires passes { All (λ pass. pass.board ≡ board.now) passes.items }
-        ensures passes { result.items ≡ all_met board.now self.old.entries self.new.known passes.items }
-        ensures met { All (IsMetIn self.old) passes.items }
-        ensures known { AreGatheredIn self.old passes.items self.new.known }
+        requires passes { All (λ pass. pass.board ≡ board.now) (all_of (items_of passes.items) unused.items) }
+        ensures passes { items_of result.items
+            ≡ map (all_met board.now self.old.entries self.new.known) (items_of passes.items) }
+        ensures met { All (IsMetIn self.old) (all_of (items_of passes.items) unused.items) }
+        ensures known { AreGatheredIn self.old (all_of (items_of passes.items) unused.items) self.new.known }
         ensures book { self.new ≡ record self.old { known = self.new.known } }
     {
-        self.seated.settle(board, passes)
+        self.seated.settle(board, passes, unused)
     }
 
     /// The journal and the sink, once the book is done with.

@@ -36,8 +36,8 @@ impl<K: Sink> Pen<K> {
 
 // Sends a line, and brings it to where it lasts. Whether that failed.
 fn put<K: Sink>(sink: &mut K, line: &[u8]) -> bool
-    ensures put { IsPut result (K.sent sink.old) (K.sent sink.new) (K.synced sink.new) (K.faults sink.old)
-        (K.faults sink.new) line.now }
+    ensures put { IsPut result (K.sent sink.old) (K.sent sink.new) (K.synced sink.old) (K.synced sink.new)
+        (K.faults sink.old) (K.faults sink.new) line.now }
     ensures later { K.faults sink.old ≤ K.faults sink.new }
 {
     match send_all(sink, line) {

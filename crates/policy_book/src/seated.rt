@@ -1,21 +1,22 @@
 //! The journal, with the seat of its board.
-ghost use Rattle.std.specs.Prelude.{◌≡◌, ◌≢◌, ℕ, ◌+◌, ◌-◌, ◌^◌, ◌<◌, ◌≤◌, List, [], ◌∷◌, ◌++◌, length, All, IfOk, IfSome, IsOk, None, OnOk};
+ghost use Rattle.std.specs.Prelude.{◌≡◌, ◌≢◌, ℕ, ◌+◌, ◌-◌, ◌^◌, ◌<◌, ◌≤◌, List, [], ◌∷◌, ◌++◌, length, map, All, IfOk, IfSome, IsOk, None, OnOk};
 ghost use Rattle.policy_history.specs.Events.{admitted, event_tree};
 ghost use Rattle.policy_history.specs.Judged.{region_in};
 ghost use Rattle.policy_history.specs.Machine.{IsLegal};
 ghost use Rattle.policy_history.specs.Values.{entry_trees, state_after};
 ghost use Rattle.verdict_words.specs.Histories.{IsPrefix};
 ghost use Rattle.verdict_words.specs.Rule.{IsSeated};
-ghost use Rattle.verdict_words.specs.Settling.{AreGathered, all_met};
+ghost use Rattle.verdict_words.specs.Settling.{AreGathered, all_met, all_of, items_of};
+ghost use Rattle.verdict_words.specs.Values.{enrolled};
 ghost use Rattle.policy_book.specs.Books.{IsMetAt, decided_at, met_at, session_of};
 ghost use Rattle.policy_book.specs.Inner.Adding.{IsAdded, IsPublished, met_twice};
 
 use crate::matter::NalMatter;
 use nal_term::{Name, Secret};
 use policy_history::{Due, Entry, Event, Journal, Refusal, Spare};
-use std::alloc::AllocError;
+use std::alloc::{AllocError, Global};
 use std::marker::Model;
-use verdict_words::{Board, BookSeat, Pass};
+use verdict_words::{Board, BookSeat, Pass, Roll};
 
 /// The journal of a policy and the seat of its board. Its calls read and write nothing, so whoever waits for it waits for no disk.
 #[derive(Drop)]
@@ -77,6 +78,25 @@ impl SeatedJournal {
         board.enter(&mut self.seat)
     }
 
+    /// A roll of so many new sessions, each as `enter` would make it.
+    pub(crate) fn enroll(
+        &mut self,
+        alloc: Global,
+        board: &Board<NalMatter>,
+        sessions: u64,
+    ) -> Result<Roll<NalMatter>, AllocError>
+        requires board { self.old.board ≡ board.now }
+        requires room { self.old.next + sessions ≤ 2 ^ 64 - 1 }
+        ensures roll { IfOk result (λ roll. roll ≡ enrolled board.now self.old.next self.old.entries self.old.known
+            sessions) }
+        ensures unused { IfOk result (λ roll. All (λ pass. All (λ entry. entry.session ≢ pass.session)
+            self.old.entries) roll) }
+        ensures seated { OnOk result (self.new ≡ record self.old { next = self.old.next + sessions }) }
+        ensures kept { self.new ≡ record self.old { next = self.new.next } }
+    {
+        board.enroll(alloc, &mut self.seat, sessions)
+    }
+
     /// Lets a pass see the whole journal. It takes no memory.
     pub(crate) fn meet(
         &mut self,
@@ -94,21 +114,25 @@ impl SeatedJournal {
         board.meet(&mut self.seat, pass)
     }
 
-    /// Meets each of the passes, in order; but all are held before the first is given back. It takes no memory.
+    /// Meets each of the passes, list by list, and behind them those of the rolls; but all are held before the first is given
+    /// back. It takes no memory.
     pub(crate) fn settle(
         &mut self,
         board: &Board<NalMatter>,
-        passes: Vec<Pass<NalMatter>>,
-    ) -> Vec<Pass<NalMatter>>
+        passes: Vec<Vec<Pass<NalMatter>>>,
+        unused: Vec<Roll<NalMatter>>,
+    ) -> Vec<Vec<Pass<NalMatter>>>
         requires board { self.old.board ≡ board.now }
-        requires passes { All (λ pass. pass.board ≡ board.now) passes.items }
-        ensures passes { result.items ≡ all_met board.now self.old.entries self.new.known passes.items }
-        ensures met { All (IsMetAt self.old.board self.old.next self.old.entries) passes.items }
-        ensures known { AreGathered self.old.board self.old.next self.old.entries self.old.known passes.items
-            self.new.known }
+        requires passes { All (λ pass. pass.board ≡ board.now) (all_of (items_of passes.items) unused.items) }
+        ensures passes { items_of result.items
+            ≡ map (all_met board.now self.old.entries self.new.known) (items_of passes.items) }
+        ensures met { All (IsMetAt self.old.board self.old.next self.old.entries)
+            (all_of (items_of passes.items) unused.items) }
+        ensures known { AreGathered self.old.board self.old.next self.old.entries self.old.known
+            (all_of (items_of passes.items) unused.items) self.new.known }
         ensures seated { self.new ≡ record self.old { known = self.new.known } }
     {
-        board.settle(&mut self.seat, passes)
+        board.settle(&mut self.seat, passes, unused)
     }
 
     /// What a change comes to at the end of the journal.

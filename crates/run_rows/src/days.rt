@@ -9,8 +9,9 @@ use authority_ask::MemPanel;
 use journal_text::reply_line;
 use nexus_client::request_of_line;
 use nexus_run::{Ended, run};
-use nx_io::{Bytes, Discard, DoorPlan, Gate, MemDoor, MemLink, MemSink, MemSource, OpenGate};
-use session_core::{Report, SessionEnd};
+use nexus_serve::{Reports, ServedSession};
+use nx_io::{Bytes, Discard, DoorPlan, Gate, MemDoor, MemLink, MemSink, MemSource, OpenGate, Sink};
+use session_core::SessionEnd;
 use session_wire::{ReplyRead, read_reply};
 use std::alloc::{AllocError, AllocGlobal, Global};
 use std::fs::Files;
@@ -232,20 +233,44 @@ fn end_line(end: SessionEnd) -> &'static [u8] {
     }
 }
 
-// What the sessions were told, and how each ended.
-fn told_in(alloc: Global, reports: &[Report<MemLink>]) -> Result<Vec<u8>, AllocError> {
+// Appends what the sessions of a worker were told, and how each ended.
+fn show_sessions(
+    alloc: Global,
+    sessions: &[ServedSession<MemLink>],
+    lines: &mut Vec<u8>,
+) -> Result<(), AllocError> {
+    for session in sessions {
+        show_replies(alloc, session.link.sent(), lines)?;
+        lines.extend_from_slice(end_line(session.end))?;
+    }
+    Ok(())
+}
+
+// What the sessions were told, and how each ended, worker by worker.
+fn told_in(alloc: Global, workers: &[Reports<MemLink>]) -> Result<Vec<u8>, AllocError> {
     let mut lines = Vec::new(alloc);
-    for report in reports {
-        show_replies(alloc, report.link.sent(), &mut lines)?;
-        lines.extend_from_slice(end_line(report.end))?;
+    for worker in workers {
+        show_sessions(alloc, worker.sessions.as_slice(), &mut lines)?;
     }
     Ok(lines)
 }
 
+// A sink that shows what it was sent.
+pub trait Shown: Sink {
+    // The bytes that it was sent.
+    fn shown(&self) -> &[u8];
+}
+
+impl Shown for MemSink {
+    fn shown(&self) -> &[u8] {
+        self.sent()
+    }
+}
+
 // What was written.
-fn written_in(alloc: Global, sink: &MemSink) -> Result<Vec<u8>, AllocError> {
+fn written_in<K: Shown>(alloc: Global, sink: &K) -> Result<Vec<u8>, AllocError> {
     let mut lines = Vec::new(alloc);
-    show(sink.sent(), &mut lines)?;
+    show(sink.shown(), &mut lines)?;
     Ok(lines)
 }
 
@@ -257,94 +282,55 @@ fn is_due(bytes: &[u8], due: &str) -> bool {
     }
 }
 
-// A service that is run. Each of its devices is let go by one call where there is no memory for the next.
-fn ended<R, G: Gate + Sync>(
-    rt: &R,
-    alloc: Global,
-    day: Day,
-    gate: &G,
-) -> Result<Ended<MemDoor, MemPanel, MemSink>, AllocError>
-where
-    R: Net<Listener = TcpListener, Stream = TcpStream>
-        + Files
-        + AllocGlobal
-        + Clock
-        + Wait
-        + Threads
-        + Sync,
-{
-    let policy = spelled(alloc, day.at("policy"))?;
-    let mut source = MemSource::new(alloc, policy.as_slice(), 100, &[])?;
-    let ended = ended_over(rt, alloc, day, gate, &mut source);
-    drop(source);
-    ended
-}
-
-// The same over this source.
-fn ended_over<R, G: Gate + Sync>(
-    rt: &R,
-    alloc: Global,
-    day: Day,
-    gate: &G,
-    source: &mut MemSource,
-) -> Result<Ended<MemDoor, MemPanel, MemSink>, AllocError>
-where
-    R: Net<Listener = TcpListener, Stream = TcpStream>
-        + Files
-        + AllocGlobal
-        + Clock
-        + Wait
-        + Threads
-        + Sync,
-{
-    let words = words_of(alloc, day.at("words"))?;
-    let answers = asks_of(alloc, day.at("answers"))?;
-    let (reach, share) = ([day.number("reach")], [day.number("share")]);
-    match MemPanel::new(alloc, answers.as_slice(), &reach, &share) {
-        Ok(panel) => ended_by(rt, alloc, day, gate, words.as_slice(), source, panel),
-        Err(AllocError) => Err(AllocError),
-    }
-}
-
-// The same with this panel too.
-fn ended_by<R, G: Gate + Sync>(
-    rt: &R,
-    alloc: Global,
-    day: Day,
-    gate: &G,
-    words: &[&str],
-    source: &mut MemSource,
-    panel: MemPanel,
-) -> Result<Ended<MemDoor, MemPanel, MemSink>, AllocError>
-where
-    R: Net<Listener = TcpListener, Stream = TcpStream>
-        + Files
-        + AllocGlobal
-        + Clock
-        + Wait
-        + Threads
-        + Sync,
-{
-    match door_of(alloc, day) {
-        Ok(door) => ended_with(rt, alloc, day, gate, words, source, panel, door),
-        Err(AllocError) => {
-            drop(panel);
-            Err(AllocError)
-        }
-    }
-}
-
-// And with this door.
-fn ended_with<R, G: Gate + Sync>(
-    rt: &R,
-    alloc: Global,
-    day: Day,
-    gate: &G,
-    words: &[&str],
-    source: &mut MemSource,
+// What a service runs over, beside its input and its gate.
+struct Devices<K> {
+    sink: K,
     panel: MemPanel,
     door: MemDoor,
-) -> Result<Ended<MemDoor, MemPanel, MemSink>, AllocError>
+}
+
+// The devices of a day. What is there is let go by one call where there is no memory for the next.
+fn devices_of<K: Drop>(alloc: Global, day: Day, sink: K) -> Result<Devices<K>, AllocError> {
+    match panel_of(alloc, day) {
+        Ok(panel) => devices_with(alloc, day, sink, panel),
+        Err(AllocError) => {
+            drop(sink);
+            Err(AllocError)
+        }
+    }
+}
+
+// The panel of a day.
+fn panel_of(alloc: Global, day: Day) -> Result<MemPanel, AllocError> {
+    let answers = asks_of(alloc, day.at("answers"))?;
+    let (reach, share) = ([day.number("reach")], [day.number("share")]);
+    MemPanel::new(alloc, answers.as_slice(), &reach, &share)
+}
+
+fn devices_with<K: Drop>(
+    alloc: Global,
+    day: Day,
+    sink: K,
+    panel: MemPanel,
+) -> Result<Devices<K>, AllocError> {
+    match door_of(alloc, day) {
+        Ok(door) => Ok(Devices { sink, panel, door }),
+        Err(AllocError) => {
+            drop(sink);
+            drop(panel);
+            Err(AllocError)
+        }
+    }
+}
+
+// A service that is run, over this sink.
+fn ended<R, G: Gate + Sync, K: Sink + Send + Drop>(
+    rt: &R,
+    alloc: Global,
+    day: Day,
+    gate: &G,
+    sink: K,
+) -> Result<Ended<MemDoor, MemPanel, K>, AllocError>
 where
     R: Net<Listener = TcpListener, Stream = TcpStream>
         + Files
@@ -354,37 +340,91 @@ where
         + Threads
         + Sync,
 {
-    match MemSink::new(
-        alloc,
-        day.size("room"),
-        11,
-        &[day.number("write")],
-        &[day.number("sync")],
-    ) {
-        Ok(sink) => Ok(run(
-            rt,
-            words,
-            source,
-            &mut Discard::new(),
-            sink,
-            door,
-            panel,
-            gate,
-        )),
+    match source_of(alloc, day) {
+        Ok(source) => {
+            let mut source = source;
+            let ended = ended_over(rt, alloc, day, gate, sink, &mut source);
+            drop(source);
+            ended
+        }
         Err(AllocError) => {
-            drop(door);
-            drop(panel);
+            drop(sink);
             Err(AllocError)
         }
     }
+}
+
+// The input of a day.
+fn source_of(alloc: Global, day: Day) -> Result<MemSource, AllocError> {
+    let policy = spelled(alloc, day.at("policy"))?;
+    MemSource::new(alloc, policy.as_slice(), 100, &[])
+}
+
+// The same with this source.
+fn ended_over<R, G: Gate + Sync, K: Sink + Send + Drop>(
+    rt: &R,
+    alloc: Global,
+    day: Day,
+    gate: &G,
+    sink: K,
+    source: &mut MemSource,
+) -> Result<Ended<MemDoor, MemPanel, K>, AllocError>
+where
+    R: Net<Listener = TcpListener, Stream = TcpStream>
+        + Files
+        + AllocGlobal
+        + Clock
+        + Wait
+        + Threads
+        + Sync,
+{
+    match words_of(alloc, day.at("words")) {
+        Ok(words) => ended_by(rt, alloc, day, gate, sink, source, words.as_slice()),
+        Err(AllocError) => {
+            drop(sink);
+            Err(AllocError)
+        }
+    }
+}
+
+// And with these words.
+fn ended_by<R, G: Gate + Sync, K: Sink + Send + Drop>(
+    rt: &R,
+    alloc: Global,
+    day: Day,
+    gate: &G,
+    sink: K,
+    source: &mut MemSource,
+    words: &[&str],
+) -> Result<Ended<MemDoor, MemPanel, K>, AllocError>
+where
+    R: Net<Listener = TcpListener, Stream = TcpStream>
+        + Files
+        + AllocGlobal
+        + Clock
+        + Wait
+        + Threads
+        + Sync,
+{
+    let Devices { sink, panel, door } = devices_of(alloc, day, sink)?;
+    Ok(run(
+        rt,
+        words,
+        source,
+        &mut Discard::new(),
+        sink,
+        door,
+        panel,
+        gate,
+    ))
 }
 
 // What a service came to is what is due.
-fn compare(
+fn compare<K: Shown>(
     rt: &impl Abort,
     alloc: Global,
     day: Day,
-    ended: &Ended<MemDoor, MemPanel, MemSink>,
+    ended: &Ended<MemDoor, MemPanel, K>,
 ) -> Result<(), AllocError> {
     assert_eq!(rt; u64::from(ended.status), day.number("status"));
     let told = told_in(alloc, ended.reports.as_slice())?;
@@ -405,7 +445,38 @@ fn compare(
     Ok(())
 }
 
-// A service that is run by this gate comes to what it should. What it hands back is kept, since it takes long to prove that it may be dropped.
+// The sink of a day, which takes at most eleven bytes in a write.
+pub fn sink_of(alloc: Global, day: Day) -> Result<MemSink, AllocError> {
+    let (write, sync) = ([day.number("write")], [day.number("sync")]);
+    MemSink::new(alloc, day.size("room"), 11, &write, &sync)
+}
+
+// A service that is run by this gate, over this sink, comes to what it should. What it hands back is kept, since it takes long to prove that it may be
+// dropped.
+pub fn try_day_over<R, G: Gate + Sync, K: Shown + Send + Drop>(
+    rt: &R,
+    alloc: Global,
+    day: Day,
+    gate: &G,
+    sink: K,
+) -> Result<(), AllocError>
+where
+    R: Net<Listener = TcpListener, Stream = TcpStream>
+        + Files
+        + AllocGlobal
+        + Clock
+        + Wait
+        + Threads
+        + Sync
+        + Abort,
+{
+    let ended = ended(rt, alloc, day, gate, sink)?;
+    let compared = compare(rt, alloc, day, &ended);
+    mem::forget(ended);
+    compared
+}
+
+// The same over a sink in memory.
 pub fn try_day<R, G: Gate + Sync>(
     rt: &R,
     alloc: Global,
@@ -422,10 +493,8 @@ where
         + Sync
         + Abort,
 {
-    let ended = ended(rt, alloc, day, gate)?;
-    let compared = compare(rt, alloc, day, &ended);
-    mem::forget(ended);
-    compared
+    let sink = sink_of(alloc, day)?;
+    try_day_over(rt, alloc, day, gate, sink)
 }
 
 // Each of the days, which empty lines part, comes to what it should.

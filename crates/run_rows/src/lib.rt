@@ -7,6 +7,8 @@ mod commands;
 #[cfg(test)]
 mod days;
 #[cfg(test)]
+mod holding;
+#[cfg(test)]
 mod kinds;
 #[cfg(test)]
 mod runs;

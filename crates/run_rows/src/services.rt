@@ -92,8 +92,12 @@ fn faults_end_a_service(rt: HostRuntime) -> Result<(), AllocError> {
     try_days(&rt, rt.alloc(), FAULTS, POLICY)
 }
 
-// The most workers, and each bound of the patience.
+// The most workers, the most sessions, and each bound of the patience.
 const PATIENT: &str = "words=serve 127.0.0.1:1 1024 1
+status=0
+written=nexus 2|principal alice pa|authority 1 mem|7 alice object f|end|
+
+words=serve 127.0.0.1:1 2 65536
 status=0
 written=nexus 2|principal alice pa|authority 1 mem|7 alice object f|end|
 
@@ -106,7 +110,7 @@ status=0
 written=nexus 2|principal alice pa|authority 1 mem|7 alice object f|end|";
 
 #[test]
-fn words_of_a_service_may_say_its_patience(rt: HostRuntime) -> Result<(), AllocError> {
+fn words_of_a_service_may_be_at_their_bounds(rt: HostRuntime) -> Result<(), AllocError> {
     try_days(&rt, rt.alloc(), PATIENT, POLICY)
 }
 

@@ -14,8 +14,8 @@ use Rattle.policy_history.specs.Values.{entry_trees}
 use Rattle.journal_text.specs.PolicyFronts.{IsFront, IsFrontError, wrong, above}
 use Rattle.journal_text.specs.PolicyText.{formless, refusal}
 use Rattle.journal_text.specs.declared.policy_reader.PolicyError.TheVariants.{Bad as BadLine, Refused as RefusedLine}
-use Rattle.nexus_serve.specs.declared.service.ServeEnd.{ServeEnd}
-use Rattle.nexus_serve.specs.declared.service.ServeEnd.TheVariants.{Done, DoorFault, Memory}
+use Rattle.nexus_serve.specs.declared.closing.ServeEnd.{ServeEnd}
+use Rattle.nexus_serve.specs.declared.closing.ServeEnd.TheVariants.{Done, DoorFault, Memory, NoRoom}
 use Rattle.authority_ask.specs.PanelCalls.{PanelHistory}
 use Rattle.authority_ask.specs.PanelCalls as panels
 use Rattle.session_core.specs.Reaching.{reached_at}
@@ -31,7 +31,7 @@ use Rattle.service_commands.specs.declared.service.PolicyTextError.TheVariants.{
 use Rattle.run_streams.specs.Refusals.{IsRefusal, IsRefusalOf, RefusesExactly}
 use Rattle.run_streams.specs.Telling.{Tells, whole, part, nothing}
 use Rattle.service_commands.specs.Inner.ServiceEnds.{IsWrongText}
-use Rattle.service_commands.specs.Services.{EndedView, EndsService, IsCompleteService, IsPolicy, IsPolicyOf, IsServedWhole, IsUnbegun, IsWrongPolicy, RunsService, hosted, hosted_of, in_policy, most_session, no_memory, policy_form, refusal_cut_off, refused, source_failed}
+use Rattle.service_commands.specs.Services.{EndedView, EndsService, IsCompleteService, IsPolicy, IsPolicyOf, IsServedWhole, IsUnbegun, IsUnserved, IsWrongPolicy, RunsService, hosted, hosted_of, in_policy, most_session, no_memory, policy_form, refusal_cut_off, refused, source_failed}
 
 -- a count over more calls rose where one of these failed
 more_faults : {Call : Type 0} (fails : Call → Bool) (calls more : List Call) (last : Call) → fails last ≡ true
@@ -99,9 +99,11 @@ memory_status false = refl
 never_three : (written : Bool) (end : ServeEnd) → status_of written end ≡ 3 → ⊥
 never_three true Done e = apart (status_of true Done) 0 3 refl e refl
 never_three true DoorFault e = apart (status_of true DoorFault) 7 3 refl e refl
+never_three true NoRoom e = apart (status_of true NoRoom) 6 3 refl e refl
 never_three true Memory e = apart (status_of true Memory) 6 3 refl e refl
 never_three false Done e = apart (status_of false Done) 5 3 refl e refl
 never_three false DoorFault e = apart (status_of false DoorFault) 5 3 refl e refl
+never_three false NoRoom e = apart (status_of false NoRoom) 5 3 refl e refl
 never_three false Memory e = apart (status_of false Memory) 6 3 refl e refl
 
 -- ---- The run
@@ -139,25 +141,25 @@ module _ {P : Type 0} (panel : P → PanelHistory) (plan : Plan) (source : Sourc
     is_written h es sink_now output (line_cut entry un accepted cut rose) = absurd (unfailed sink_now output rose)
     is_written h es sink_now output (end_cut un cut rose) = absurd (unfailed sink_now output rose)
 
-    complete_serves : Serves panel plan.sessions head opening sink doors panels (hosted_of ended written end).served → (ended.status ≡ 6) ⊎ IsServedWhole panel plan source sink door asked ended
-    complete_serves (done es sink_now journal output serves text) = inr (served_whole (is_written head (entry_trees es) sink_now output text) (done es sink_now journal output serves text))
+    complete_serves : Serves panel plan.sessions head opening sink doors panels (hosted_of ended written end).served → IsUnserved sink ended ⊎ IsServedWhole panel plan source sink door asked ended
+    complete_serves (done es sink_now journal output serves text lasts) = inr (served_whole (is_written head (entry_trees es) sink_now output text) (done es sink_now journal output serves text lasts))
     complete_serves (unopened sink_now journal output cut rose reports ds ps un e) = absurd (unfailed sink_now output rose)
-    complete_serves (nothing_served journal output reports ds ps un e) = inl (had_no_memory e)
+    complete_serves (nothing_served journal output reports ds ps un e) = inl (record { status = had_no_memory e; reports = reports; output = output })
 
   complete_hosts : ((sink_now : SinkView) → ended.output ≡ Some sink_now → Rose sink.faults sink_now.faults → ⊥) → (Rose (faults_in door.calls) (faults_in ended.door.calls) → ⊥) → (Rose (panels.faults_in (panel asked).calls) (panels.faults_in (panel ended.panel).calls) → ⊥)
       → (head : Head) (opening : List Entry) (written : Bool) (end : ServeEnd) → IsPolicyOf source (most_session plan) head (entry_trees opening)
-      → Hosts panel plan head opening sink door asked (hosted_of ended written end) → (ended.status ≡ 6) ⊎ IsServedWhole panel plan source sink door asked ended
+      → Hosts panel plan head opening sink door asked (hosted_of ended written end) → IsUnserved sink ended ⊎ IsServedWhole panel plan source sink door asked ended
   complete_hosts sunk shut down head opening written end policy (served ds ps ready serves status) = complete_serves sunk head opening written end policy ds ps ready status serves
   complete_hosts sunk shut down head opening written end policy (unreached status idle same none failed) = absurd (down (panel_rose failed))
   complete_hosts sunk shut down head opening written end policy (unheard status idle count called failed) = absurd (shut (door_rose failed))
-  complete_hosts sunk shut down head opening written end policy (unready status idle held) = inl status
+  complete_hosts sunk shut down head opening written end policy (unready status idle held) = inl (record { status = status; reports = idle.reports; output = idle.sink_is })
 
   complete : EndsService panel plan source sink door asked ended → IsCompleteService panel plan source sink door asked ended
   complete (hosted h es written end policy still hosts) = λ p q r s form. complete_hosts q r s h es written end policy hosts
   complete (refused outcome sink_now e r idle output sent f g) = λ p q u v form. absurd (form (refused_by (policy_form (most_session plan)) source.given outcome r.refusal))
   complete (refusal_cut_off outcome sink_now e r idle output sent f g) = λ p q u v form. absurd (q sink_now output (rw g (omega arith)))
   complete (source_failed e idle output f) = λ p q u v form. absurd (p (rw f (omega arith)))
-  complete (no_memory e idle output f) = λ p q u v form. inl e
+  complete (no_memory e idle output f) = λ p q u v form. inl (record { status = e; reports = idle.reports; output = output })
 
   not_three : (h : Head) (opening : List Entry) (written : Bool) (end : ServeEnd) → Hosts panel plan h opening sink door asked (hosted_of ended written end) → ended.status ≡ 3 → ⊥
   not_three h opening written end (served ds ps ready serves status) e = never_three written end (sym status ∙ e)

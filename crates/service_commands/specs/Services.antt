@@ -8,7 +8,7 @@ use Rattle.policy_history.specs.declared.heads.Head.{Head}
 use Rattle.policy_history.specs.Events.{EntryTree}
 use Rattle.policy_history.specs.Values.{History, entry_trees}
 use Rattle.journal_text.specs.PolicyFronts.{IsFront, IsWrongFront}
-use Rattle.nexus_serve.specs.declared.service.ServeEnd.{ServeEnd}
+use Rattle.nexus_serve.specs.declared.closing.ServeEnd.{ServeEnd}
 use Rattle.authority_ask.specs.PanelCalls.{PanelHistory}
 use Rattle.authority_ask.specs.PanelCalls as panels
 use Rattle.nexus_serve.specs.Views.{DoorView, ReportView}
@@ -119,7 +119,14 @@ pub data EndsService {P : Type 0} (panel : P → PanelHistory) (plan : Plan) (so
   source_failed : ended.status ≡ 4 → IsUnbegun door asked ended → ended.output ≡ Some sink → source.faults_now ≡ one_more source.faults → EndsService panel plan source sink door asked ended
   no_memory : ended.status ≡ 6 → IsUnbegun door asked ended → ended.output ≡ Some sink → source.faults_now ≡ source.faults → EndsService panel plan source sink door asked ended
 
--- a policy was read and served by the plan, and this is how: its whole text was written
+-- There was no memory to begin with: nobody was served, and nothing was written
+pub record IsUnserved {P : Type 0} (sink : SinkView) (ended : EndedView P) : Type 0 where
+  pub status : ended.status ≡ 6
+  pub reports : ended.reports ≡ []
+  pub output : ended.output ≡ Some sink
+
+-- A policy was read and served by the plan, and this is how: its whole text was written, and the journal and all reports are handed back. The status
+-- is 0; or 7 where a door has failed in a worker; or else 6 where a worker had no memory for one more session
 pub record IsServedWhole {P : Type 0} (panel : P → PanelHistory) (plan : Plan) (source : SourceRun) (sink : SinkView) (door : DoorView) (asked : P) (ended : EndedView P) : Type 0 where
   pub head : Head
   pub opening : List Entry
@@ -132,12 +139,12 @@ pub record IsServedWhole {P : Type 0} (panel : P → PanelHistory) (plan : Plan)
   pub status : ended.status ≡ status_of true end
 
 -- Where neither the source nor the sink failed, nor the door or the panel as the service was made ready, an input that is not refused is served, and its
--- text is written whole; or there was no memory.
+-- text is written whole; or there was no memory to begin with.
 abbrev pub IsCompleteService : {P : Type 0} → (P → PanelHistory) → Plan → SourceRun → SinkView → DoorView → P → EndedView P → Type 0
 IsCompleteService panel plan source sink door asked ended =
     ¬ Rose source.faults source.faults_now → ((sink_now : SinkView) → ended.output ≡ Some sink_now → ¬ Rose sink.faults sink_now.faults) → ¬ Rose (faults_in door.calls) (faults_in ended.door.calls)
     → ¬ Rose (panels.faults_in (panel asked).calls) (panels.faults_in (panel ended.panel).calls) → ¬ IsRefusedInput (policy_form (most_session plan)) source.given
-    → (ended.status ≡ 6) ⊎ IsServedWhole panel plan source sink door asked ended
+    → IsUnserved sink ended ⊎ IsServedWhole panel plan source sink door asked ended
 
 -- a run of `serve`
 pub record RunsService {P : Type 0} (panel : P → PanelHistory) (plan : Plan) (source : SourceRun) (sink : SinkView) (door : DoorView) (asked : P) (ended : EndedView P) : Type 0 where

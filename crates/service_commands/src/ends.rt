@@ -1,8 +1,8 @@
 //! What the program hands back.
 use authority_ask::Panel;
+use nexus_serve::Reports;
 use nx_io::{Door, Sink};
 use policy_history::Journal;
-use session_core::Report;
 
 /// How the program ended, and what it hands back.
 #[derive(Drop)]
@@ -13,8 +13,8 @@ pub struct Ended<D: Door, P: Panel, K: Sink> {
     pub output: Option<K>,
     /// The journal at the end, where a policy was read and its text was to be written.
     pub journal: Option<Journal>,
-    /// The reports of all sessions of a service, worker by worker.
-    pub reports: Vec<Report<D::Link>>,
+    /// The reports of all sessions of a service, a list for each worker.
+    pub reports: Vec<Reports<D::Link>>,
     /// The link that was dialed, if any.
     pub dialed: Option<D::Link>,
     /// The door that was handed in.

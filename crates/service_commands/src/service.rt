@@ -6,7 +6,8 @@ ghost use Rattle.policy_history.specs.Events.{EntryTree};
 ghost use Rattle.policy_history.specs.declared.heads.Head.{Head};
 ghost use Rattle.journal_text.specs.PolicyFronts.{AreBelow};
 ghost use Rattle.run_streams.specs.Runs.{most_bytes, source_run};
-ghost use Rattle.nexus_serve.specs.Views.{door_view, link_view, report_view};
+ghost use Rattle.verdict_words.specs.Settling.{flat};
+ghost use Rattle.nexus_serve.specs.Views.{door_view, link_view};
 ghost use Rattle.service_commands.specs.Services.{EndsService, IsPolicy, IsPolicyOf, IsService, IsUnbegun, hosted_of, patience_in, policy_form};
 ghost use Rattle.run_streams.specs.Inner.Unread.{faults_after_input, IsUnread};
 ghost use Rattle.service_commands.specs.Inner.ServiceEnds.{IsWrongText};
@@ -79,7 +80,7 @@ where
           status = result.status;
           output = option_map (λ k. record { sent = K.sent k; synced = K.synced k; faults = K.faults k }) result.output;
           journal = result.journal;
-          reports = map (report_view (link_view D.Link.left D.Link.taken D.Link.sent D.Link.over D.Link.closed D.Link.admitted D.Link.place D.Link.toward D.Link.faults)) result.reports.items;
+          reports = flat result.reports.items;
           door = (door_view (link_view D.Link.left D.Link.taken D.Link.sent D.Link.over D.Link.closed D.Link.admitted D.Link.place D.Link.toward D.Link.faults) D.links D.origin D.calls result.door);
           doors = map (door_view (link_view D.Link.left D.Link.taken D.Link.sent D.Link.over D.Link.closed D.Link.admitted D.Link.place D.Link.toward D.Link.faults) D.links D.origin D.calls) result.doors.items;
           panel = result.panel;
@@ -183,7 +184,7 @@ where
       status = result.status;
       output = option_map (λ k. record { sent = K.sent k; synced = K.synced k; faults = K.faults k }) result.output;
       journal = result.journal;
-      reports = map (report_view (link_view D.Link.left D.Link.taken D.Link.sent D.Link.over D.Link.closed D.Link.admitted D.Link.place D.Link.toward D.Link.faults)) result.reports.items;
+      reports = flat result.reports.items;
       door = (door_view (link_view D.Link.left D.Link.taken D.Link.sent D.Link.over D.Link.closed D.Link.admitted D.Link.place D.Link.toward D.Link.faults) D.links D.origin D.calls result.door);
       doors = map (door_view (link_view D.Link.left D.Link.taken D.Link.sent D.Link.over D.Link.closed D.Link.admitted D.Link.place D.Link.toward D.Link.faults) D.links D.origin D.calls) result.doors.items;
       panel = result.panel;
@@ -235,7 +236,7 @@ where
           status = result.status;
           output = option_map (λ k. record { sent = K.sent k; synced = K.synced k; faults = K.faults k }) result.output;
           journal = result.journal;
-          reports = map (report_view (link_view D.Link.left D.Link.taken D.Link.sent D.Link.over D.Link.closed D.Link.admitted D.Link.place D.Link.toward D.Link.faults)) result.reports.items;
+          reports = flat result.reports.items;
           door = (door_view (link_view D.Link.left D.Link.taken D.Link.sent D.Link.over D.Link.closed D.Link.admitted D.Link.place D.Link.toward D.Link.faults) D.links D.origin D.calls result.door);
           doors = map (door_view (link_view D.Link.left D.Link.taken D.Link.sent D.Link.over D.Link.closed D.Link.admitted D.Link.place D.Link.toward D.Link.faults) D.links D.origin D.calls) result.doors.items;
           panel = result.panel;

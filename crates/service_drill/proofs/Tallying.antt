@@ -4,7 +4,8 @@ use Rattle.std.specs.Prelude.{cond, IfOk, Result, Ok, Err}
 use Rattle.std.specs.List.{count_by}
 use Rattle.std.proofs.Math.Dec.{eqb}
 use Rattle.std.proofs.lemmas.Bool.{eqb-true}
-use Rattle.std.proofs.lemmas.List.{map-append}
+use Rattle.std.proofs.lemmas.Grind.{flat_map-append}
+use Rattle.std.proofs.lemmas.List.{append-nil, map-append}
 use Rattle.std.proofs.lemmas.List.Sums.{count_by-le-length, sum_by-append}
 use Rattle.nx_io.specs.Streams.{Gave, gained}
 use Rattle.session_wire.specs.declared.replies.Reply.{Reply}
@@ -15,13 +16,15 @@ use Rattle.policy_history.specs.declared.heads.Head.{Head}
 use Rattle.policy_history.specs.Values.{History}
 use Rattle.authority_ask.specs.Memory.{Rehearsed}
 use Rattle.nx_io.specs.MemoryLinks.{Wire}
-use Rattle.session_core.specs.declared.board_serving.Report.{Report}
+use Rattle.nexus_serve.specs.declared.reporting.ServedSession.{ServedSession}
 use Rattle.nx_io.specs.Readers.{Discarded}
 use Rattle.nexus_serve.specs.Services.{ServedView, Serves}
-use Rattle.nexus_serve.specs.Views.{DoorView, ReportView, report_view}
+use Rattle.nexus_serve.specs.Views.{DoorView, ReportView, joined, session_view}
+use Rattle.verdict_words.specs.Settling.{flat}
+use Rattle.verdict_words.specs.Values.{PassValue}
 use Rattle.nexus_drill.specs.declared.outcomes.DrillTotals.{DrillTotals}
 use Rattle.service_drill.specs.Runs.{Counts, IsRun, ServesLoad, allows, denies, panel_of}
-use Rattle.service_drill.specs.Inner.{CountsReplies, CountsReports, wire_view}
+use Rattle.service_drill.specs.Inner.{CountsLinks, CountsReplies, sent_in, sent_over, wire_view}
 
 -- so many turns have read one reply each of the bytes
 pub record IsCounting (sent left given : List ℕ) (turn allowed denied : ℕ) : Type 0 where
@@ -75,38 +78,70 @@ take_then [] i x below is = absurd (omega (arith, below))
 take_then (y ∷ ys) zero x below is = let same : x ≡ y = is in ap (λ z. z ∷ []) (sym same)
 take_then (y ∷ ys) (suc i) x below is = ap (λ zs. y ∷ zs) (take_then ys i x (omega (arith, below)) is)
 
-map_map : {A B C : Type 0} (f : B → C) (g : A → B) (xs : List A) → map f (map g xs) ≡ map (λ x. f (g x)) xs
-map_map f g [] = refl
-map_map f g (x ∷ xs) = ap (λ ys. f (g x) ∷ ys) (map_map f g xs)
-
-pub reports_more : (reports : List (Report Wire)) (i : ℕ) (x : Report Wire) (allowed denied allowed_now denied_now : ℕ) (one : ℕ × ℕ) → i < length reports → x ≡ get_or reports i x
-    → CountsReports (take i reports) (allowed, denied) → CountsReplies x.link.store.sent one → allowed_now ≡ allowed + one.0 → denied_now ≡ denied + one.1 → CountsReports (take (i + 1) reports) (allowed_now, denied_now)
-reports_more reports i x allowed denied allowed_now denied_now one below is h k a d =
-    let more : i + 1 ≡ suc i = omega arith in
-    let longer : take (i + 1) reports ≡ take i reports ++ x ∷ [] = ap (λ (n : ℕ). take n reports) more ∙ take_then reports i x below is in
-    let allows_both = sum_by-append (count_by allows) h.replies (k.replies ∷ []) in
-    let denies_both = sum_by-append (count_by denies) h.replies (k.replies ∷ []) in
+-- what is counted of links and of those behind them is counted of both
+pub links_more : (links more : List (List ℕ)) (allowed denied allowed_now denied_now : ℕ) (one : ℕ × ℕ) → CountsLinks links (allowed, denied) → CountsLinks more one → allowed_now ≡ allowed + one.0
+    → denied_now ≡ denied + one.1 → CountsLinks (links ++ more) (allowed_now, denied_now)
+links_more links more allowed denied allowed_now denied_now one h k a d =
+    let allows_both = sum_by-append (count_by allows) h.replies k.replies in
+    let denies_both = sum_by-append (count_by denies) h.replies k.replies in
     let h_a = h.allowed in
     let h_d = h.denied in
     let k_a = k.allowed in
     let k_d = k.denied in
     record {
-      replies = h.replies ++ k.replies ∷ [];
-      replies_are = ap (map (λ (report : Report Wire). report.link.store.sent)) longer ∙ map-append (λ (report : Report Wire). report.link.store.sent) (take i reports) (x ∷ [])
-          ∙ (λ j. h.replies_are j ++ k.replies_are j ∷ []) ∙ sym (map-append reply_frames h.replies (k.replies ∷ []));
+      replies = h.replies ++ k.replies;
+      replies_are = (λ j. h.replies_are j ++ k.replies_are j) ∙ sym (map-append reply_frames h.replies k.replies);
       allowed = omega (arith, a, h_a, k_a, allows_both);
       denied = omega (arith, d, h_d, k_d, denies_both);
     }
 
+-- what is counted of one link
+pub one_link : (sent : List ℕ) (counts : ℕ × ℕ) → CountsReplies sent counts → CountsLinks (sent ∷ []) counts
+one_link sent counts h =
+    let a = h.allowed in
+    let d = h.denied in
+    record { replies = h.replies ∷ []; replies_are = ap (λ bytes. bytes ∷ []) h.replies_are; allowed = omega (arith, a); denied = omega (arith, d) }
+
+-- one session more is counted
+pub sessions_more : (sessions : List (ServedSession Wire)) (i : ℕ) (x : ServedSession Wire) (allowed denied allowed_now denied_now : ℕ) (one : ℕ × ℕ) → i < length sessions → x ≡ get_or sessions i x
+    → CountsLinks (sent_in (take i sessions)) (allowed, denied) → CountsReplies x.link.store.sent one → allowed_now ≡ allowed + one.0 → denied_now ≡ denied + one.1
+    → CountsLinks (sent_in (take (i + 1) sessions)) (allowed_now, denied_now)
+sessions_more sessions i x allowed denied allowed_now denied_now one below is h k a d =
+    let more : i + 1 ≡ suc i = omega arith in
+    let longer : take (i + 1) sessions ≡ take i sessions ++ x ∷ [] = ap (λ (n : ℕ). take n sessions) more ∙ take_then sessions i x below is in
+    let both : sent_in (take (i + 1) sessions) ≡ sent_in (take i sessions) ++ x.link.store.sent ∷ [] =
+    ap sent_in longer ∙ map-append (λ (session : ServedSession Wire). session.link.store.sent) (take i sessions) (x ∷ []) in
+    subst (λ (links : List (List ℕ)). CountsLinks links (allowed_now, denied_now)) (sym both)
+    (links_more (sent_in (take i sessions)) (x.link.store.sent ∷ []) allowed denied allowed_now denied_now one h (one_link x.link.store.sent one k) a d)
+
+-- one worker more is counted
+pub workers_more : (workers : List (List ReportView)) (i : ℕ) (x : List ReportView) (allowed denied allowed_now denied_now : ℕ) (one : ℕ × ℕ) → i < length workers → x ≡ get_or workers i x
+    → CountsLinks (sent_over (flat (take i workers))) (allowed, denied) → CountsLinks (sent_over x) one → allowed_now ≡ allowed + one.0 → denied_now ≡ denied + one.1
+    → CountsLinks (sent_over (flat (take (i + 1) workers))) (allowed_now, denied_now)
+workers_more workers i x allowed denied allowed_now denied_now one below is h k a d =
+    let more : i + 1 ≡ suc i = omega arith in
+    let longer : take (i + 1) workers ≡ take i workers ++ x ∷ [] = ap (λ (n : ℕ). take n workers) more ∙ take_then workers i x below is in
+    let all : flat (take (i + 1) workers) ≡ flat (take i workers) ++ x = ap flat longer ∙ flat_map-append (λ (list : List ReportView). list) (take i workers) (x ∷ []) ∙ ap (λ (list : List ReportView). flat (take i workers) ++ list) (append-nil x) in
+    let both : sent_over (flat (take (i + 1) workers)) ≡ sent_over (flat (take i workers)) ++ sent_over x =
+    ap sent_over all ∙ map-append (λ (report : ReportView). report.link.sent) (flat (take i workers)) x in
+    subst (λ (links : List (List ℕ)). CountsLinks links (allowed_now, denied_now)) (sym both) (links_more (sent_over (flat (take i workers))) (sent_over x) allowed denied allowed_now denied_now one h k a d)
+
+-- a report has the link of its session
+pub joined_links : (sessions : List (ServedSession Wire)) (passes : List (PassValue Entry Head)) → length sessions ≡ length passes
+    → sent_in sessions ≡ sent_over (joined (map (session_view wire_view) sessions) passes)
+joined_links [] passes long = refl
+joined_links (session ∷ sessions) [] long = absurd (omega (arith, long))
+joined_links (session ∷ sessions) (pass ∷ passes) long = ap (λ (links : List (List ℕ)). session.link.store.sent ∷ links) (joined_links sessions passes (omega (arith, long)))
+
 -- what is counted of reports, as a service tells them
-pub counts_of : (served : ServedView Rehearsed) (reports : List (Report Wire)) (journal : History) (allowed denied entries : ℕ) → served.journal ≡ Some journal → served.reports ≡ map (report_view wire_view) reports
-    → CountsReports reports (allowed, denied) → entries ≡ length journal.entries → Counts served (record { allowed = allowed; denied = denied; entries = entries })
-counts_of served reports journal allowed denied entries journal_is reports_are h entries_are = record {
+pub counts_of : (served : ServedView Rehearsed) (workers : List (List ReportView)) (journal : History) (allowed denied entries : ℕ) → served.journal ≡ Some journal → served.reports ≡ flat workers
+    → CountsLinks (sent_over (flat workers)) (allowed, denied) → entries ≡ length journal.entries → Counts served (record { allowed = allowed; denied = denied; entries = entries })
+counts_of served workers journal allowed denied entries journal_is reports_are h entries_are = record {
   journal = journal;
   journal_is = journal_is;
   entries = entries_are;
   replies = h.replies;
-  replies_are = ap (map (λ (report : ReportView). report.link.sent)) reports_are ∙ map_map (λ (report : ReportView). report.link.sent) (report_view wire_view) reports ∙ h.replies_are;
+  replies_are = ap sent_over reports_are ∙ h.replies_are;
   allowed = h.allowed;
   denied = h.denied;
 }

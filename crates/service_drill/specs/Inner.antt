@@ -3,10 +3,10 @@ use Rattle.std.specs.Prelude.{◌≡◌, ℕ, List, map, Some}
 use Rattle.std.specs.List.{count_by, sum_by}
 use Rattle.nx_io.specs.MemoryDoors.{Doorway}
 use Rattle.nx_io.specs.MemoryLinks.{Wire}
-use Rattle.session_core.specs.declared.board_serving.Report.{Report}
 use Rattle.session_wire.specs.declared.replies.Reply.{Reply}
 use Rattle.session_wire.specs.Frames.{reply_frames}
-use Rattle.nexus_serve.specs.Views.{DoorView, LinkView, door_view, link_view}
+use Rattle.nexus_serve.specs.declared.reporting.ServedSession.{ServedSession}
+use Rattle.nexus_serve.specs.Views.{DoorView, LinkView, ReportView, door_view, link_view}
 use Rattle.service_drill.specs.Runs.{allows, denies}
 
 -- what a link in memory tells, and a door
@@ -23,9 +23,17 @@ pub record CountsReplies (sent : List ℕ) (counts : ℕ × ℕ) : Type 0 where
   pub allowed : counts.0 ≡ count_by allows replies
   pub denied : counts.1 ≡ count_by denies replies
 
--- so of the links of reports, all together
-pub record CountsReports (reports : List (Report Wire)) (counts : ℕ × ℕ) : Type 0 where
+-- the bytes that the links of reports were sent
+abbrev pub sent_over : List ReportView → List (List ℕ)
+sent_over reports = map (λ (report : ReportView). report.link.sent) reports
+
+-- the bytes that the links of sessions were sent
+abbrev pub sent_in : List (ServedSession Wire) → List (List ℕ)
+sent_in sessions = map (λ (session : ServedSession Wire). session.link.store.sent) sessions
+
+-- so of several links, all together
+pub record CountsLinks (links : List (List ℕ)) (counts : ℕ × ℕ) : Type 0 where
   pub replies : List (List Reply)
-  pub replies_are : map (λ (report : Report Wire). report.link.store.sent) reports ≡ map reply_frames replies
+  pub replies_are : links ≡ map reply_frames replies
   pub allowed : counts.0 ≡ sum_by (count_by allows) replies
   pub denied : counts.1 ≡ sum_by (count_by denies) replies

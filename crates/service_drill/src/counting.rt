@@ -1,14 +1,14 @@
 // What is counted of what a service left: the calls that were allowed and denied, by the replies that its links were sent, and the
 // entries of its journal.
 ghost use Rattle.std.specs.Prelude.{◌≡◌, ◌<◌, ◌+◌, ◌^◌, IfOk, cond};
+ghost use Rattle.verdict_words.specs.Settling.{flat};
 ghost use Rattle.service_drill.specs.Runs.{Counts, allows, denies};
-ghost use Rattle.service_drill.specs.Inner.{CountsReplies, CountsReports};
+ghost use Rattle.service_drill.specs.Inner.{CountsLinks, CountsReplies, sent_in, sent_over};
 
 use authority_ask::MemPanel;
 use nexus_drill::DrillTotals;
-use nexus_serve::Served;
+use nexus_serve::{Reports, Served, ServedSession};
 use nx_io::{Discard, MemDoor, MemLink};
-use session_core::Report;
 use session_wire::{Reply, ReplyRead, read_reply};
 use std::alloc::{AllocError, Global};
 
@@ -36,7 +36,7 @@ fn count_in(
         return Err(AllocError);
     };
     let entries = journal.count();
-    let (allowed, denied) = count_reports(alloc, served.reports.as_slice())?;
+    let (allowed, denied) = count_workers(alloc, served.reports.as_slice())?;
     Ok(DrillTotals {
         allowed,
         denied,
@@ -44,14 +44,38 @@ fn count_in(
     })
 }
 
-// The calls that were allowed and those that were denied, over the links of all reports.
-fn count_reports(alloc: Global, reports: &[Report<MemLink>]) -> Result<(u64, u64), AllocError>
-    ensures { IfOk result (CountsReports reports.now) }
+// The calls that were allowed and those that were denied, over the links of all workers.
+fn count_workers(alloc: Global, workers: &[Reports<MemLink>]) -> Result<(u64, u64), AllocError>
+    ensures { IfOk result (CountsLinks (sent_over (flat workers.now))) }
 {
     let mut allowed = 0u64;
     let mut denied = 0u64;
-    for report in reports {
-        let (more_allowed, more_denied) = count_replies(alloc, report.link.sent())?;
+    for reports in workers {
+        let (its_allowed, its_denied) = count_reports(alloc, reports)?;
+        allowed = sum(allowed, its_allowed)?;
+        denied = sum(denied, its_denied)?;
+    }
+    Ok((allowed, denied))
+}
+
+// As `count_workers`, over the links of one worker.
+fn count_reports(alloc: Global, reports: &Reports<MemLink>) -> Result<(u64, u64), AllocError>
+    ensures { IfOk result (CountsLinks (sent_over reports.now)) }
+{
+    count_sessions(alloc, reports.sessions.as_slice())
+}
+
+// As `count_workers`, over the links of some sessions.
+fn count_sessions(
+    alloc: Global,
+    sessions: &[ServedSession<MemLink>],
+) -> Result<(u64, u64), AllocError>
+    ensures { IfOk result (CountsLinks (sent_in sessions.now)) }
+{
+    let mut allowed = 0u64;
+    let mut denied = 0u64;
+    for session in sessions {
+        let (more_allowed, more_denied) = count_replies(alloc, session.link.sent())?;
         allowed = sum(allowed, more_allowed)?;
         denied = sum(denied, more_denied)?;
     }

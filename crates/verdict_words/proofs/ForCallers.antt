@@ -16,6 +16,8 @@ pub use Rattle.verdict_words.proofs.Kept.{met_append}
 pub use Rattle.verdict_words.proofs.Ordering.{all_with}
 -- the atomic steps of a trail with more items
 pub use Rattle.verdict_words.proofs.Ordering.{trail_steps_append, trail_steps_snoc}
+-- the passes of new sessions: how many there are, and what holds of each
+pub use Rattle.verdict_words.proofs.Enrolled.{enrolled_all, enrolled_count}
 -- prefixes: a list begins itself, a longer list, and what a list begins that it begins; their lengths; what `take` gives of them
 pub use Rattle.verdict_words.proofs.Growing.{prefix_whole, prefix_grows, prefix_through, prefix_length, prefix_take, take_whole}
 

@@ -10,6 +10,8 @@ pub mod Seated
 pub mod Meetings
 pub mod Settled
 pub mod Together
+pub mod Listed
+pub mod Enrolled
 pub mod Opening
 pub mod Freshness
 pub mod ForCallers

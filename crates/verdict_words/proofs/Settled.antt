@@ -1,10 +1,10 @@
 -- Passes that are taken in and given back one by one.
 use Rattle.std.proofs.Common.{◌≡◌, ℕ, zero, suc, ◌<◌, ◌≤◌, List, [], ◌∷◌, ◌++◌, length, map, take, drop, set, get_or, refl, sym, ap, ◌∙◌, subst, inr, arith}
 use Rattle.std.specs.Prelude.{All}
-use Rattle.std.proofs.lemmas.List.{append_assoc, append-nil, take_all, drop_all, length-map, get_or-map}
+use Rattle.std.proofs.lemmas.List.{append_assoc, append-nil, take_all, drop_all, drop-map, get_or-take, length-append, length-map, length-take-le}
 use Rattle.std.proofs.lemmas.List.Elements.{All-drop}
 use Rattle.verdict_words.specs.Histories.{IsPrefix}
-use Rattle.std.proofs.Math.Seq.{drop-cons}
+use Rattle.std.proofs.Math.Seq.{drop-append_seam}
 use Rattle.atomic_table.specs.Table.{Me}
 use Rattle.atomic_table.specs.declared.shared.Seat.{Seat}
 use Rattle.verdict_words.specs.Rule.{IsSeated}
@@ -12,7 +12,7 @@ use Rattle.verdict_words.specs.Inner.Steps.{receiving, releasing, released, retu
 use Rattle.verdict_words.specs.Settling.{without}
 use Rattle.verdict_words.specs.Values.{Identity, PassValue, IsPass, board_of, seen_of, trail_of, known_of, resting}
 use Rattle.verdict_words.specs.Settling.{met_of, last_turn, without_all}
-use Rattle.verdict_words.specs.Inner.Settling.{met_held, view_of, away, receiving_all, releasing_all, held_of, IsHolding}
+use Rattle.verdict_words.specs.Inner.Settling.{met_held, view_of, away, receiving_all, releasing_all, held_of, sessions_of, IsHolding}
 use Rattle.verdict_words.specs.declared.views.Origin.{Origin}
 use Rattle.verdict_words.specs.declared.views.AtomicStep.{AtomicStep}
 use Rattle.verdict_words.specs.declared.views.Item.{Item}
@@ -148,54 +148,80 @@ module _ {E H : Type 0} where
       ap (λ v. v ∷ []) one ∙ ((λ i. map (met_held whose b.history b.known) (take 1 (sym holds i)))
       ∙ (λ i. map (met_held whose (seen_of (sym is i).0) (known_of (sym is i).0)) (take 1 (held_of (sym is i).0))))
 
-module _ {E H : Type 0} (whose : Identity E H) (count i : ℕ) (items : List (PassValue E H)) (d : PassValue E H) where
-  abbrev sessions_of : List ℕ
-  sessions_of = map (λ (pass : PassValue E H). pass.session) items
+-- what the book gave is the one that it held first
+one_of : {A B : Type 0} (f : A → B) (xs : List A) (i : ℕ) (y d : B) → i < length xs → y ∷ [] ≡ map f (take 1 (drop i xs)) → y ≡ get_or (map f xs) i d
+one_of f [] i y d lt e = absurd (omega arith)
+one_of f (x ∷ xs) zero y d lt e = ap (λ l. get_or l 0 d) e
+one_of f (x ∷ xs) (suc i) y d lt e = one_of f xs i y d (omega arith) e
 
-  -- what is owed and known where the next pass is given back
-  pub record Next (me now : Me (Unit {0}) (View E H)) : Type 0 where
-    pub rest : List ℕ
-    pub holds : IsHolding whose count (d.session ∷ rest) now
-    pub pass : (new : PassValue E H) → new ∷ [] ≡ map (met_held whose (seen_of now.0) (known_of now.0)) (take 1 (held_of now.0))
-        → new ≡ get_or (map (met_held whose (seen_of me.0) (known_of me.0)) (held_of me.0)) i d
+-- what stands before one of the items, it, and what stands behind it
+map_around : {A B : Type 0} (f : A → B) (xs : List A) (rest : List B) (i : ℕ) (d : A) → i < length xs → d ≡ get_or xs i d → map f xs ++ rest ≡ map f (take i xs) ++ (f d ∷ (map f (drop (suc i) xs) ++ rest))
+map_around f [] rest i d lt e = absurd (omega arith)
+map_around f (x ∷ xs) rest zero d lt e = ap (λ y. f y ∷ (map f xs ++ rest)) (sym e)
+map_around f (x ∷ xs) rest (suc i) d lt e = ap (λ l. f x ∷ l) (map_around f xs rest i d (omega arith) e)
 
-  many_book : (b : BookView E H) → sessions_of ≡ map (λ (p : PassView E H). p.session) b.held → length b.held ≡ length items
-  many_book b sessions = sym (length-map b.held (λ (p : PassView E H). p.session)) ∙ (sym (ap length sessions) ∙ length-map items (λ (pass : PassValue E H). pass.session))
+module _ {E H : Type 0} (whose : Identity E H) (count : ℕ) where
+  -- the book's seat once it gave the first k of its passes back
+  pub record Later (more : List ℕ) (me now : Me (Unit {0}) (View E H)) (k : ℕ) : Type 0 where
+    pub holds : IsHolding whose count more now
+    pub seen : seen_of now.0 ≡ seen_of me.0
+    pub known : known_of now.0 ≡ known_of me.0
+    pub held : held_of now.0 ≡ drop k (held_of me.0)
 
-  next_book : (b : BookView E H) (now : Me (Unit {0}) (View E H)) → count ≡ length b.history → IsPrefix whose.origin.opening b.history
-      → All (λ (p : PassView E H). (p.origin ≡ whose.origin) × (whose.origin.first ≤ p.session)) b.held → sessions_of ≡ map (λ (p : PassView E H). p.session) b.held
-      → now ≡ (releasing_all (take i b.held) (Book b), []) → i < length items → d ≡ get_or items i d → Next (Book b, []) now
-  next_book b now long begins of sessions is lt mine =
-      let many = many_book b sessions in
-      let e : PassView E H = pass_view d in
-      let low : i < length b.held = omega arith in
-      let q : PassView E H = get_or b.held i e in
-      let after = after_some b.held i b refl in
+  later_book : (first more : List ℕ) (b : BookView E H) (now : Me (Unit {0}) (View E H)) (k : ℕ) → count ≡ length b.history → IsPrefix whose.origin.opening b.history
+      → All (λ (p : PassView E H). (p.origin ≡ whose.origin) × (whose.origin.first ≤ p.session)) b.held → first ++ more ≡ map (λ (p : PassView E H). p.session) b.held
+      → length first ≡ k → now ≡ (releasing_all (take k b.held) (Book b), []) → Later more (Book b, []) now k
+  later_book first more b now k long begins of sessions many is =
+      let after = after_some b.held k b refl in
       let here : now ≡ (Book after.book, []) = is ∙ ap (λ (v : View E H). (v, [])) after.is in
-      let held : after.book.held ≡ q ∷ drop (suc i) b.held = after.held ∙ drop-cons b.held i e low in
-      let session : d.session ≡ q.session = ap (λ (p : PassValue E H). p.session) mine ∙ (sym (get_or-map (λ (p : PassValue E H). p.session) items i d 0 lt)
-      ∙ (ap (λ l. get_or l i 0) sessions ∙ get_or-map (λ (p : PassView E H). p.session) b.held i e 0 low)) in
       record {
-        rest = map (λ (p : PassView E H). p.session) (drop (suc i) b.held);
         holds = record {
           book = after.book;
           is = here;
           long = long ∙ sym (ap length after.history);
           begins = subst (λ (h : List E). IsPrefix whose.origin.opening h) (sym after.history) begins;
-          of = subst (All (λ (p : PassView E H). (p.origin ≡ whose.origin) × (whose.origin.first ≤ p.session))) (sym after.held) (All-drop (λ (p : PassView E H). (p.origin ≡ whose.origin) × (whose.origin.first ≤ p.session)) i b.held of);
-          sessions_are = (λ k. session k ∷ map (λ (p : PassView E H). p.session) (drop (suc i) b.held)) ∙ sym (ap (map (λ (p : PassView E H). p.session)) held);
+          of = subst (All (λ (p : PassView E H). (p.origin ≡ whose.origin) × (whose.origin.first ≤ p.session))) (sym after.held) (All-drop (λ (p : PassView E H). (p.origin ≡ whose.origin) × (whose.origin.first ≤ p.session)) k b.held of);
+          sessions_are = sym (drop-append_seam first more) ∙ (ap (λ n. drop n (first ++ more)) many ∙ (ap (drop k) sessions ∙ (drop-map (λ (p : PassView E H). p.session) k b.held
+              ∙ sym (ap (map (λ (p : PassView E H). p.session)) after.held))));
         };
-        pass = λ new told.
-            ap (λ l. get_or l 0 d) (told ∙ ((λ k. map (met_held whose (seen_of (here k).0) (known_of (here k).0)) (take 1 (held_of (here k).0)))
-            ∙ (λ k. map (met_held whose (after.history k) (after.known k)) (take 1 (held k)))))
-            ∙ sym (get_or-map (met_held whose b.history b.known) b.held i e d low);
+        seen = ap (λ (z : Me (Unit {0}) (View E H)). seen_of z.0) here ∙ after.history;
+        known = ap (λ (z : Me (Unit {0}) (View E H)). known_of z.0) here ∙ after.known;
+        held = ap (λ (z : Me (Unit {0}) (View E H)). held_of z.0) here ∙ after.held;
       }
 
-  pub next : (me now : Me (Unit {0}) (View E H)) → IsHolding whose count sessions_of me → now ≡ (releasing_all (take i (held_of me.0)) me.0, []) → i < length items → d ≡ get_or items i d → Next me now
-  next me now holds is lt mine = subst (λ (z : Me (Unit {0}) (View E H)). Next z now) (sym holds.is)
-      (next_book holds.book now holds.long holds.begins holds.of holds.sessions_are (is ∙ (λ k. (releasing_all (take i (held_of (holds.is k).0)) (holds.is k).0, []))) lt mine)
+  pub later : (first more : List ℕ) (me now : Me (Unit {0}) (View E H)) (k : ℕ) → IsHolding whose count (first ++ more) me → length first ≡ k → now ≡ (releasing_all (take k (held_of me.0)) me.0, []) → Later more me now k
+  later first more me now k holds many is = subst (λ (z : Me (Unit {0}) (View E H)). Later more z now k) (sym holds.is)
+      (later_book first more holds.book now k holds.long holds.begins holds.of holds.sessions_are many (is ∙ (λ j. (releasing_all (take k (held_of (holds.is j).0)) (holds.is j).0, []))))
 
--- a book that can give passes back holds as many as there are
-pub many_held : {E H : Type 0} (whose : Identity E H) (count : ℕ) (items : List (PassValue E H)) (me : Me (Unit {0}) (View E H)) → IsHolding whose count (map (λ (pass : PassValue E H). pass.session) items) me → length (held_of me.0) ≡ length items
-many_held {E} {H} whose count items me holds = ap (λ (z : Me (Unit {0}) (View E H)). length (held_of z.0)) holds.is
-    ∙ (sym (length-map holds.book.held (λ (p : PassView E H). p.session)) ∙ (sym (ap length holds.sessions_are) ∙ length-map items (λ (pass : PassValue E H). pass.session)))
+  -- a book that can give these passes back holds as many, and maybe more
+  pub many_held : (items : List (PassValue E H)) (rest : List ℕ) (me : Me (Unit {0}) (View E H)) → IsHolding whose count (sessions_of items ++ rest) me → length items ≤ length (held_of me.0)
+  many_held items rest me holds =
+      let mine = length-append (sessions_of items) rest in
+      let one = length-map items (λ (pass : PassValue E H). pass.session) in
+      let two = length-map holds.book.held (λ (p : PassView E H). p.session) in
+      let same = ap length holds.sessions_are in
+      let held : length (held_of me.0) ≡ length holds.book.held = ap (λ (z : Me (Unit {0}) (View E H)). length (held_of z.0)) holds.is in
+      omega (arith, mine, one, two, same, held)
+
+module _ {E H : Type 0} (whose : Identity E H) (count i : ℕ) (items : List (PassValue E H)) (rest : List ℕ) (d : PassValue E H) where
+  -- what is owed and known where the next pass is given back
+  pub record Next (me now : Me (Unit {0}) (View E H)) : Type 0 where
+    pub rest_then : List ℕ
+    pub holds : IsHolding whose count (d.session ∷ rest_then) now
+    pub pass : (new : PassValue E H) → new ∷ [] ≡ map (met_held whose (seen_of now.0) (known_of now.0)) (take 1 (held_of now.0))
+        → new ≡ get_or (take (length items) (map (met_held whose (seen_of me.0) (known_of me.0)) (held_of me.0))) i d
+
+  pub next : (me now : Me (Unit {0}) (View E H)) → IsHolding whose count (sessions_of items ++ rest) me → now ≡ (releasing_all (take i (held_of me.0)) me.0, []) → i < length items → d ≡ get_or items i d → Next me now
+  next me now holds is lt mine =
+      let first : List ℕ = sessions_of (take i items) in
+      let last : List ℕ = sessions_of (drop (suc i) items) ++ rest in
+      let long : length first ≡ i = length-map (take i items) (λ (pass : PassValue E H). pass.session) ∙ length-take-le i items (omega arith) in
+      let l = later whose count first (d.session ∷ last) me now i (subst (λ (s : List ℕ). IsHolding whose count s me) (map_around (λ (pass : PassValue E H). pass.session) items rest i d lt mine) holds) long is in
+      let many = many_held whose count items rest me holds in
+      record {
+        rest_then = last;
+        holds = l.holds;
+        pass = λ new told.
+            one_of (met_held whose (seen_of me.0) (known_of me.0)) (held_of me.0) i new d (omega arith) (told ∙ (λ k. map (met_held whose (l.seen k) (l.known k)) (take 1 (l.held k))))
+            ∙ sym (get_or-take (length items) (map (met_held whose (seen_of me.0) (known_of me.0)) (held_of me.0)) i d lt);
+      }

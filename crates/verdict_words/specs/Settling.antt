@@ -1,5 +1,7 @@
 -- Passes that are met together.
 use Rattle.std.specs.Prelude.{◌≡◌, ◌≢◌, ◌==◌, ℕ, ◌<◌, ◌≤◌, not, List, [], ◌∷◌, ◌++◌, length, map, filter, All}
+use Rattle.std.specs.List.{flat_map}
+use Rattle.std.specs.declared.vec.Vec.{Vec}
 use Rattle.verdict_words.specs.Histories.{IsPrefix, own}
 use Rattle.verdict_words.specs.Orders.{Gathers, IsOrder, told_of, trail_steps}
 use Rattle.verdict_words.specs.declared.views.AtomicStep.{AtomicStep}
@@ -11,7 +13,19 @@ use Rattle.verdict_words.specs.declared.views.Item.TheVariants.{Met}
 abbrev pub without : ℕ → List ℕ → List ℕ
 without s lag = filter (λ x. not (x == s)) lag
 
+-- the items of each list
+abbrev pub items_of : {X Z : Type 0} → List (Vec X Z) → List (List X)
+items_of lists = map (λ list. list.items) lists
+
+-- lists end to end
+abbrev pub flat : {X : Type 0} → List (List X) → List X
+flat lists = flat_map (λ list. list) lists
+
 module _ {E H : Type 0} where
+  -- the passes of these lists, and behind them those of these rolls
+  abbrev pub all_of : List (List (PassValue E H)) → List (List (PassValue E H)) → List (PassValue E H)
+  all_of lists rolls = flat lists ++ flat rolls
+
   -- a pass with this session and trail, once it was met
   abbrev pub met_of : Identity E H → List E → List AtomicStep → ℕ → List Item → PassValue E H
   met_of board entries known session trail = record { board = board; session = session; seen = entries; trail = trail ++ Met (length entries) ∷ []; known = known }

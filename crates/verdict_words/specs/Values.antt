@@ -1,5 +1,6 @@
 -- What contracts see of a board, of the seat of its book, and of its passes.
-use Rattle.std.specs.Prelude.{◌≡◌, ◌⊎◌, ℕ, ◌≤◌, List, [], length, take, Option, None}
+use Rattle.std.specs.Prelude.{◌≡◌, ◌⊎◌, ℕ, ◌+◌, ◌^◌, ◌-◌, ◌≤◌, List, [], ◌∷◌, length, map, take, Option, None}
+use Rattle.std.specs.List.{range_with_len}
 use Rattle.atomic_table.specs.Seated.{TableId}
 use Rattle.atomic_table.specs.declared.shared.Seat.{Seat}
 use Rattle.verdict_words.specs.Histories.{IsPrefix}
@@ -34,6 +35,10 @@ pub record PassValue (E H : Type 0) : Type 0 where
   pub seen : List E
   pub trail : List Item
   pub known : List AtomicStep
+
+-- the seat of a session, and its board
+abbrev pub SeatOf : Type 0 → Type 0 → Type 0
+SeatOf E H = Identity E H × Seat (Unit {0}) (View E H)
 
 module _ {E H : Type 0} where
   -- what a pass had seen when it was last met
@@ -76,6 +81,19 @@ module _ {E H : Type 0} where
   raised_of (Pass p) = None
   raised_of Spent = None
 
+  -- a pass of this session as contracts see it, by its seat
+  abbrev pub pass_of : SeatOf E H → ℕ → PassValue E H
+  pass_of seat session = record { board = board_of seat.1.me.0 seat.0; session = session; seen = seen_of seat.1.me.0; trail = trail_of seat.1.me.0; known = known_of seat.1.me.0 }
+
+  -- a roll: passes by their seats, of which the first is of this session, and each other one of the next
+  abbrev pub roll_of : ℕ → List (SeatOf E H) → List (PassValue E H)
+  roll_of first [] = []
+  roll_of first (seat ∷ seats) = pass_of seat first ∷ roll_of (first + 1) seats
+
+  -- the passes of so many new sessions from this number on: they have seen these entries, and know these steps
+  abbrev pub enrolled : Identity E H → ℕ → List E → List AtomicStep → ℕ → List (PassValue E H)
+  enrolled board first entries known count = map (λ session. record { board = board; session = session; seen = entries; trail = []; known = known }) (range_with_len first count)
+
   -- what the seat of a resting pass knows
   abbrev pub resting : Origin E H → ℕ → List E → List Item → List AtomicStep → View E H
   resting origin session seen trail known = Pass record { origin = origin; session = session; seen = seen; trail = trail; known = known; loading = Nothing }
@@ -100,3 +118,13 @@ pub record IsBookSeat {E H : Type 0} (session : E → ℕ) (board : Identity E H
   pub long : count ≡ length (seen_of place.me.0)
   pub short : count ≤ most_entries
   pub seated : IsSeated session board.origin (seen_of place.me.0) next (turn_of place.me.0)
+
+-- each of these seats is that of a pass which has seen so many entries, the first of this session and each other one of the next
+abbrev pub ArePasses : {E H : Type 0} → ℕ → ℕ → List (SeatOf E H) → Type 0
+ArePasses first at [] = Unit {0}
+ArePasses first at (seat ∷ seats) = IsPass seat.0 seat.1 first at × ArePasses (first + 1) at seats
+
+-- what holds of every roll: its seats are those of passes, and there are numbers for their sessions
+pub record IsRoll {E H : Type 0} (first at : ℕ) (seats : List (SeatOf E H)) : Type 0 where
+  pub passes : ArePasses first at seats
+  pub room : first + length seats ≤ 2 ^ 64 - 1

@@ -5,7 +5,8 @@
 //! the finder has then seen, under every schedule, and no older than the call: all atomic steps stand in one order, and each
 //! call says where its own do.
 //!
-//! The owner holds the `BookSeat`, each session a `Pass`; the `Board` is shared. None but `Board::make` takes memory.
+//! The owner holds the `BookSeat`, each session a `Pass`; the `Board` is shared. A `Roll` has the passes of sessions that have
+//! not begun. None but `Board::make` and `Board::enroll` takes memory.
 #![tactic(auto)]
 
 mod board;
@@ -19,6 +20,7 @@ mod padded;
 mod pass;
 mod places;
 mod registers;
+mod rolls;
 mod seat;
 mod settle;
 mod steps;
@@ -31,5 +33,6 @@ pub use matter::Matter;
 pub use naming::Naming;
 pub use pass::Pass;
 pub use places::{CasePlace, Held, Look};
+pub use rolls::Roll;
 pub use seat::BookSeat;
 pub use views::{Action, AtomicStep, Item, Origin, RegisterStep};

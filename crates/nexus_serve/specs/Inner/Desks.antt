@@ -1,16 +1,15 @@
 -- What workers get before they are hired, so that all memory is taken before anything is done.
-use Rattle.std.specs.Prelude.{◌≡◌, ◌≤◌, ◌+◌, ℕ, List, [], ◌∷◌, length, All, false}
+use Rattle.std.specs.Prelude.{◌≡◌, ◌+◌, ℕ, List, [], ◌∷◌, length, All, false}
 use Rattle.policy_history.specs.declared.events.Entry.{Entry}
 use Rattle.policy_history.specs.declared.heads.Head.{Head}
 use Rattle.verdict_words.specs.Values.{Identity, PassValue}
 use Rattle.nexus_serve.specs.Views.{DoorView}
 use Rattle.nexus_serve.specs.Inner.Working.{AreNumbered, IsUnused, WorkerValue}
 
--- what contracts see of a desk: the number of the first session, the passes, and how many reports there is memory for
+-- what contracts see of a desk: the number of the first session, and the passes
 pub record DeskValue : Type 0 where
   pub first : ℕ
   pub passes : List (PassValue Entry Head)
-  pub spare : ℕ
 
 -- a desk for so many sessions, which are numbered from this number on
 pub record IsLaid (board : Identity Entry Head) (first most : ℕ) (desk : DeskValue) : Type 0 where
@@ -18,7 +17,6 @@ pub record IsLaid (board : Identity Entry Head) (first most : ℕ) (desk : DeskV
   pub numbered : AreNumbered first desk.passes
   pub count : length desk.passes ≡ most
   pub unused : All (IsUnused board) desk.passes
-  pub room : most ≤ desk.spare
 
 -- the first of the desks is for the sessions from `first` on, and each for the next `most` numbers
 abbrev pub AreLaid : Identity Entry Head → ℕ → ℕ → List DeskValue → Type 0
@@ -27,7 +25,7 @@ AreLaid board first most (desk ∷ desks) = IsLaid board first most desk × AreL
 
 -- a worker that has not begun, at this desk, with this door and this panel, and with one part of the ledger
 abbrev pub seated_at : {P : Type 0} → DeskValue → DoorView → P → WorkerValue P
-seated_at desk door panel = record { first = desk.first; door = door; panel = panel; passes = desk.passes; reports = []; spare = desk.spare; has_failed = false; parts = 1; unrecorded = 0 }
+seated_at desk door panel = record { first = desk.first; door = door; panel = panel; passes = desk.passes; reports = []; has_failed = false; lacks_room = false; parts = 1; unrecorded = 0 }
 
 -- workers, each with the desk, the door and the panel of its place
 abbrev pub seated : {P : Type 0} → List DeskValue → List DoorView → List P → List (WorkerValue P)

@@ -1,31 +1,28 @@
 -- What is handed back behind the workers.
-use Rattle.std.specs.Prelude.{◌≡◌, List, [], length, All, Some, Bool, true, false, codes, if◌then◌else◌}
+use Rattle.std.specs.Prelude.{◌≡◌, List, [], length, map, All, Some, Bool, true, false, codes}
 use Rattle.nx_io.specs.Streams.{Rose, Sends}
 use Rattle.policy_history.specs.PolicyTexts.{ended}
-use Rattle.verdict_words.specs.Settling.{all_met}
+use Rattle.verdict_words.specs.Settling.{all_met, all_of, flat}
 use Rattle.verdict_words.specs.declared.views.AtomicStep.{AtomicStep}
-use Rattle.policy_book.specs.Books.{AreGatheredIn, BookValue, IsLegalBook, IsMetIn, IsNumbered, SendsFront, head_of, trees_of}
-use Rattle.nexus_serve.specs.declared.service.ServeEnd.{ServeEnd}
-use Rattle.nexus_serve.specs.declared.service.ServeEnd.TheVariants.{Done, DoorFault}
+use Rattle.policy_book.specs.Books.{AreGatheredIn, AreLasting, BookValue, IsLegalBook, IsMetIn, IsNumbered, SendsFront, head_of, trees_of}
+use Rattle.nexus_serve.specs.declared.closing.ServeEnd.{ServeEnd}
 use Rattle.nexus_serve.specs.Views.{DoorView, ReportView}
 use Rattle.nexus_serve.specs.Services.{IsJournal, IsTextSent, ServedView, SinkView}
-use Rattle.nexus_serve.specs.Inner.Gathering.{GatheredValue, joined}
-
--- how a service ends whose doors have failed or not
-abbrev pub end_of : Bool → ServeEnd
-end_of has_failed = if has_failed then DoorFault else Done
+use Rattle.nexus_serve.specs.Inner.Gathering.{GatheredValue, joined_each}
+use Rattle.nexus_serve.specs.Inner.Working.{end_of}
 
 -- the text was ended, and the journal of the book is handed back with what was gathered
-pub record IsClosed {K P : Type 0} (book : BookValue K) (doors : List DoorView) (panels : List P) (reports : List ReportView) (has_failed : Bool) (served : ServedView P) : Type 0 where
+pub record IsClosed {K P : Type 0} (book : BookValue K) (doors : List DoorView) (panels : List P) (reports : List ReportView) (end : ServeEnd) (served : ServedView P) : Type 0 where
   pub journal : IsJournal served.journal (head_of book) book.entries
   pub sink_now : SinkView
   pub sink : served.sink ≡ Some sink_now
   pub text : IsTextSent (head_of book) (trees_of book) served.written book.start book.start_faults sink_now
   pub failed : book.is_broken ≡ true → Rose book.start_faults sink_now.faults
+  pub lasts : AreLasting (head_of book) book.board.origin.opening book.entries book.start sink_now.synced
   pub reports_are : served.reports ≡ reports
   pub doors_are : served.doors ≡ doors
   pub panels_are : served.panels ≡ panels
-  pub end : served.end ≡ end_of has_failed
+  pub end_is : served.end ≡ end
   pub legal : IsLegalBook book
   pub numbered : IsNumbered book
 
@@ -36,20 +33,21 @@ pub record IsReported {K P : Type 0} (book : BookValue K) (gathered : GatheredVa
   pub sink : served.sink ≡ Some sink_now
   pub text : IsTextSent (head_of book) (trees_of book) served.written book.start book.start_faults sink_now
   pub failed : book.is_broken ≡ true → Rose book.start_faults sink_now.faults
+  pub lasts : AreLasting (head_of book) book.board.origin.opening book.entries book.start sink_now.synced
   pub known : List AtomicStep
-  pub reports : served.reports ≡ joined gathered.rests (all_met book.board book.entries known gathered.passes)
+  pub reports : served.reports ≡ flat (joined_each gathered.sessions (map (all_met book.board book.entries known) gathered.used))
   pub doors : served.doors ≡ gathered.doors
   pub panels : served.panels ≡ gathered.panels
-  pub end : served.end ≡ end_of gathered.has_failed
-  pub met : All (IsMetIn book) gathered.passes
-  pub order : AreGatheredIn book gathered.passes known
+  pub end : served.end ≡ end_of gathered.has_failed gathered.lacks_room
+  pub met : All (IsMetIn book) (all_of gathered.used gathered.unused)
+  pub order : AreGatheredIn book (all_of gathered.used gathered.unused) known
   pub legal : IsLegalBook book
   pub numbered : IsNumbered book
 
 -- the last line of the text was sent and synced, where the sink did not fail, or a front of it was sent, maybe all of it, since the sink failed
 abbrev pub IsEnded : Bool → SinkView → SinkView → Type 0
 IsEnded true sink sink_now = Sends sink.sent sink_now.sent (ended (codes "end")) × (sink_now.synced ≡ length sink_now.sent) × (sink_now.faults ≡ sink.faults)
-IsEnded false sink sink_now = SendsFront sink.sent sink_now.sent (ended (codes "end")) × Rose sink.faults sink_now.faults
+IsEnded false sink sink_now = SendsFront sink.sent sink_now.sent (ended (codes "end")) × (sink_now.synced ≡ sink.synced) × Rose sink.faults sink_now.faults
 
 -- nobody was served, and the doors and panels are handed back
 pub record IsHandedBack {P : Type 0} (doors : List DoorView) (panels : List P) (served : ServedView P) : Type 0 where

@@ -28,9 +28,9 @@ entries_after false draft = draft.pass.seen ++ drafted draft ∷ []
 entries_after true draft = draft.pass.seen
 
 -- what a line that is sent and synced leaves of a sink, by whether that failed
-abbrev pub IsPut : Bool → (sent sent_now : List ℕ) (synced_now faults faults_now : ℕ) → List ℕ → Type 0
-IsPut false sent sent_now synced_now faults faults_now line = Sends sent sent_now line × (synced_now ≡ length sent_now) × (faults_now ≡ faults)
-IsPut true sent sent_now synced_now faults faults_now line = SendsFront sent sent_now line × (faults_now ≡ one_more faults)
+abbrev pub IsPut : Bool → (sent sent_now : List ℕ) (synced synced_now faults faults_now : ℕ) → List ℕ → Type 0
+IsPut false sent sent_now synced synced_now faults faults_now line = Sends sent sent_now line × (synced_now ≡ length sent_now) × (faults_now ≡ faults)
+IsPut true sent sent_now synced synced_now faults faults_now line = SendsFront sent sent_now line × (synced_now ≡ synced) × (faults_now ≡ one_more faults)
 
 module _ (board : Identity Entry Head) where
   -- the change is accepted at the end of the journal that its pass has seen

@@ -1,5 +1,5 @@
 -- What the calls of a settlement do to what a seat knows, one after another.
-use Rattle.std.specs.Prelude.{◌≡◌, ℕ, ◌≤◌, List, [], ◌∷◌, length, map, All}
+use Rattle.std.specs.Prelude.{◌≡◌, ℕ, ◌≤◌, List, [], ◌∷◌, length, map, take, drop, All}
 use Rattle.atomic_table.specs.Table.{Me}
 use Rattle.verdict_words.specs.Histories.{IsPrefix}
 use Rattle.verdict_words.specs.Inner.Steps.{receiving, releasing}
@@ -11,7 +11,15 @@ use Rattle.verdict_words.specs.declared.views.View.{View}
 use Rattle.verdict_words.specs.declared.views.View.TheVariants.{Book, Pass, Spent}
 use Rattle.verdict_words.specs.Settling.{met_of}
 
+-- a list in parts that are as long as these lists, and without what is behind them
+abbrev pub cut_as : {X Y : Type 0} → List (List X) → List Y → List (List Y)
+cut_as [] ys = []
+cut_as (list ∷ lists) ys = take (length list) ys ∷ cut_as lists (drop (length list) ys)
+
 module _ {E H : Type 0} where
+  abbrev pub sessions_of : List (PassValue E H) → List ℕ
+  sessions_of passes = map (λ (pass : PassValue E H). pass.session) passes
+
   -- a pass that the book holds, once it was met
   abbrev pub met_held : Identity E H → List E → List AtomicStep → PassView E H → PassValue E H
   met_held board entries known p = met_of board entries known p.session p.trail
@@ -47,3 +55,9 @@ module _ {E H : Type 0} where
     pub begins : IsPrefix board.origin.opening book.history
     pub of : All (λ (p : PassView E H). (p.origin ≡ board.origin) × (board.origin.first ≤ p.session)) book.held
     pub sessions_are : sessions ≡ map (λ (p : PassView E H). p.session) book.held
+
+  -- The book's seat holds so many passes
+  pub record IsHoldingMany (count : ℕ) (me : Me (Unit {0}) (View E H)) : Type 0 where
+    pub book : BookView E H
+    pub is : me ≡ (Book book, [])
+    pub many : length book.held ≡ count

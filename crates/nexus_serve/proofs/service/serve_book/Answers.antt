@@ -24,10 +24,8 @@ serve_hired-requires-clause-room g c κs within =
     let desks = c.args.prepared.desks.items in
     let same : length (map (door_view (link_view g.D.Link.Link.left g.D.Link.Link.taken g.D.Link.Link.sent g.D.Link.Link.over g.D.Link.Link.closed g.D.Link.Link.admitted g.D.Link.Link.place g.D.Link.Link.toward g.D.Link.Link.faults) g.D.Door.links g.D.Door.origin g.D.Door.calls) c.args.doors.items) ≡ length desks = length-map c.args.doors.items (door_view (link_view g.D.Link.Link.left g.D.Link.Link.taken g.D.Link.Link.sent g.D.Link.Link.over g.D.Link.Link.closed g.D.Link.Link.admitted g.D.Link.Link.place g.D.Link.Link.toward g.D.Link.Link.faults) g.D.Door.links g.D.Door.origin g.D.Door.calls) ∙ sym c.requires.desks.1 in
     let pairs : length c.args.panels.items ≡ length desks = c.requires.pairs ∙ sym c.requires.desks.1 in
-    let hired : AreHired c.args.board.now c.args.board.now.origin.first c.args.sessions (seated desks (map (door_view (link_view g.D.Link.Link.left g.D.Link.Link.taken g.D.Link.Link.sent g.D.Link.Link.over g.D.Link.Link.closed g.D.Link.Link.admitted g.D.Link.Link.place g.D.Link.Link.toward g.D.Link.Link.faults) g.D.Door.links g.D.Door.origin g.D.Door.calls) c.args.doors.items) c.args.panels.items) =
-    seated_hired c.args.board.now c.args.board.now.origin.first c.args.sessions desks (map (door_view (link_view g.D.Link.Link.left g.D.Link.Link.taken g.D.Link.Link.sent g.D.Link.Link.over g.D.Link.Link.closed g.D.Link.Link.admitted g.D.Link.Link.place g.D.Link.Link.toward g.D.Link.Link.faults) g.D.Door.links g.D.Door.origin g.D.Door.calls) c.args.doors.items) c.args.panels.items c.requires.desks.0 in
     rw (c.seat-workers.ensures)
-    (room_hired c.args.board.now c.args.board.now.origin.first c.args.sessions (length c.args.doors.items) (seated desks (map (door_view (link_view g.D.Link.Link.left g.D.Link.Link.taken g.D.Link.Link.sent g.D.Link.Link.over g.D.Link.Link.closed g.D.Link.Link.admitted g.D.Link.Link.place g.D.Link.Link.toward g.D.Link.Link.faults) g.D.Door.links g.D.Door.origin g.D.Door.calls) c.args.doors.items) c.args.panels.items) c.args.prepared.room hired
+    (room_hired (length c.args.doors.items) (seated desks (map (door_view (link_view g.D.Link.Link.left g.D.Link.Link.taken g.D.Link.Link.sent g.D.Link.Link.over g.D.Link.Link.closed g.D.Link.Link.admitted g.D.Link.Link.place g.D.Link.Link.toward g.D.Link.Link.faults) g.D.Door.links g.D.Door.origin g.D.Door.calls) c.args.doors.items) c.args.panels.items) c.args.prepared.room
     (seated_count desks (map (door_view (link_view g.D.Link.Link.left g.D.Link.Link.taken g.D.Link.Link.sent g.D.Link.Link.over g.D.Link.Link.closed g.D.Link.Link.admitted g.D.Link.Link.place g.D.Link.Link.toward g.D.Link.Link.faults) g.D.Door.links g.D.Door.origin g.D.Door.calls) c.args.doors.items) c.args.panels.items same pairs ∙ c.requires.desks.1) c.requires.room)
 
 pub returns-in-Ready : goal.returns-in-Ready

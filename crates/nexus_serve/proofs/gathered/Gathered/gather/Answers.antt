@@ -1,6 +1,6 @@
 use Rattle.std.proofs.Common.{◌≡◌, ◌≤◌, All, length, sym, ap, ◌∙◌, subst, arith}
 use Rattle.std.proofs.lemmas.List.Elements.{All-cons}
-use Rattle.nexus_serve.specs.Inner.Gathering.{gathered_all, wanted}
+use Rattle.nexus_serve.specs.Inner.Gathering.{GatheredValue, gathered_all}
 use Rattle.nexus_serve.specs.Inner.Working.{WorkerValue}
 use Rattle.nexus_serve.proofs.gathered.Gathered.gather.Goals as goal
 
@@ -12,15 +12,11 @@ loop-worker-preserved g c =
     let taken = c.take_in.ensures.gathered in
     let long = ap length items in
     let places = ap (λ v. v.places) taken in
-    let want = ap wanted items in
-    let spare = ap (λ v. v.spare) taken in
     let fewer = i.places in
-    let room = i.room in
     let Bounded = λ (worker : WorkerValue g.row.P.Denot). worker.unrecorded ≤ c.args.total.now.amount in
     record {
-      same = ap (λ v. gathered_all v left) taken ∙ sym (ap (gathered_all c.loop-worker.gathered) items) ∙ i.same;
+      same = ap (λ v. gathered_all v left) taken ∙ sym {A = GatheredValue g.row.P.Denot} (ap (gathered_all c.loop-worker.gathered) items) ∙ i.same;
       places = omega (arith, long, places, fewer);
-      room = omega (arith, want, spare, room);
       counted = λ rest. i.counted (subst (All Bounded) (sym items) (All-cons Bounded c.in-Some.worker left c.take_in.ensures.counted rest));
     }
 
