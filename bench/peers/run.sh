@@ -1,7 +1,8 @@
 #!/bin/sh
-# What a thread for each peer costs: the memory of a service with 1,024 workers before a peer has connected, with 1,023 admitted peers that say
-# nothing, and how many kept calls a second one more peer makes beside them; and the calls of 1,024 busy peers, beside those of 16. It needs the built program
-# (./nexus builds it), a C compiler, Python, and a limit of open files of 4,096 (ulimit -n).
+# What a thread for each peer costs, in a service of as many sessions as there may be: its memory with one worker and with 1,024, before a peer
+# has connected; what a session that was served takes; the memory with 1,023 admitted peers that say nothing, and how many kept calls a second one
+# more peer makes beside them; and the calls of 1,024 busy peers, beside those of 16. It needs the built program (./nexus builds it), a C compiler,
+# Python, and a limit of open files of 4,096 (ulimit -n).
 set -eu
 here=$(cd "$(dirname "$0")" && pwd)
 program=${1:-$here/../../crates/nexus_main/out/nexus_main}
@@ -25,15 +26,24 @@ policy() {
     }'
 }
 
-# memory: the mebibytes that the service holds in memory.
-memory() {
-    awk '/^VmRSS/ { printf "%d", $2 / 1024 }' "/proc/$service/status"
+# resident: the kibibytes that the service holds in memory, and how many threads it has.
+resident() {
+    awk '/^VmRSS/ { print $2 }' "/proc/$service/status"
+}
+threads() {
+    awk '/^Threads/ { print $2 }' "/proc/$service/status"
 }
 
-# start WORKERS SESSIONS
+# memory: the same in mebibytes.
+memory() {
+    echo $(($(resident) / 1024))
+}
+
+# start WORKERS: a service whose workers are all there.
 start() {
-    policy | "$program" serve "unix:$work/nexus" "$1" "$2" 86400 >"$work/after" &
+    policy | "$program" serve "unix:$work/nexus" "$1" 65536 86400 >"$work/after" &
     service=$!
+    while [ "$(threads)" -lt "$1" ]; do sleep 0.01; done
     while [ ! -S "$work/nexus" ]; do sleep 0.01; done
 }
 
@@ -44,9 +54,18 @@ stop() {
     rm -f "$work/nexus"
 }
 
-start 1024 32
-echo "1,024 workers, no peer: $(memory) MiB"
+start 1
+sleep 0.5
+one=$(resident)
+served=50000
+python3 -B "$here/sessions.py" "$work/nexus" "$served"
+echo "a session that was served: $((1024 * ($(resident) - one) / served)) bytes, of $served"
+stop
+start 1024
+all=$(resident)
+echo "1,024 workers, no peer: $((all / 1024)) MiB, and one: $((one / 1024)) MiB; a worker: $(((all - one) / 1023)) KiB"
 alone=$("$work/load" "$work/nexus" 1 64000 1 call)
+: >"$work/told"
 python3 -B "$here/idle.py" "$work/nexus" 1023 >"$work/told" &
 idle=$!
 while ! grep -q admitted "$work/told"; do sleep 0.1; done
@@ -57,7 +76,7 @@ kill "$idle"
 wait "$idle" 2>/dev/null || true
 idle=''
 stop
-start 1024 32
+start 1024
 few=$("$work/load" "$work/nexus" 16 16000 1 call)
 many=$("$work/load" "$work/nexus" 1024 500 1 call)
 echo "$few $many" | awk '{ printf "kept calls of 1,024 busy peers: %d a second, 99 of 100 within %d microseconds; of 16: %d, %d; ratio %.2f\n", $3, $4, $1, $2, $3 / $1 }'

@@ -1,7 +1,8 @@
 #!/usr/bin/env python3
 """Plays peers that would hold all workers of `nexus serve`: silent ones, ones that send a byte a second, refused hellos, admitted ones
-that sleep or read nothing, and garbage. Others are served meanwhile, and who lets the service wait for too long is given up. What is
-wanted stands here, and comes from docs/OPERATING.md, "Peers that are silent, and local sockets".
+that sleep or read nothing, and garbage. Others are served meanwhile, and who lets the service wait for too long is given up. And a
+service of as many workers and sessions as there may be starts at once, and takes little memory. What is wanted stands here, and comes
+from docs/OPERATING.md, "Peers that are silent, and local sockets" and "How to size a service".
 
     examples/patience/run.py PROGRAM
 
@@ -11,10 +12,14 @@ from __future__ import annotations
 
 import math
 import multiprocessing
+import re
 import resource
 import selectors
+import signal
 import socket
+import subprocess
 import sys
+import tempfile
 import time
 from concurrent.futures import ThreadPoolExecutor
 from multiprocessing.connection import Connection
@@ -30,9 +35,13 @@ from run import Differs, Service, Session, check, head
 SOONEST, LATEST = 9, 13
 # So many seconds may 99 of 100 calls take, and a new client until it is welcome.
 CALL, WELCOME = 0.05, 5
+# For so many seconds a client calls as fast as it is answered, and beside a crowd at least so much of its rate is left.
+RUSH, LEFT = 1, 0.5
 TRIES, CALLS = 3, 600
 # So many files may the service have open, and so many peers of each kind there are where it may.
-FILES, WORKERS = 8192, 1024
+FILES, WORKERS, SESSIONS = 8192, 1024, 65536
+# So many seconds may a largest service take until all of its workers are there, and so many bytes it may then hold in memory.
+START, RESIDENT = 1, 64_000_000
 CROWD = {"silent": 700, "slow": 100, "wrong": 10, "deaf": 100, "asleep": 64, "garbage": 1}
 
 HELLO = frame_of_line("hello crowd crowd-secret")
@@ -73,6 +82,52 @@ def seconds_until_closed(link: socket.socket, since: float) -> float:
         pass
     link.close()
     return time.monotonic() - since
+
+
+# A largest service
+
+
+def number_of(service: Service, name: str) -> int:
+    """A number that the system tells of the process: how many threads it has, or how many KiB it holds in memory."""
+    status = Path(f"/proc/{service.process.pid}/status").read_text()
+    return int(re.findall(rf"^{name}:\s*(\d+)", status, re.MULTILINE)[0])
+
+
+def start_largest(workers: int, path: Path) -> tuple[float, int]:
+    """How many seconds a service took until its policy was written and all of its workers were there, and how many bytes it held then,
+    before anybody connected. It is served, and ends when it is told to."""
+    policy = head(["alice"])
+    since = time.monotonic()
+    with Service(policy + "end\n", workers, SESSIONS, address=f"unix:{path}") as service:
+        while service.text() != policy or number_of(service, "Threads") < workers:
+            check("a largest service goes on", service.process.poll(), None)
+            check("a largest service is there within 20 seconds", time.monotonic() - since < 20, True)
+            time.sleep(0.005)
+        took = time.monotonic() - since
+        resident = 1024 * number_of(service, "VmRSS")
+        with Session(service.address, "alice") as alice:
+            alice.change("say alice : here")
+        service.process.terminate()
+        check("a largest service ends when it is told to", service.process.wait(timeout=10), -signal.SIGTERM)
+        text = policy + "".join(alice.lines.values())
+        check("the text of a largest service", service.text(), text)
+        ended = subprocess.run([services.program, "recover"], input=text.encode(), stdout=subprocess.PIPE, timeout=60)
+        check("what is recovered of a largest service", (ended.returncode, ended.stdout.decode()), (0, text + "end\n"))
+    return took, resident
+
+
+def play_largest(workers: int) -> str:
+    """As many workers and sessions as there may be. The soonest of some starts counts, since others work on the machine. What was measured."""
+    with tempfile.TemporaryDirectory() as folder:
+        best, most = math.inf, 0
+        for number in range(TRIES):
+            took, resident = start_largest(workers, Path(folder) / str(number))
+            best, most = min(best, took), max(most, resident)
+            if best < START:
+                break
+    check("a largest service starts within a second", best < START or best, True)
+    check("the memory of a largest service before anybody connects", most < RESIDENT or most, True)
+    return f"{workers} workers of {SESSIONS} sessions are there after {best:.2f} s, in {most / 1_000_000:.0f} MB"
 
 
 # Few peers
@@ -266,6 +321,16 @@ def slowest_of_99(session: Session) -> float:
     return sorted(times)[math.ceil(0.99 * CALLS) - 1]
 
 
+def rate_of(session: Session) -> float:
+    """How many calls a second one client makes, each when the one before was answered. Half of them are checked anew."""
+    calls, since = 0, time.monotonic()
+    while time.monotonic() - since < RUSH:
+        session.call("read", "thing", "allowed 1 0")
+        session.call("open", "thing", "allowed 0 0")
+        calls += 2
+    return calls / (time.monotonic() - since)
+
+
 def prepare(session: Session) -> None:
     """An object that its owner may read by a verdict that is kept, and open by one that is not."""
     name = session.name
@@ -306,10 +371,11 @@ def play_crowd(workers: int) -> str:
     names = ["honest", "late", "crowd"]
     counts = {kind: math.ceil(count * workers / WORKERS) for kind, count in CROWD.items()}
     front = head(names) + "authority 0 clock\n"
-    with Service(front + "end\n", workers, 56, 86400) as service:
+    with Service(front + "end\n", workers, SESSIONS, 86400) as service:
         honest = Session(service.address, "honest")
         prepare(honest)
         sessions = [honest]
+        alone = max(rate_of(honest) for _ in range(TRIES))
         here, there = multiprocessing.Pipe()
         process = multiprocessing.Process(target=run_crowd, args=(service.address, counts, there), daemon=True)
         process.start()
@@ -323,6 +389,11 @@ def play_crowd(workers: int) -> str:
                 best = min(best, slowest_of_99(honest))
                 if best < CALL:
                     break
+            beside = 0.0
+            for _ in range(TRIES):
+                beside = max(beside, rate_of(honest))
+                if beside >= LEFT * alone:
+                    break
             while time.monotonic() < end:
                 welcome_new(service.address, sessions)
                 honest.call("open", "thing", "allowed 0 0")
@@ -335,11 +406,14 @@ def play_crowd(workers: int) -> str:
             process.join()
         judge_crowd(lives, counts)
         check("99 of 100 calls beside a crowd", best < CALL or best, True)
+        check("the rate of calls beside a crowd", beside >= LEFT * alone or (beside, alone), True)
         service.kill()
         lines = {at: line for session in sessions for at, line in session.lines.items()}
         check("the text of a service with a crowd", service.text(), front + "".join(lines[at] for at in sorted(lines)))
         megabytes = sent["garbage"] / 1_000_000
-    return f"99 of 100 calls within {1000 * best:.1f} ms beside {sum(counts.values())} peers and {megabytes:.0f} MB of garbage"
+    crowd = f"beside {sum(counts.values())} peers and {megabytes:.0f} MB of garbage"
+    rates = f"{beside:.0f} calls a second, {alone:.0f} without them, ratio {beside / alone:.2f}"
+    return f"99 of 100 calls within {1000 * best:.1f} ms {crowd}; {rates}"
 
 
 def workers_within_limit() -> int:
@@ -357,6 +431,7 @@ def main() -> int:
     services.program = sys.argv[1]
     try:
         workers = workers_within_limit()
+        print(play_largest(workers))
         with ThreadPoolExecutor(2) as pool:
             for played in [pool.submit(play) for play in [play_few, play_sleepers]]:
                 played.result()
