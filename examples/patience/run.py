@@ -1,8 +1,9 @@
 #!/usr/bin/env python3
 """Plays peers that would hold all workers of `nexus serve`: silent ones, ones that send a byte a second, refused hellos, admitted ones
 that sleep or read nothing, and garbage. Others are served meanwhile, and who lets the service wait for too long is given up. And a
-service of as many workers and sessions as there may be starts at once, and takes little memory. What is wanted stands here, and comes
-from docs/OPERATING.md, "Peers that are silent, and local sockets" and "How to size a service".
+service of as many workers and sessions as there may be starts at once, and takes little memory; one whose memory ends has a whole text.
+What is wanted stands here, and comes from docs/OPERATING.md, "Peers that are silent, and local sockets", "How to size a service" and
+"Status 6".
 
     examples/patience/run.py PROGRAM
 
@@ -28,7 +29,7 @@ from pathlib import Path
 sys.path.insert(0, str(Path(__file__).resolve().parents[1] / "serve"))
 
 import run as services
-from client import frame, frame_of_line
+from client import Client, Ended, frame, frame_of_line
 from run import Differs, Service, Session, check, head
 
 # When a peer is closed that is not admitted: after ten seconds, give or take what clocks and a busy machine do.
@@ -128,6 +129,31 @@ def play_largest(workers: int) -> str:
     check("a largest service starts within a second", best < START or best, True)
     check("the memory of a largest service before anybody connects", most < RESIDENT or most, True)
     return f"{workers} workers of {SESSIONS} sessions are there after {best:.2f} s, in {most / 1_000_000:.0f} MB"
+
+
+def is_answered(address: str) -> bool:
+    """Has one more session. Whether anything is answered in it."""
+    try:
+        with Client(address) as client:
+            client.ask("hello alice alice-secret")
+        return True
+    except (OSError, Ended):
+        return False
+
+
+def play_short() -> None:
+    """A service that gets no more memory from the system once it has served a session. It goes on with what it has, until there is none for
+    the report of one session more; then it ends by itself, and its text is whole."""
+    policy = head(["alice"])
+    with tempfile.TemporaryDirectory() as folder, Service(policy + "end\n", 1, SESSIONS, address=f"unix:{folder}/short") as service:
+        with Session(service.address, "alice") as alice:
+            alice.change("say alice : here")
+        size = 1024 * number_of(service, "VmSize")
+        resource.prlimit(service.process.pid, resource.RLIMIT_AS, (size, size))
+        served = next((number for number in range(SESSIONS) if not is_answered(service.address)), SESSIONS)
+        check("a service whose memory ends has served some sessions, and not all", 1 < served < SESSIONS - 1 or served, True)
+        text = policy + "".join(alice.lines.values()) + "end\n"
+        check("the end of a service whose memory ends", service.end(), (6, text))
 
 
 # Few peers
@@ -432,6 +458,7 @@ def main() -> int:
     try:
         workers = workers_within_limit()
         print(play_largest(workers))
+        play_short()
         with ThreadPoolExecutor(2) as pool:
             for played in [pool.submit(play) for play in [play_few, play_sleepers]]:
                 played.result()
