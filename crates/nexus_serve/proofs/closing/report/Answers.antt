@@ -1,7 +1,5 @@
-use Rattle.std.proofs.Common.{◌≡◌, ◌++◌, ◌∙◌, length, map, sym, ap, subst}
-use Rattle.std.proofs.lemmas.List.Folds.{flat_map-map}
-use Rattle.std.specs.Prelude.{All}
-use Rattle.verdict_words.specs.Settling.{all_met, all_of, flat, items_of}
+use Rattle.std.proofs.Common.{◌≡◌, ◌∙◌, map, sym, ap}
+use Rattle.verdict_words.specs.Settling.{all_met, flat, items_of}
 use Rattle.nexus_serve.specs.Inner.Gathering.{joined_each}
 use Rattle.nexus_serve.proofs.Gathering.{lengths_met}
 use Rattle.nexus_serve.proofs.closing.report.Goals as goal

@@ -3,7 +3,7 @@ use Rattle.std.proofs.lemmas.List.{with_items_is}
 use Rattle.std.specs.Prelude.{All}
 use Rattle.nexus_serve.specs.Inner.Gathering.{IsRoomFor}
 use Rattle.nexus_serve.specs.Inner.Serving.{AreDone, AreOfBoard}
-use Rattle.nexus_serve.specs.Inner.Working.{IsDone, IsHired, WorkerValue}
+use Rattle.nexus_serve.specs.Inner.Working.{IsDone, WorkerValue}
 use Rattle.nexus_serve.proofs.Numbering.{all_done, done_of_board}
 use Rattle.nexus_serve.proofs.Seating.{room_done}
 use Rattle.nexus_serve.proofs.threads.serve_hired.Goals as goal

@@ -1,8 +1,6 @@
-use Rattle.std.proofs.Common.{◌≡◌, ◌+◌, ◌∷◌, [], ◌++◌, length, map, refl, sym, ◌∙◌, ap, arith, length-append}
+use Rattle.std.proofs.Common.{◌≡◌, ◌∷◌, [], ◌++◌, length, map, refl, sym, ◌∙◌, ap, arith}
 use Rattle.std.proofs.lemmas.List.{length-map, map-append}
-use Rattle.std.specs.Prelude.{◌||◌}
 use Rattle.nexus_serve.specs.Views.{LinkView, door_view, link_view, session_view}
-use Rattle.nexus_serve.specs.Inner.Gathering.{pass_of, session_of}
 use Rattle.nexus_serve.proofs.Gathering.{gathered_same, passes_back, sessions_back}
 use Rattle.nexus_serve.proofs.gathered.Gathered.take_in.Goals as goal
 
