@@ -195,8 +195,8 @@ const DAY: Day<'static> = Day {
     other: "",
 };
 
-// A service whose sink holds such a call comes to what it should. Nobody gave up, and when the sink went on the second session had been answered what it asked
-// before its change, and not that.
+// A service whose sink holds such a call comes to what it should. Nobody gave up; and when the sink went on, the second session had been
+// answered all that it asked before its change, and its change had not been answered.
 fn try_holding<
     R: Net<Listener = TcpListener, Stream = TcpStream>
         + Files
