@@ -8,5 +8,6 @@ pub mod Memory
 pub mod MemoryDoors
 pub mod MemoryLinks
 pub mod Readers
+pub mod Recorders
 pub mod Sockets
 pub mod Streams
