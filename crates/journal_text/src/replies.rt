@@ -73,7 +73,8 @@ fn named(alloc: Global, name: Option<&str>, number: u64) -> Result<String, Alloc
     }
 }
 
-fn cause_name(cause: u64) -> Option<&'static str>
+/// The name of the cause with this number, from 1. None where there is none.
+pub fn cause_name(cause: u64) -> Option<&'static str>
     ensures { MatchOption result (named cause_names cause ≡ decimal cause) (λ name. named cause_names cause ≡ name.now) }
 {
     match cause {
@@ -87,7 +88,8 @@ fn cause_name(cause: u64) -> Option<&'static str>
     }
 }
 
-fn fault_name(fault: u64) -> Option<&'static str>
+/// The name of the fault with this number, from 1. None where there is none.
+pub fn fault_name(fault: u64) -> Option<&'static str>
     ensures { MatchOption result (named fault_names fault ≡ decimal fault) (λ name. named fault_names fault ≡ name.now) }
 {
     match fault {
