@@ -20,7 +20,7 @@ pub record AllSay (ls : List LineTree) : Type 0 where
 pub say_later : (x : LineTree) (ls : List LineTree) → AllSay (x ∷ ls) → AllSay ls
 say_later x ls say = record { each = λ i l at asks. say.each (suc i) l at asks }
 
-passes_ask : (l : LineTree) → is_ask l ≡ true → l.rule ≡ Ask
+pub passes_ask : (l : LineTree) → is_ask l ≡ true → l.rule ≡ Ask
 passes_ask l e = of l.rule refl
   where
     of : (r : Rule) → l.rule ≡ r → l.rule ≡ Ask

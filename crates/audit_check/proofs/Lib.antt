@@ -3,5 +3,7 @@ pub mod AskLines
 pub mod Opened
 pub mod Settled
 pub mod Unknowns
+pub mod FewAsks
+pub mod RightAnswers
 pub mod Ordered
 pub mod ForCallers

@@ -32,8 +32,16 @@ told_same e = cc
 pub decided_by : (c : CaseTree) (cause : Cause) → IsDeniedBy c cause → IsDecided c
 decided_by c cause d = (cause, d.decides, (d.verdict []).0)
 
+-- a case without a proof is
+pub without_proof : (c : CaseTree) → c.proof ≡ None → IsDecided c
+without_proof c e = (NoProof, omega arith, λ ls is. absurd (cc (is, e)))
+
 pub told_decided : (c : CaseTree) (answers : List Bool) (verdict : Verdict) → IsDecided c → IsToldWith c answers verdict → answers ≡ []
 told_decided c answers verdict d t = nil_from_length answers (sym t.all ∙ ap length (t.asked.0 d))
+
+-- a denial by a cause that no answer changes
+pub told_none : (c : CaseTree) (answers : List Bool) (cause : Cause) → cause_number cause < 6 → IsToldWith c answers (Denied cause) → answers ≡ []
+told_none c answers cause low t = told_decided c answers (Denied cause) (cause, low, unaffected c answers [] cause low t.told.0) t
 
 pub tells_decided : (c : CaseTree) (verdict : Verdict) → IsDecided c → IsVerdict c [] verdict → IsToldWith c [] verdict
 tells_decided c verdict d v = record { asks = []; asked = ((λ _. refl), λ undecided. absurd (undecided d)); all = refl; told = v }
@@ -42,7 +50,7 @@ tells_decided c verdict d v = record { asks = []; asked = ((λ _. refl), λ unde
 
 -- a case that is not decided has a proof
 opened_by : (c : CaseTree) (p : Option (List LineTree)) → c.proof ≡ p → (IsDecided c → ⊥) → (ls : List LineTree) × IsOpen c ls
-opened_by c None e undecided = absurd (undecided (NoProof, omega arith, λ ls is. absurd (cc (is, e))))
+opened_by c None e undecided = absurd (undecided (without_proof c e))
 opened_by c (Some ls) e undecided = (ls, record { proof_is = e; undecided = undecided })
 
 pub opened : (c : CaseTree) → (IsDecided c → ⊥) → (ls : List LineTree) × IsOpen c ls

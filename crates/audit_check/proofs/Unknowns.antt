@@ -15,13 +15,13 @@ use Rattle.audit_check.specs.declared.records.Answers.TheVariants.{Known, Unknow
 use Rattle.audit_check.specs.declared.records.Recorded.TheVariants.{Told}
 use Rattle.audit_check.specs.Records.{IsRightOf, IsToldWith, yes_before}
 use Rattle.audit_check.specs.Laws.{RightAllowedDerives, UnknownAnswers, all_yes}
-use Rattle.audit_check.proofs.Settled.{allowed_by, allows, lines_are, lowest_in, opened, refused_by, refuses, told_decided}
+use Rattle.audit_check.proofs.Settled.{allowed_by, allows, lines_are, lowest_in, opened, refused_by, refuses, told_none}
 
 -- a verdict that hangs on authorities leaves the case open
-allowed_open : (c : CaseTree) (answers : List Bool) → IsVerdict c answers Allowed → IsDecided c → ⊥
+pub allowed_open : (c : CaseTree) (answers : List Bool) → IsVerdict c answers Allowed → IsDecided c → ⊥
 allowed_open c answers v d = v d.0 (unaffected c [] answers d.0 d.1 d.2)
 
-refused_open : (c : CaseTree) (answers : List Bool) (k : ℕ) → IsVerdict c answers (Denied (AuthorityNo k)) → IsDecided c → ⊥
+pub refused_open : (c : CaseTree) (answers : List Bool) (k : ℕ) → IsVerdict c answers (Denied (AuthorityNo k)) → IsDecided c → ⊥
 refused_open c answers k v d = v.1 d.0 d.1 (unaffected c [] answers d.0 d.1 d.2)
 
 allowed_to : (c : CaseTree) → IsRightOf c Unknown (Told Allowed) → IsVerdict c (all_yes c) Allowed
@@ -51,7 +51,7 @@ refused_from c k v =
 -- a denial by another cause rests on no answer
 other_to : (c : CaseTree) (cause : Cause) → cause_number cause < 6 → IsRightOf c Unknown (Told (Denied cause)) → IsRightOf c (Known []) (Told (Denied cause))
 other_to c cause low h =
-    let none = told_decided c h.0 (Denied cause) (cause, low, unaffected c h.0 [] cause low h.2.told.0) h.2 in
+    let none = told_none c h.0 cause low h.2 in
     ([], refl, subst (λ (bs : List Bool). IsToldWith c bs (Denied cause)) none h.2)
 
 other_from : (c : CaseTree) (verdict : Verdict) → IsRightOf c (Known []) (Told verdict) → IsRightOf c Unknown (Told verdict)

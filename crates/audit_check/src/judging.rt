@@ -59,7 +59,7 @@ fn is_right_open(proof: &Proof, answers: &Answers, verdict: Recorded) -> bool
 }
 
 /// How many ask lines stand before the line with this number.
-fn asks_before(proof: &Proof, number: u64) -> u64
+pub(crate) fn asks_before(proof: &Proof, number: u64) -> u64
     ensures { result ≡ ask_place (line_trees proof.now) number }
 {
     if number == 0 {
@@ -71,7 +71,7 @@ fn asks_before(proof: &Proof, number: u64) -> u64
 }
 
 /// How many of the lines are ask lines.
-fn ask_count(lines: &[Line]) -> u64
+pub(crate) fn ask_count(lines: &[Line]) -> u64
     ensures { result ≡ length (filter is_ask (line_trees lines.now)) }
 {
     let mut count = 0u64;
