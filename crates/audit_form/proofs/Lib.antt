@@ -2,3 +2,5 @@ pub mod VerdictTexts
 pub mod AnswerLetters
 pub mod RecordLines
 pub mod Reading
+pub mod RecordWriting
+pub mod RightLines
