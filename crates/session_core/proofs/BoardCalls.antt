@@ -16,7 +16,7 @@ use Rattle.guard_core.specs.declared.findings.GuardError.TheVariants.{Down as Do
 use Rattle.guard_core.specs.Judging.{IsBrokenOff, IsJudged, answers_in, verdict_of}
 use Rattle.authority_ask.specs.Panels.{Told as Ask}
 use Rattle.session_wire.specs.declared.replies.Reply.{Reply}
-use Rattle.session_wire.specs.declared.replies.Reply.TheVariants.{Down}
+use Rattle.session_wire.specs.declared.replies.Reply.TheVariants.{Down, Refused}
 use Rattle.session_wire.specs.declared.requests.Request.TheVariants.{Call}
 use Rattle.verdict_words.specs.declared.places.CasePlace.{CasePlace}
 use Rattle.verdict_words.specs.declared.places.Held.{Held}
@@ -36,7 +36,7 @@ use Rattle.policy_book.proofs.ForCallers.{held_right}
 use Rattle.session_core.specs.Told as told
 use Rattle.session_core.specs.Told.{Answers, IsPlaceIn, Keeps, Looks, Runs, Turn, stepped, verdict_reply}
 use Rattle.session_core.specs.declared.board_session.BoardSession.{BoardSession}
-use Rattle.session_core.specs.Inner.Boarding.{HasJoined, HasKept, IsChecked, IsMissed, IsReady, IsReplyOf, IsTurn, head_of, own_in, standing, stepped_by, trees_of, who_of}
+use Rattle.session_core.specs.Inner.Boarding.{HasJoined, HasKept, IsChecked, IsMissed, IsReady, IsSettled, IsReplyOf, IsTurn, head_of, own_in, standing, stepped_by, trees_of, who_of}
 use Rattle.session_core.specs.Inner.Boarding as boarding
 use Rattle.session_core.specs.Inner.Knowing.{joined_rows, knows_row, place_among}
 use Rattle.session_core.proofs.Boarding.{still}
@@ -78,6 +78,10 @@ module _ (p : ℕ) (op given object : List ℕ) (arg k at : ℕ) (place : Option
       → t.known.rows ≡ joined_rows s.known.rows given object place → IsChecked p op object arg k place c s t asks (Down at line)
   down_checked line same at_is broken pass_is admitted rows =
       boarding.down line broken (joined_as [] same (subst (λ (x : PassValue Entry Head). x ≡ stepped_by s.pass [] x.known) (sym pass_is) (still s.pass)) (subst (λ (x : PassValue Entry Head). IsPrefix s.pass.known x.known) (sym pass_is) (prefix_whole s.pass.known)) admitted rows) (ap (λ (n : ℕ). Down n line) at_is)
+
+  -- its record could not be sent
+  pub cut_checked : at ≡ length s.pass.seen → IsSettled c asks → t ≡ s → IsChecked p op object arg k place c s t asks (Refused at 20)
+  cut_checked at_is settled same = boarding.unrecorded settled same (ap (λ (n : ℕ). Refused n 20) at_is)
 
 -- the length at which a case was taken
 pub taken_at : (s : BoardSession) (at : ℕ) → at ≡ length (trees_of s) → at ≡ length s.pass.seen
@@ -180,6 +184,24 @@ module _ (board : Identity Entry Head) (s : BoardSession) (p : ℕ) (op object :
         where
           never : {at : ℕ} {held : Held} → Miss ≡ Hit at held → ⊥
           never same = cc same
+
+      -- a hit whose record could not be sent
+      pub cut_turn : (arg at : ℕ) (held : Held) → at ≡ length q.seen → MakesHit place.case slot of_object of_store held → IsTurn s (record s { pass = q }) [] (Call op object arg) (Refused at 20)
+      cut_turn arg at held at_is makes =
+          let turn : Turn = stepped (record (standing s) { low = length q.seen }) (Refused (length q.seen) 20) [] (Loaded place slot (length q.seen) of_object of_store ∷ []) in
+          record {
+            turn = turn;
+            answers = told.call_unrecorded p op object arg who refl (told.hit_unrecorded (length q.seen) place slot of_object of_store held looks makes refl);
+            reply_is = ap (λ (n : ℕ). Refused n 20) (sym at_is);
+            asks_are = refl;
+            trail = looked_trail;
+            own_is = own_looked ∙ sym (append-nil (own_in s.pass));
+            after = refl;
+            seen = prefix;
+            knows = knows;
+            session_is = ap (λ (x : PassValue Entry Head). x.session) made;
+            board_is = ap (λ (x : PassValue Entry Head). x.board) made;
+          }
 
       module _ (arg at : ℕ) (r : PassValue Entry Head) (held : Held) (reply : Reply) (verdict : Verdict) (run : IsReplyOf q r op arg place.object at 1 verdict reply) where
         ran_seen : r.seen ≡ q.seen

@@ -1,9 +1,10 @@
 -- A snapshot of a case in a session over a shared board, and the turn that comes of it.
-use Rattle.std.proofs.Common.{◌≡◌, ◌≢◌, ◌<◌, ◌≤◌, ◌||◌, inl, inr, ℕ, Bool, true, false, List, [], ◌∷◌, ◌++◌, length, nat_lt, option_map, Option, Some, None, refl, sym, ap, ◌∙◌, subst, arith, append_assoc, if◌then◌else◌}
+use Rattle.std.proofs.Common.{◌≡◌, ◌≢◌, ◌<◌, ◌≤◌, ◌||◌, ◌⊎◌, inl, inr, ℕ, Bool, true, false, List, [], ◌∷◌, ◌++◌, length, nat_lt, option_map, Option, Some, None, refl, sym, ap, ◌∙◌, subst, arith, append_assoc, if◌then◌else◌}
 use Rattle.std.specs.List.{All}
 use Rattle.std.specs.Option.{IfSome}
 use Rattle.std.proofs.lemmas.List.{append-nil, map-append, length-map}
 use Rattle.std.proofs.lemmas.List.Elements.{All-append, All-cons, All-nil}
+use Rattle.verdict_words.specs.Words.{IsPlace}
 use Rattle.nal_rules.specs.Asking.{case_tree}
 use Rattle.nal_rules.specs.Verdicts.{CaseTree}
 use Rattle.nal_rules.specs.declared.cases.Case.{Case as RawCase}
@@ -36,9 +37,9 @@ use Rattle.policy_book.specs.Books.{met_at, session_of}
 use Rattle.policy_book.specs.Snaps.{IsSnapOf}
 use Rattle.session_core.specs.Standing.{Triple, joined, knows, most_known}
 use Rattle.session_core.specs.Told as told
-use Rattle.session_core.specs.Told.{Answers, AreAskedInVain, Calls, IsPlaceIn, IsSeen, Keeps, Misses, Turn, checked, state_at, stepped, verdict_reply}
+use Rattle.session_core.specs.Told.{Answers, AreAsked, AreAskedInVain, Calls, IsPlaceIn, IsSeen, Keeps, Misses, Turn, checked, state_at, stepped, verdict_reply}
 use Rattle.session_core.specs.declared.board_session.BoardSession.{BoardSession}
-use Rattle.session_core.specs.Inner.Boarding.{AreKnown, HasJoined, IsChecked, IsKnownRow, IsMissed, IsReady, IsTurn, head_of, own_in, standing, stepped_by, trees_of, who_of}
+use Rattle.session_core.specs.Inner.Boarding.{AreKnown, HasJoined, IsChecked, IsKnownRow, IsMissed, IsReady, IsSettled, IsTurn, head_of, own_in, standing, stepped_by, trees_of, who_of}
 use Rattle.session_core.specs.Inner.Boarding as boarding
 use Rattle.session_core.specs.Inner.Knowing.{KnownRow, KnownValue, is_row_of, joined_rows, knows_row, place_among, triples_of}
 use Rattle.session_core.proofs.BoardCalls.{keeps_quiet, runs_quiet}
@@ -165,6 +166,11 @@ known_has_place board n p op object at case place k ready who snap known none =
     never : {q : CasePlace} → None ≡ Some q → ⊥
     never same = cc same
 
+-- the place of a case that was taken is one
+pub placed : (Home : CasePlace → Type 0) (place : Option CasePlace) → IfSome place (λ (q : CasePlace). IsPlace q × Home q) → IfSome place IsPlace
+placed Home None home = home
+placed Home (Some q) home = home.0
+
 -- ---- The turn
 
 module _ (p : ℕ) (op object : List ℕ) (arg : ℕ) (s m : BoardSession) (who : who_of s ≡ Some p) (missed : IsMissed p op object s m) where
@@ -249,14 +255,30 @@ module _ (p : ℕ) (op object : List ℕ) (arg : ℕ) (s m : BoardSession) (who 
     pub unasked_turn : (asks : List Ask) → asks ≡ [] → IsTurn s n asks (Call op object arg) NoMemory
     unasked_turn asks none = given_up_turn asks (inl none)
 
+    -- the record of the call could not be sent
+    cut_turn : (asks : List Ask) → AreAsked (head_of s) (state_at (head_of s) (trees_of n) (length n.pass.seen)) p op object asks → IsTurn s n asks (Call op object arg) (Refused (length n.pass.seen) 20)
+    cut_turn asks asked =
+        turn_at (Refused (length n.pass.seen) 20) asks (told.call_unrecorded p op object arg who refl (told.snap_unrecorded (length m.pass.seen) (length n.pass.seen) missed.steps met_misses met_seen_now asked refl))
+
+    cut_object_turn : (at : ℕ) (asks : List Ask) → asks ≡ [] → at ≡ length (trees_of n) → number_of (replay (head_of n) (trees_of n)).objects object ≡ None → IsTurn s n asks (Call op object arg) (Refused at 20)
+    cut_object_turn at asks none at_is no_object =
+        subst (λ (x : ℕ). IsTurn s n asks (Call op object arg) (Refused x 20)) (sym (at_is ∙ trees_count n.pass.seen))
+        (cut_turn asks (told.asked_nobody (subst (λ (st : State). number_of st.objects object ≡ None) met_state no_object) none))
+
     -- no object has the name
-    pub no_object_turn : (at : ℕ) (asks : List Ask) → asks ≡ [] → at ≡ length (trees_of n) → number_of (replay (head_of n) (trees_of n)).objects object ≡ None → IsTurn s n asks (Call op object arg) (Refused at 8)
+    no_object_turn : (at : ℕ) (asks : List Ask) → asks ≡ [] → at ≡ length (trees_of n) → number_of (replay (head_of n) (trees_of n)).objects object ≡ None → IsTurn s n asks (Call op object arg) (Refused at 8)
     no_object_turn at asks none at_is no_object =
         subst (λ (xs : List Ask). IsTurn s n xs (Call op object arg) (Refused at 8)) (sym none)
         (subst (λ (x : ℕ). IsTurn s n [] (Call op object arg) (Refused x 8)) (sym (at_is ∙ trees_count n.pass.seen))
         (turn_at (Refused (length n.pass.seen) 8) [] (told.call p op object arg who refl
         (told.snapped (length m.pass.seen) (length n.pass.seen) missed.steps met_misses met_seen_now
         (told.no_object (subst (λ (st : State). number_of st.objects object ≡ None) met_state no_object) refl)))))
+
+    -- either way
+    pub none_turn : (at : ℕ) (asks : List Ask) → asks ≡ [] → at ≡ length (trees_of n) → number_of (replay (head_of n) (trees_of n)).objects object ≡ None → (reply : Reply)
+        → (reply ≡ Refused at 8) ⊎ (reply ≡ Refused at 20) → IsTurn s n asks (Call op object arg) reply
+    none_turn at asks none at_is no_object reply (inl is) = subst (λ (r : Reply). IsTurn s n asks (Call op object arg) r) (sym is) (no_object_turn at asks none at_is no_object)
+    none_turn at asks none at_is no_object reply (inr is) = subst (λ (r : Reply). IsTurn s n asks (Call op object arg) r) (sym is) (cut_object_turn at asks none at_is no_object)
 
     module _ (k : ℕ) (at : ℕ) (case : RawCase) (place : Option CasePlace) (snap : IsSnapOf (head_of n) (trees_of n) p op object at case place k) where
       abbrev st : State
@@ -356,6 +378,13 @@ module _ (p : ℕ) (op object : List ℕ) (arg : ℕ) (s m : BoardSession) (who 
           subst (λ (r : Reply). IsTurn s t asks (Call op object arg) r) (sym is)
           (subst (λ (x : BoardSession). IsTurn s x asks (Call op object arg) NoMemory) (sym same)
           (given_up_turn asks (inr (k, object_there, subst (λ (x : CaseTree). IsBrokenOff x asks MemoryError) case_there broken))))
+      checked_turn t asks reply (boarding.unrecorded settled same is) =
+          subst (λ (r : Reply). IsTurn s t asks (Call op object arg) r) (sym is)
+          (subst (λ (x : BoardSession). IsTurn s x asks (Call op object arg) (Refused (length n.pass.seen) 20)) (sym same) (cut_turn asks (asked_so settled)))
+        where
+          asked_so : IsSettled (case_tree case) asks → AreAsked (head_of s) st p op object asks
+          asked_so (boarding.settled_judged finding judged) = told.asked_all k finding object_there (subst (λ (x : CaseTree). IsJudged x asks finding) case_there judged)
+          asked_so (boarding.settled_down line broken) = told.asked_to_down k line object_there (subst (λ (x : CaseTree). IsBrokenOff x asks (DownError line)) case_there broken)
 
 -- ---- It can answer again
 
@@ -385,6 +414,7 @@ checked_ready board n t p op object arg at case place k asks reply ready who sna
 checked_ready board n t p op object arg at case place k asks reply ready who snap (boarding.down line broken joined_now is) =
     joined_ready board n t p op object at case place k [] ready who snap joined_now (λ x. refl)
 checked_ready board n t p op object arg at case place k asks reply ready who snap (boarding.no_memory broken same is) = subst (IsReady board) (sym same) ready
+checked_ready board n t p op object arg at case place k asks reply ready who snap (boarding.unrecorded settled same is) = subst (IsReady board) (sym same) ready
 
 -- ---- What was taken of a case, by the pass that was met
 

@@ -13,7 +13,7 @@ use Rattle.policy_history.specs.PolicyLines.{entry_line}
 use Rattle.policy_history.specs.PolicyTexts.{IsSpelledWhole}
 use Rattle.nal_term.specs.TreeKeys.{same_bytes, same_bytes-Decides}
 use Rattle.std.proofs.Common.{◌&&◌, get_or, unwrap_or}
-use Rattle.std.proofs.lemmas.List.Elements.{All-cons, All-nil}
+use Rattle.std.proofs.lemmas.List.Elements.{All-nil}
 use Rattle.std.proofs.lemmas.List.Quantifiers.{position-Some}
 use Rattle.std.proofs.lemmas.Option.{slice_get-get_or}
 use Rattle.policy_history.specs.Events.{EntryTree, EventTree, admitted, entry_tree, event_tree, name_of}
@@ -39,7 +39,8 @@ use Rattle.policy_book.specs.Writes.{IsLineFor}
 use Rattle.policy_book.specs.declared.writing.Written.{Written}
 use Rattle.policy_book.specs.declared.writing.Written.TheVariants as written
 use Rattle.session_core.specs.Answers.{greeted}
-use Rattle.session_core.specs.Served.{AreCounted, IsUnrecorded}
+use Rattle.session_core.specs.Records.{IsNotRecorded}
+use Rattle.session_core.specs.Served.{AreCounted}
 use Rattle.session_core.specs.Told as told
 use Rattle.session_core.specs.Told.{Answers, IsSeen, Meets, Turn, plain, state_at, stepped}
 use Rattle.session_core.specs.declared.board_session.Admitted.{Admitted}
@@ -73,6 +74,13 @@ given_up_any s request = still_turn s request NoMemory (told.given_up refl)
 pub early_any : (s : BoardSession) (request : Request) (at : ℕ) → who_of s ≡ None → ((name secret : List ℕ) → request ≢ Hello name secret) → at ≡ length s.pass.seen → IsTurn s s [] request (RefusedReply at 1)
 early_any s request at nobody other at_is =
     subst (λ (n : ℕ). IsTurn s s [] request (RefusedReply n 1)) (sym at_is) (still_turn s request (RefusedReply (length s.pass.seen) 1) (told.early nobody other refl))
+
+-- a call behind one whose record was cut off
+pub later_unrecorded : (s : BoardSession) (p : ℕ) (op object : List ℕ) (arg at : ℕ) (asks : List Ask) → who_of s ≡ Some p → at ≡ length s.pass.seen → asks ≡ [] → IsTurn s s asks (Call op object arg) (RefusedReply at 20)
+later_unrecorded s p op object arg at asks who at_is none =
+    subst (λ (xs : List Ask). IsTurn s s xs (Call op object arg) (RefusedReply at 20)) (sym none)
+    (subst (λ (n : ℕ). IsTurn s s [] (Call op object arg) (RefusedReply n 20)) (sym at_is)
+    (still_turn s (Call op object arg) (RefusedReply (length s.pass.seen) 20) (told.call_unrecorded p op object arg who refl (told.later_unrecorded refl))))
 
 not_hello : (op object : List ℕ) (arg : ℕ) (name secret : List ℕ) → Call op object arg ≢ Hello name secret
 not_hello op object arg name secret same = cc same
@@ -317,7 +325,7 @@ numbered_else : (number count more : ℕ) → number < 20 → number ≡ 20 → 
 numbered_else number count more small is = omega (arith, small, is)
 
 -- what was counted of a change by the book is what its reply tells
-refused_counted : (refusal : Refusal) (at count : ℕ) → IsUnrecorded (RefusedReply at (refusal_number refusal)) → count < count + unrecorded_by (written.Refused at refusal)
+refused_counted : (refusal : Refusal) (at count : ℕ) → IsNotRecorded (RefusedReply at (refusal_number refusal)) → count < count + unrecorded_by (written.Refused at refusal)
 refused_counted NoSuchPrincipal at count is = numbered_else 4 count 0 (omega arith) is
 refused_counted NotYourPrincipal at count is = numbered_else 5 count 0 (omega arith) is
 refused_counted NoSuchLabel at count is = numbered_else 6 count 0 (omega arith) is
@@ -336,21 +344,22 @@ refused_counted ObjectsFull at count is = numbered_else 18 count 0 (omega arith)
 refused_counted CasesFull at count is = numbered_else 19 count 0 (omega arith) is
 refused_counted NotRecorded at count is = omega arith
 
-counted_one : (count count_now : ℕ) (reply : Reply) → count ≤ count_now → (IsUnrecorded reply → count < count_now) → AreCounted count count_now (reply ∷ [])
-counted_one count count_now reply later counted = record {
-  later = later;
-  counted = All-cons (λ (r : Reply). IsUnrecorded r → count < count_now) reply [] counted (All-nil (λ (r : Reply). IsUnrecorded r → count < count_now));
-}
+counted_one : (count count_now : ℕ) (request : Request) (reply : Reply) → count ≤ count_now → (IsNotRecorded reply → count < count_now) → AreCounted count count_now (request ∷ []) (reply ∷ [])
+counted_one count count_now request reply later counted = record { later = later; counted = ((λ is. counted is.1), tt) }
 
-pub written_counted : (count count_now : ℕ) (answer : Written) → count_now ≡ count + unrecorded_by answer → AreCounted count count_now (reply_of answer ∷ [])
-written_counted count count_now (written.Done at number) is = counted_one count count_now (DoneReply at number) (omega (arith, is)) (λ none. absurd none)
-written_counted count count_now (written.Refused at refusal) is =
-    counted_one count count_now (RefusedReply at (refusal_number refusal)) (omega (arith, is)) (λ told. subst (λ (n : ℕ). count < n) (sym is) (refused_counted refusal at count told))
-written_counted count count_now written.NoMemory is = counted_one count count_now NoMemory (omega (arith, is)) (λ none. absurd none)
+pub written_counted : (count count_now : ℕ) (request : Request) (answer : Written) → count_now ≡ count + unrecorded_by answer → AreCounted count count_now (request ∷ []) (reply_of answer ∷ [])
+written_counted count count_now request (written.Done at number) is = counted_one count count_now request (DoneReply at number) (omega (arith, is)) (λ none. absurd none)
+written_counted count count_now request (written.Refused at refusal) is =
+    counted_one count count_now request (RefusedReply at (refusal_number refusal)) (omega (arith, is)) (λ told. subst (λ (n : ℕ). count < n) (sym is) (refused_counted refusal at count told))
+written_counted count count_now request written.NoMemory is = counted_one count count_now request NoMemory (omega (arith, is)) (λ none. absurd none)
 
 -- a reply that tells no change not to be recorded, where nothing was counted
-pub quiet_counted : (count count_now : ℕ) (reply : Reply) → count_now ≡ count → ¬ IsUnrecorded reply → AreCounted count count_now (reply ∷ [])
-quiet_counted count count_now reply same quiet = counted_one count count_now reply (omega (arith, same)) (λ told. absurd (quiet told))
+pub quiet_counted : (count count_now : ℕ) (request : Request) (reply : Reply) → count_now ≡ count → ¬ IsNotRecorded reply → AreCounted count count_now (request ∷ []) (reply ∷ [])
+quiet_counted count count_now request reply same quiet = counted_one count count_now request reply (omega (arith, same)) (λ told. absurd (quiet told))
+
+-- a call is no change
+pub call_counted : (count count_now : ℕ) (op object : List ℕ) (arg : ℕ) (reply : Reply) → count_now ≡ count → AreCounted count count_now (Call op object arg ∷ []) (reply ∷ [])
+call_counted count count_now op object arg reply same = record { later = omega (arith, same); counted = ((λ is. absurd (is.0 tt)), tt) }
 
 -- ---- Who is admitted
 

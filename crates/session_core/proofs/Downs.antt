@@ -1,5 +1,5 @@
 -- An authority was down as often as a reply tells it.
-use Rattle.std.proofs.Common.{◌≡◌, ◌+◌, ℕ, inl, inr, List, [], ◌∷◌, ◌++◌, cond, Option, Some, None, refl, sym, ap, ◌∙◌}
+use Rattle.std.proofs.Common.{◌≡◌, ◌≤◌, ◌+◌, ◌⊎◌, ℕ, inl, inr, List, [], ◌∷◌, ◌++◌, cond, Option, Some, None, arith, refl, sym, ap, subst, ◌∙◌}
 use Rattle.std.specs.Prelude.{Result, Ok, Err}
 use Rattle.std.proofs.lemmas.List.Sums.{sum_by-cons}
 use Rattle.nal_rules.specs.declared.verdicts.Verdict.{Verdict}
@@ -29,7 +29,9 @@ use Rattle.session_core.specs.Sessions.{behind}
 use Rattle.session_core.specs.Standing.{Standing}
 use Rattle.session_core.specs.Told as told
 use Rattle.session_core.specs.Told.{Answers, AreAskedInVain, Calls, Changes, GivesUp, IsTold, Judges, Leads, Turn, state_at, verdict_reply}
-use Rattle.session_core.specs.ToldLaws.{DownsAreTold, DownsAreToldAlone}
+use Rattle.session_core.specs.Records.{IsCall, IsNotRecorded, IsUnrecordedCall}
+use Rattle.session_core.specs.ToldLaws.{AreAllRecorded, DownsAreTold, DownsAreToldAlone}
+use Rattle.session_core.proofs.ToldLaws.{unrecorded_reply}
 
 -- how often a reply tells that an authority was down
 abbrev told_down : Reply → ℕ
@@ -89,31 +91,55 @@ changes_fit (told.refused m refusal met seen decided meets is) = fits_turn is re
 changes_fit (told.not_recorded m due met seen decided meets is) = fits_turn is refl
 changes_fit (told.done m due met seen decided got meets is) = fits_turn is refl
 
-answers_fit : {h : Head} {es : List EntryTree} {s : ℕ} {before : Standing} {request : Request} {turn : Turn} → Answers h es s before request turn → FitsTurn turn
+answers_fit : {h : Head} {es : List EntryTree} {s : ℕ} {before : Standing} {request : Request} {turn : Turn} → Answers h es s before request turn
+    → FitsTurn turn ⊎ (IsUnrecordedCall request turn.reply × (told_down turn.reply ≡ 0))
 answers_fit {h} {es} {s} {before} (told.hello name secret greeting asked is same) =
     let fits : FitsOutcome greeting = fits_outcome is (greeted_fits before.low s before.who (admitted h.principals name secret)) in
     let up : downs_in greeting.asks ≡ 0 = ap (λ (t : Outcome). downs_in t.asks) is ∙ none_asked before.low s before.who (admitted h.principals name secret) in
-    fits_turn same (sym up ∙ fits)
+    inl (fits_turn same (sym up ∙ fits))
   where
     none_asked : (at session : ℕ) (who found : Option ℕ) → downs_in (greeted at session who found).asks ≡ 0
     none_asked at session (Some p) found = refl
     none_asked at session None None = refl
     none_asked at session None (Some p) = refl
-answers_fit (told.early nobody other is) = fits_turn is refl
-answers_fit (told.change p e who event changes) = changes_fit changes
-answers_fit (told.call p op object arg who is calls) = calls_fit calls
-answers_fit (told.given_up is) = fits_turn is refl
-answers_fit (told.call_given_up p op object arg who is gives_up) = gives_up_fit gives_up
+answers_fit (told.early nobody other is) = inl (fits_turn is refl)
+answers_fit (told.change p e who event changes) = inl (changes_fit changes)
+answers_fit (told.call p op object arg who is calls) = inl (calls_fit calls)
+answers_fit (told.given_up is) = inl (fits_turn is refl)
+answers_fit (told.call_given_up p op object arg who is gives_up) = inl (gives_up_fit gives_up)
+answers_fit {turn = turn} (told.call_unrecorded p op object arg who is goes) =
+    let reply = unrecorded_reply goes in
+    inr ((subst IsCall (sym is) tt, subst IsNotRecorded (sym reply.1) refl), ap told_down reply.1)
 
 one_more : (asks first later : List Ask) (reply : Reply) (replies : List Reply) → asks ≡ first ++ later → Fits first reply → downs_in later ≡ downs_told replies → downs_in asks ≡ downs_told (reply ∷ replies)
 one_more asks first later reply replies is fits more =
     ap downs_in is ∙ downs_append first later ∙ (λ i. fits i + more i) ∙ sym (sum_by-cons told_down reply replies)
 
+-- what a turn tells of authorities that were down, and of it all
+both_fit : (asks first later : List Ask) (request : Request) (told reply : Reply) (requests : List Request) (replies : List Reply) → asks ≡ first ++ later → told ≡ reply
+    → (downs_in first ≡ told_down told) ⊎ (IsUnrecordedCall request told × (told_down told ≡ 0))
+    → (downs_told replies ≤ downs_in later) × (AreAllRecorded requests replies → downs_in later ≡ downs_told replies)
+    → (downs_told (reply ∷ replies) ≤ downs_in asks) × (AreAllRecorded (request ∷ requests) (reply ∷ replies) → downs_in asks ≡ downs_told (reply ∷ replies))
+both_fit asks first later request told reply requests replies is same fits more =
+    let sum : downs_in asks ≡ downs_in first + downs_in later = ap downs_in is ∙ downs_append first later in
+    let said : downs_told (reply ∷ replies) ≡ told_down reply + downs_told replies = sum_by-cons told_down reply replies in
+    let least : told_down reply ≤ downs_in first = at_least fits in
+    let rest = more.0 in
+    (omega (arith, sum, said, least, rest), λ recorded. one_more asks first later reply replies is (exact fits recorded.0) (more.1 recorded.1))
+  where
+    at_least : (downs_in first ≡ told_down told) ⊎ (IsUnrecordedCall request told × (told_down told ≡ 0)) → told_down reply ≤ downs_in first
+    at_least (inl equal) = let down = ap told_down same in omega (arith, equal, down)
+    at_least (inr none) = let down = ap told_down same in let zero_down = none.1 in omega (arith, down, zero_down)
+
+    exact : (downs_in first ≡ told_down told) ⊎ (IsUnrecordedCall request told × (told_down told ≡ 0)) → ¬ IsUnrecordedCall request reply → downs_in first ≡ told_down reply
+    exact (inl equal) recorded = equal ∙ ap told_down same
+    exact (inr none) recorded = absurd (recorded (subst (IsUnrecordedCall request) same none.0))
+
 leads_fit : (h : Head) (es : List EntryTree) (s : ℕ) (before : Standing) (requests : List Request) (replies : List Reply) (asks : List Ask) (steps : List Item) (added : List EntryTree) (last : Standing)
-    → Leads h es s before requests replies asks steps added last → downs_in asks ≡ downs_told replies
-leads_fit h es s before [] [] asks steps added last leads = ap downs_in leads.0
+    → Leads h es s before requests replies asks steps added last → (downs_told replies ≤ downs_in asks) × (AreAllRecorded requests replies → downs_in asks ≡ downs_told replies)
+leads_fit h es s before [] [] asks steps added last leads = (let none = ap downs_in leads.0 in omega (arith, none), λ recorded. ap downs_in leads.0)
 leads_fit h es s before (q ∷ qs) (r ∷ rs) asks steps added last leads =
-    one_more asks leads.0.asks leads.1 r rs leads.6 (answers_fit leads.4 ∙ ap told_down leads.5) (leads_fit h es s leads.0.after qs rs leads.1 leads.2 leads.3 last leads.9)
+    both_fit asks leads.0.asks leads.1 q leads.0.reply r qs rs leads.6 leads.5 (answers_fit leads.4) (leads_fit h es s leads.0.after qs rs leads.1 leads.2 leads.3 last leads.9)
 leads_fit h es s before [] (r ∷ rs) asks steps added last leads = absurd leads
 leads_fit h es s before (q ∷ qs) [] asks steps added last leads = absurd leads
 

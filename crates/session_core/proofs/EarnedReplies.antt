@@ -13,11 +13,12 @@ use Rattle.session_wire.specs.declared.replies.Reply.TheVariants.{Welcome, Allow
 use Rattle.verdict_words.specs.declared.views.Item.{Item}
 use Rattle.session_core.specs.Answers.{greeted}
 use Rattle.session_core.specs.Standing.{Standing, beginning}
-use Rattle.session_core.specs.Told.{Answers, Calls, Changes, GivesUp, IsTold, Judges, Leads, Turn, verdict_reply}
+use Rattle.session_core.specs.Told.{Answers, Calls, Changes, GivesUp, GoesUnrecorded, IsTold, Judges, Leads, Turn, verdict_reply}
 use Rattle.session_core.specs.Told as told
 use Rattle.session_core.specs.Earned.{IsCallOf, IsEarned, IsRefuted, IsWelcomed, TellsWhatIsTrue}
 use Rattle.session_core.proofs.EarnedCalls.{IsFound, earned_of, found_of, refuted_of}
 use Rattle.session_core.proofs.ToldRefusals.{IsVerdictOf, call_verdict, gives_up_silent, greeting_no_verdict, is_verdict_reply, misses_low, other_kind}
+use Rattle.session_core.proofs.ToldLaws.{unrecorded_reply}
 
 -- ---- What a request leaves of a session
 
@@ -40,6 +41,11 @@ gives_up_low : {h : Head} {es : List EntryTree} {before : Standing} {p : ℕ} {o
 gives_up_low (told.looked low steps misses is) = let least = misses_low misses in omega (arith, least, ap (λ (t : Turn). t.after.low) is)
 gives_up_low (told.met low n steps misses seen asked is) = let least = misses_low misses in omega (arith, least, seen.0, ap (λ (t : Turn). t.after.low) is)
 
+unrecorded_low : {h : Head} {es : List EntryTree} {before : Standing} {p : ℕ} {op object : List ℕ} {turn : Turn} → GoesUnrecorded h es before p op object turn → before.low ≤ turn.after.low
+unrecorded_low (told.hit_unrecorded n place slot of_object of_store held looks makes is) = omega (arith, looks.seen.0, ap (λ (t : Turn). t.after.low) is)
+unrecorded_low (told.snap_unrecorded low n steps misses seen asked is) = let least = misses_low misses in omega (arith, least, seen.0, ap (λ (t : Turn). t.after.low) is)
+unrecorded_low (told.later_unrecorded is) = omega (arith, ap (λ (t : Turn). t.after.low) is)
+
 pub answers_low : {h : Head} {es : List EntryTree} {s : ℕ} {before : Standing} {request : Request} {turn : Turn} → Answers h es s before request turn → before.low ≤ turn.after.low
 answers_low (told.hello name secret greeting is greeted_is turn_is) = omega (arith, ap (λ (t : Turn). t.after.low) turn_is)
 answers_low (told.early nobody other is) = omega (arith, ap (λ (t : Turn). t.after.low) is)
@@ -47,6 +53,7 @@ answers_low (told.change p e who event changes) = changes_low changes
 answers_low (told.call p op object arg who is calls) = calls_low calls
 answers_low (told.given_up is) = omega (arith, ap (λ (t : Turn). t.after.low) is)
 answers_low (told.call_given_up p op object arg who is gives_up) = gives_up_low gives_up
+answers_low (told.call_unrecorded p op object arg who is goes) = unrecorded_low goes
 
 -- ---- Who is admitted
 
@@ -89,6 +96,11 @@ module _ (h : Head) (es : List EntryTree) (s : ℕ) (before : Standing) (request
   gives_up_who (told.looked low steps misses is) = same_who before is refl who
   gives_up_who (told.met low n steps misses seen asked is) = same_who before is refl who
 
+  unrecorded_who : {q : ℕ} {op object : List ℕ} → GoesUnrecorded h es before q op object turn → CameIn
+  unrecorded_who (told.hit_unrecorded n place slot of_object of_store held looks makes is) = same_who before is refl who
+  unrecorded_who (told.snap_unrecorded low n steps misses seen asked is) = same_who before is refl who
+  unrecorded_who (told.later_unrecorded is) = same_who before is refl who
+
   came_in : Answers h es s before request turn → CameIn
   came_in (told.hello name secret greeting is greeted_is turn_is) =
       let found = admitted h.principals name secret in
@@ -109,6 +121,7 @@ module _ (h : Head) (es : List EntryTree) (s : ℕ) (before : Standing) (request
   came_in (told.call q op object arg who_is is calls) = calls_who calls
   came_in (told.given_up is) = same_who before is refl who
   came_in (told.call_given_up q op object arg who_is is gives_up) = gives_up_who gives_up
+  came_in (told.call_unrecorded q op object arg who_is is goes) = unrecorded_who goes
 
 -- ---- The turn that a verdict is told in
 
@@ -146,6 +159,7 @@ turn_of {h} {es} {s} {before} {request} {turn} tells (told.call p op object arg 
 }
 turn_of tells (told.given_up is) = no_verdict_told tells is refl
 turn_of tells (told.call_given_up p op object arg who is gives_up) = absurd (cc (tells, ap is_verdict_reply (gives_up_silent gives_up)))
+turn_of tells (told.call_unrecorded p op object arg who is goes) = absurd (cc (tells, ap is_verdict_reply (unrecorded_reply goes).1))
 
 -- ---- A whole session
 

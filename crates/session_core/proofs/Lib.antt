@@ -16,7 +16,9 @@ mod ToldRefusals
 mod WorkedAsks
 mod WorkedSeen
 mod WorkedGreetings
+mod Given
 mod Knowing
+mod Noting
 mod Boarding
 mod BoardHistories
 mod BoardCalls

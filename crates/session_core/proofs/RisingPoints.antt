@@ -12,7 +12,7 @@ use Rattle.session_wire.specs.declared.replies.Reply.TheVariants.{NoMemory}
 use Rattle.verdict_words.specs.declared.views.Item.{Item}
 use Rattle.session_core.specs.Answers.{greeted}
 use Rattle.session_core.specs.Standing.{Standing, beginning}
-use Rattle.session_core.specs.Told.{Answers, Calls, Changes, IsTold, Judges, Leads, Turn, verdict_reply}
+use Rattle.session_core.specs.Told.{Answers, Calls, Changes, GoesUnrecorded, IsTold, Judges, Leads, Turn, verdict_reply}
 use Rattle.session_core.specs.Told as told
 use Rattle.session_core.specs.Earned.{TellsInOrder, point_of}
 use Rattle.session_core.proofs.EarnedReplies.{answers_low}
@@ -55,6 +55,11 @@ module _ {turn : Turn} {a : ℕ} (e : point_of turn.reply ≡ Some a) where
   changes_between {before = before} (told.not_recorded m due met seen decided meets is) = between before is refl refl seen.0 e
   changes_between {before = before} (told.done m due met seen decided got meets is) = let least = seen.0 in between before is refl refl (omega (arith, least)) e
 
+  unrecorded_between : {h : Head} {es : List EntryTree} {before : Standing} {p : ℕ} {op object : List ℕ} → GoesUnrecorded h es before p op object turn → Between before turn a
+  unrecorded_between {before = before} (told.hit_unrecorded n place slot of_object of_store held looks makes is) = between before is refl refl looks.seen.0 e
+  unrecorded_between {before = before} (told.snap_unrecorded low n steps misses seen asked is) = let least = misses_low misses in between before is refl refl (omega (arith, least, seen.0)) e
+  unrecorded_between {before = before} (told.later_unrecorded is) = between before is refl refl (omega arith) e
+
   answers_between : {h : Head} {es : List EntryTree} {s : ℕ} {before : Standing} {request : Request} → Answers h es s before request turn → Between before turn a
   answers_between {h = h} {s = s} {before = before} (told.hello name secret greeting is greeted_is turn_is) =
       between before turn_is (ap (λ g. point_of g.reply) greeted_is ∙ greeting_point before.low s before.who (admitted h.principals name secret)) refl (omega arith) e
@@ -63,6 +68,7 @@ module _ {turn : Turn} {a : ℕ} (e : point_of turn.reply ≡ Some a) where
   answers_between (told.call p op object arg who is calls) = calls_between calls
   answers_between (told.given_up is) = silent turn (ap (λ (t : Turn). t.reply) is) e
   answers_between (told.call_given_up p op object arg who is gives_up) = silent turn (gives_up_silent gives_up) e
+  answers_between (told.call_unrecorded p op object arg who is goes) = unrecorded_between goes
 
 -- every point is at least what the session had seen as it came here
 from_low : (h : Head) (es : List EntryTree) (s : ℕ) (requests : List Request) (replies : List Reply) (before : Standing) (asks : List Ask) (steps : List Item) (added : List EntryTree) (last : Standing)

@@ -15,16 +15,17 @@ use Rattle.policy_history.specs.Values.{decision}
 use Rattle.authority_ask.specs.Panels.{Told as Ask}
 use Rattle.session_wire.specs.declared.requests.Request.{Request}
 use Rattle.session_wire.specs.declared.replies.Reply.{Reply}
-use Rattle.session_wire.specs.declared.replies.Reply.TheVariants.{Allowed, Done}
+use Rattle.session_wire.specs.declared.replies.Reply.TheVariants.{Allowed, Done, Refused}
 use Rattle.verdict_words.specs.declared.places.CasePlace.{CasePlace}
 use Rattle.verdict_words.specs.declared.views.Item.{Item}
 use Rattle.verdict_words.specs.declared.views.Item.TheVariants.{Loaded, Met, Filled, Ran}
 use Rattle.verdict_words.specs.Histories.{own}
 use Rattle.verdict_words.specs.Rule.{last_met, met_after}
+use Rattle.session_core.specs.Records.{AreNoted, Kept}
 use Rattle.session_core.specs.Standing.{Standing, beginning}
-use Rattle.session_core.specs.Told.{Answers, Calls, Changes, GivesUp, IsPlaceIn, IsSeen, IsTold, Judges, Keeps, Leads, Looks, Meets, Misses, Runs, Turn, AreAskedInVain, checked, state_at, stepped, verdict_reply}
+use Rattle.session_core.specs.Told.{Answers, AreAsked, Calls, Changes, GivesUp, GoesUnrecorded, IsPlaceIn, IsSeen, IsTold, Judges, Keeps, Leads, Looks, Meets, Misses, Runs, Turn, AreAskedInVain, checked, state_at, stepped, verdict_reply}
 use Rattle.session_core.specs.Told as told
-use Rattle.session_core.specs.ToldLaws.{OnlyAllowedRuns, OnlyDoneAdds, ToldStaysTold, is_ran}
+use Rattle.session_core.specs.ToldLaws.{NotedStaysNoted, OnlyAllowedRuns, OnlyDoneAdds, ToldStaysTold, is_ran}
 
 -- ---- Over a longer history
 
@@ -66,6 +67,14 @@ gives_up_on {h} {es} more {before} {p} {op} {object} {turn} (told.met low n step
     told.met low n steps (misses_on more misses) (seen_on es more low n seen)
     (subst (λ (st : State). AreAskedInVain h st p op object turn.asks) (state_same h es more n seen.1) asked) is
 
+unrecorded_on : {h : Head} {es : List EntryTree} (more : List EntryTree) {before : Standing} {p : ℕ} {op object : List ℕ} {turn : Turn}
+    → GoesUnrecorded h es before p op object turn → GoesUnrecorded h (es ++ more) before p op object turn
+unrecorded_on more (told.hit_unrecorded n place slot of_object of_store held looks makes is) = told.hit_unrecorded n place slot of_object of_store held (looks_on more looks) makes is
+unrecorded_on {h} {es} more {before} {p} {op} {object} {turn} (told.snap_unrecorded low n steps misses seen asked is) =
+    told.snap_unrecorded low n steps (misses_on more misses) (seen_on es more low n seen)
+    (subst (λ (st : State). AreAsked h st p op object turn.asks) (state_same h es more n seen.1) asked) is
+unrecorded_on more (told.later_unrecorded is) = told.later_unrecorded is
+
 got_on : (es more : List EntryTree) (m : ℕ) (e : EntryTree) → slice_get es m ≡ Some e → slice_get (es ++ more) m ≡ Some e
 got_on [] more m e got = absurd (no_item m e got)
   where
@@ -94,6 +103,7 @@ answers_on more (told.change p e who event changes) = told.change p e who event 
 answers_on more (told.call p op object arg who is calls) = told.call p op object arg who is (calls_on more calls)
 answers_on more (told.given_up is) = told.given_up is
 answers_on more (told.call_given_up p op object arg who is gives_up) = told.call_given_up p op object arg who is (gives_up_on more gives_up)
+answers_on more (told.call_unrecorded p op object arg who is goes) = told.call_unrecorded p op object arg who is (unrecorded_on more goes)
 
 pub leads_on : (h : Head) (es more : List EntryTree) (s : ℕ) (before : Standing) (requests : List Request) (replies : List Reply) (asks : List Ask) (steps : List Item)
     (added : List EntryTree) (last : Standing)
@@ -113,6 +123,25 @@ leads_on h es more s before (q ∷ qs) (r ∷ rs) asks steps added last leads = 
 )
 leads_on h es more s before [] (r ∷ rs) asks steps added last leads = absurd leads
 leads_on h es more s before (q ∷ qs) [] asks steps added last leads = absurd leads
+
+-- what was recorded of them
+pub noted_on : (h : Head) (es more : List EntryTree) (s : ℕ) (before : Standing) (requests : List Request) (replies : List Reply) (asks : List Ask) (steps : List Item)
+    (added : List EntryTree) (last : Standing) (leads : Leads h es s before requests replies asks steps added last) (kept kept_now : Kept)
+    → AreNoted h es s before requests replies asks steps added last leads kept kept_now
+    → AreNoted h (es ++ more) s before requests replies asks steps added last (leads_on h es more s before requests replies asks steps added last leads) kept kept_now
+unfolding leads_on
+noted_on h es more s before [] [] asks steps added last leads kept kept_now noted = noted
+noted_on h es more s before (q ∷ qs) (r ∷ rs) asks steps added last leads kept kept_now noted =
+    (noted.0, noted.1, noted_on h es more s leads.0.after qs rs leads.1 leads.2 leads.3 last leads.9 noted.0 kept_now noted.2)
+noted_on h es more s before [] (r ∷ rs) asks steps added last leads kept kept_now noted = absurd leads
+noted_on h es more s before (q ∷ qs) [] asks steps added last leads kept kept_now noted = absurd leads
+
+-- a call that goes unrecorded is refused with number 20
+pub unrecorded_reply : {h : Head} {es : List EntryTree} {before : Standing} {p : ℕ} {op object : List ℕ} {turn : Turn}
+    → GoesUnrecorded h es before p op object turn → (at : ℕ) × (turn.reply ≡ Refused at 20)
+unrecorded_reply (told.hit_unrecorded n place slot of_object of_store held looks makes is) = (n, ap (λ (t : Turn). t.reply) is)
+unrecorded_reply (told.snap_unrecorded low n steps misses seen asked is) = (n, ap (λ (t : Turn). t.reply) is)
+unrecorded_reply {before = before} (told.later_unrecorded is) = (before.low, ap (λ (t : Turn). t.reply) is)
 
 -- ---- No meeting is at more than there is
 
@@ -171,6 +200,13 @@ gives_up_within {es = es} (told.looked low steps misses is) = subst (λ (t : Tur
 gives_up_within {es = es} (told.met low n steps misses seen asked is) =
     subst (λ (t : Turn). Within (length es) t.steps) (sym is) (within_both (length es) steps (Met n ∷ []) (misses_within misses) (seen.1, tt))
 
+unrecorded_within : {h : Head} {es : List EntryTree} {before : Standing} {p : ℕ} {op object : List ℕ} {turn : Turn}
+    → GoesUnrecorded h es before p op object turn → Within (length es) turn.steps
+unrecorded_within {es = es} (told.hit_unrecorded n place slot of_object of_store held looks makes is) = subst (λ (t : Turn). Within (length es) t.steps) (sym is) tt
+unrecorded_within {es = es} (told.snap_unrecorded low n steps misses seen asked is) =
+    subst (λ (t : Turn). Within (length es) t.steps) (sym is) (within_both (length es) steps (Met n ∷ []) (misses_within misses) (seen.1, tt))
+unrecorded_within {es = es} (told.later_unrecorded is) = subst (λ (t : Turn). Within (length es) t.steps) (sym is) tt
+
 meets_within : (most m : ℕ) {met : List Item} → m ≤ most → Meets m met → Within most met
 meets_within most m below (inl once) = subst (Within most) (sym once) (below, tt)
 meets_within most m below (inr twice) = subst (Within most) (sym twice) (below, (below, tt))
@@ -192,6 +228,7 @@ answers_within (told.change p e who event changes) = changes_within changes
 answers_within (told.call p op object arg who is calls) = calls_within calls
 answers_within {es = es} (told.given_up is) = subst (λ (t : Turn). Within (length es) t.steps) (sym is) tt
 answers_within (told.call_given_up p op object arg who is gives_up) = gives_up_within gives_up
+answers_within (told.call_unrecorded p op object arg who is goes) = unrecorded_within goes
 
 leads_within : (h : Head) (es : List EntryTree) (s : ℕ) (before : Standing) (requests : List Request) (replies : List Reply) (asks : List Ask) (steps : List Item)
     (added : List EntryTree) (last : Standing) → Leads h es s before requests replies asks steps added last → Within (length es) steps
@@ -216,6 +253,12 @@ told_stays_told h es more s low requests replies asks trail last t =
       leads = leads_on h es more s (beginning t.first) requests replies asks t.steps t.added last t.leads;
       entries = subst (λ (xs : List EntryTree). own (λ (e : EntryTree). e.session) xs s ≡ t.added) (taken_same es more (last_met trail) met_far) t.entries;
     }
+
+pub what_was_noted_stays_noted : NotedStaysNoted
+unfolding told_stays_told leads_on
+what_was_noted_stays_noted h es more s low requests replies asks trail last kept kept_now t =
+    let told = t.0 in
+    (told_stays_told h es more s low requests replies asks trail last told, noted_on h es more s (beginning told.first) requests replies asks told.steps told.added last told.leads kept kept_now t.1)
 
 -- ---- Where there is no step on a register, and no entry
 
@@ -270,6 +313,12 @@ gives_up_idle : {h : Head} {es : List EntryTree} {before : Standing} {p : ℕ} {
 gives_up_idle (told.looked low steps misses is) = idle_of is (inl (misses_idle misses))
 gives_up_idle (told.met low n steps misses seen asked is) = idle_of is (inl (none_both steps (Met n ∷ []) (misses_idle misses) refl))
 
+unrecorded_idle : {h : Head} {es : List EntryTree} {before : Standing} {p : ℕ} {op object : List ℕ} {turn : Turn}
+    → GoesUnrecorded h es before p op object turn → Idle turn
+unrecorded_idle (told.hit_unrecorded n place slot of_object of_store held looks makes is) = idle_of is (inl refl)
+unrecorded_idle (told.snap_unrecorded low n steps misses seen asked is) = idle_of is (inl (none_both steps (Met n ∷ []) (misses_idle misses) refl))
+unrecorded_idle (told.later_unrecorded is) = idle_of is (inl refl)
+
 meets_idle : {m : ℕ} {met : List Item} → Meets m met → list_any is_ran met ≡ false
 meets_idle (inl once) = ap (list_any is_ran) once
 meets_idle (inr twice) = ap (list_any is_ran) twice
@@ -286,6 +335,7 @@ only_allowed_runs h es s before request turn (told.change p e who event changes)
 only_allowed_runs h es s before request turn (told.call p op object arg who is calls) = calls_idle calls
 only_allowed_runs h es s before request turn (told.given_up is) = idle_of is (inl refl)
 only_allowed_runs h es s before request turn (told.call_given_up p op object arg who is gives_up) = gives_up_idle gives_up
+only_allowed_runs h es s before request turn (told.call_unrecorded p op object arg who is goes) = unrecorded_idle goes
 
 -- the turn makes no entry, or its reply is Done
 abbrev Still : Turn → Type 0
@@ -310,6 +360,12 @@ gives_up_still : {h : Head} {es : List EntryTree} {before : Standing} {p : ℕ} 
 gives_up_still (told.looked low steps misses is) = still_of is (inl refl)
 gives_up_still (told.met low n steps misses seen asked is) = still_of is (inl refl)
 
+unrecorded_still : {h : Head} {es : List EntryTree} {before : Standing} {p : ℕ} {op object : List ℕ} {turn : Turn}
+    → GoesUnrecorded h es before p op object turn → Still turn
+unrecorded_still (told.hit_unrecorded n place slot of_object of_store held looks makes is) = still_of is (inl refl)
+unrecorded_still (told.snap_unrecorded low n steps misses seen asked is) = still_of is (inl refl)
+unrecorded_still (told.later_unrecorded is) = still_of is (inl refl)
+
 changes_still : {h : Head} {es : List EntryTree} {s : ℕ} {before : Standing} {p : ℕ} {e : EventTree} {turn : Turn} → Changes h es s before p e turn → Still turn
 changes_still (told.refused m refusal met seen decided meets is) = still_of is (inl refl)
 changes_still (told.not_recorded m due met seen decided meets is) = still_of is (inl refl)
@@ -322,3 +378,4 @@ only_done_adds h es s before request turn (told.change p e who event changes) = 
 only_done_adds h es s before request turn (told.call p op object arg who is calls) = calls_still calls
 only_done_adds h es s before request turn (told.given_up is) = still_of is (inl refl)
 only_done_adds h es s before request turn (told.call_given_up p op object arg who is gives_up) = gives_up_still gives_up
+only_done_adds h es s before request turn (told.call_unrecorded p op object arg who is goes) = unrecorded_still goes

@@ -22,8 +22,9 @@ use Rattle.verdict_words.specs.declared.places.CasePlace.{CasePlace}
 use Rattle.verdict_words.specs.declared.views.Item.{Item}
 use Rattle.session_core.specs.Answers.{greeted}
 use Rattle.session_core.specs.Standing.{Standing, Triple, knows}
-use Rattle.session_core.specs.Told.{Answers, Calls, Changes, GivesUp, IsPlaceIn, IsSeen, Judges, Leads, Looks, Misses, Turn, state_at, verdict_reply}
+use Rattle.session_core.specs.Told.{Answers, Calls, Changes, GivesUp, GoesUnrecorded, IsPlaceIn, IsSeen, Judges, Leads, Looks, Misses, Turn, state_at, verdict_reply}
 use Rattle.session_core.specs.Told as told
+use Rattle.session_core.proofs.ToldLaws.{unrecorded_reply}
 use Rattle.session_core.proofs.WorkedParts.{label_allowed, label_deleted, label_missing, label_shown, one_line}
 use Rattle.session_core.proofs.OneLineVerdicts.{line}
 use Rattle.session_core.proofs.ToldRows.{deleted_at, label_at}
@@ -98,6 +99,7 @@ module _ {turn : Turn} {at number : ℕ} (replied : turn.reply ≡ Done at numbe
   done_leaves (told.call p op object arg who is calls) = absurd (call_done calls)
   done_leaves (told.given_up is) = absurd (other_kind is_done_reply is replied refl refl)
   done_leaves (told.call_given_up p op object arg who is gives_up) = absurd (gives_up_done gives_up)
+  done_leaves (told.call_unrecorded p op object arg who is goes) = absurd (true≢false (ap is_done_reply (sym replied ∙ (unrecorded_reply goes).1)))
 
 -- ---- Whoever is admitted stays so
 
@@ -118,6 +120,11 @@ module _ {before : Standing} {turn : Turn} {p : ℕ} (who : before.who ≡ Some 
   gives_up_stays (told.looked low steps misses is) = who_of is refl who
   gives_up_stays (told.met low n steps misses seen asked is) = who_of is refl who
 
+  unrecorded_stays : {h : Head} {es : List EntryTree} {q : ℕ} {op object : List ℕ} → GoesUnrecorded h es before q op object turn → turn.after.who ≡ Some p
+  unrecorded_stays (told.hit_unrecorded n place slot of_object of_store held looks makes is) = who_of is refl who
+  unrecorded_stays (told.snap_unrecorded low n steps misses seen asked is) = who_of is refl who
+  unrecorded_stays (told.later_unrecorded is) = who_of is refl who
+
   change_stays : {h : Head} {es : List EntryTree} {s q : ℕ} {e : EventTree} → Changes h es s before q e turn → turn.after.who ≡ Some p
   change_stays (told.refused m refusal met seen decided meets is) = who_of is refl who
   change_stays (told.not_recorded m due met seen decided meets is) = who_of is refl who
@@ -132,6 +139,7 @@ module _ {before : Standing} {turn : Turn} {p : ℕ} (who : before.who ≡ Some 
   stays (told.call q op object arg who_is is calls) = call_stays calls
   stays (told.given_up is) = who_of is refl who
   stays (told.call_given_up q op object arg who_is is gives_up) = gives_up_stays gives_up
+  stays (told.call_unrecorded q op object arg who_is is goes) = unrecorded_stays goes
 
 -- who says hello with the name and the secret of a principal, and is welcomed, is that one from then on
 pub welcomed : {h : Head} {es : List EntryTree} {s p at session : ℕ} {before : Standing} {name secret : List ℕ} {turn : Turn} → before.who ≡ None → admitted h.principals name secret ≡ Some p
@@ -147,6 +155,7 @@ welcomed nobody found (told.change q e who event changes) replied = absurd event
 welcomed nobody found (told.call q op object arg who is calls) replied = absurd (cc is)
 welcomed nobody found (told.given_up is) replied = let same = sym replied ∙ ap (λ (t : Turn). t.reply) is in absurd (cc same)
 welcomed nobody found (told.call_given_up q op object arg who is gives_up) replied = absurd (cc is)
+welcomed nobody found (told.call_unrecorded q op object arg who is goes) replied = absurd (cc is)
 
 -- ---- A call that is allowed or denied
 
@@ -233,6 +242,8 @@ verdict_of_call {h} {es} {s} {before} {turn} {p} op object arg who told_so (told
 verdict_of_call op object arg who told_so (told.given_up is) = absurd (other_kind is_verdict_reply is refl told_so refl)
 verdict_of_call op object arg who told_so (told.call_given_up q op2 object2 arg2 who_is is gives_up) =
     absurd (true≢false (sym told_so ∙ ap is_verdict_reply (gives_up_silent gives_up)))
+verdict_of_call op object arg who told_so (told.call_unrecorded q op2 object2 arg2 who_is is goes) =
+    absurd (true≢false (sym told_so ∙ ap is_verdict_reply (unrecorded_reply goes).1))
 
 -- ---- What is never told
 

@@ -3,6 +3,7 @@ pub mod Earned
 pub mod Ends
 pub mod Inner
 pub mod Reaching
+pub mod Records
 pub mod Sessions
 pub mod Standing
 pub mod Told

@@ -143,6 +143,22 @@ pub data GivesUp (h : Head) (es : List EntryTree) (before : Standing) (p : ℕ) 
   met : (low n : ℕ) (steps : List Item) → Misses h es before p op object low steps → IsSeen es low n → AreAskedInVain h (state_at h es n) p op object turn.asks
       → turn ≡ stepped (record before { low = n }) NoMemory turn.asks (steps ++ Met n ∷ []) → GivesUp h es before p op object turn
 
+-- what was asked for a call that was judged in this state: nothing where no object has the name, and else all that its case asks for, or
+-- up to a line that was down
+pub data AreAsked (h : Head) (st : State) (p : ℕ) (op object : List ℕ) (asks : List Ask) : Type 0 where
+  asked_nobody : number_of st.objects object ≡ None → asks ≡ [] → AreAsked h st p op object asks
+  asked_all : (k : ℕ) (finding : Finding) → number_of st.objects object ≡ Some k → IsJudged (case_at h st p op k) asks finding → AreAsked h st p op object asks
+  asked_to_down : (k line : ℕ) → number_of st.objects object ≡ Some k → IsBrokenOff (case_at h st p op k) asks (DownError line) → AreAsked h st p op object asks
+
+-- A call whose record could not be sent, behind a look that finds its kept verdict or behind the snapshot; or one behind such a call, for
+-- which nothing is done. It is refused with number 20. No verdict is kept, no register is stepped on, and what is known stays.
+pub data GoesUnrecorded (h : Head) (es : List EntryTree) (before : Standing) (p : ℕ) (op object : List ℕ) (turn : Turn) : Type 0 where
+  hit_unrecorded : (n : ℕ) (place : CasePlace) (slot of_object of_store : ℕ) (held : Held) → Looks h es before p op object n place → MakesHit place.case slot of_object of_store held
+      → turn ≡ stepped (record before { low = n }) (Refused n 20) [] (Loaded place slot n of_object of_store ∷ []) → GoesUnrecorded h es before p op object turn
+  snap_unrecorded : (low n : ℕ) (steps : List Item) → Misses h es before p op object low steps → IsSeen es low n → AreAsked h (state_at h es n) p op object turn.asks
+      → turn ≡ stepped (record before { low = n }) (Refused n 20) turn.asks (steps ++ Met n ∷ []) → GoesUnrecorded h es before p op object turn
+  later_unrecorded : turn ≡ plain before (Refused before.low 20) → GoesUnrecorded h es before p op object turn
+
 -- the pass was met at this length, once or twice in a row: the line of a change is written between two meetings
 abbrev pub Meets : ℕ → List Item → Type 0
 Meets m steps = (steps ≡ Met m ∷ []) ⊎ (steps ≡ Met m ∷ Met m ∷ [])
@@ -160,7 +176,8 @@ pub data Changes (h : Head) (es : List EntryTree) (s : ℕ) (before : Standing) 
 
 -- `Answers h es s before request turn`: session s, which is so far over this history, comes to this turn by the request. A hello is
 -- welcomed exactly where its name and its secret are a principal's and nobody is admitted yet; else it is refused, with number 3 or 2.
--- Before one every other request is refused with number 1. Any request may be given up for want of memory.
+-- Before one every other request is refused with number 1. Any request may be given up for want of memory. A call may be refused since its
+-- record could not be sent: when that is, `Records` says.
 pub data Answers (h : Head) (es : List EntryTree) (s : ℕ) (before : Standing) (request : Request) (turn : Turn) : Type 0 where
   hello : (name secret : List ℕ) (greeting : Outcome) → request ≡ Hello name secret → greeting ≡ greeted before.low s before.who (admitted h.principals name secret)
       → turn ≡ plain (record before { who = greeting.who }) greeting.reply → Answers h es s before request turn
@@ -169,6 +186,8 @@ pub data Answers (h : Head) (es : List EntryTree) (s : ℕ) (before : Standing) 
   call : (p : ℕ) (op object : List ℕ) (arg : ℕ) → before.who ≡ Some p → request ≡ Call op object arg → Calls h es before p op object arg turn → Answers h es s before request turn
   given_up : turn ≡ plain before NoMemory → Answers h es s before request turn
   call_given_up : (p : ℕ) (op object : List ℕ) (arg : ℕ) → before.who ≡ Some p → request ≡ Call op object arg → GivesUp h es before p op object turn
+      → Answers h es s before request turn
+  call_unrecorded : (p : ℕ) (op object : List ℕ) (arg : ℕ) → before.who ≡ Some p → request ≡ Call op object arg → GoesUnrecorded h es before p op object turn
       → Answers h es s before request turn
 
 -- The requests, in order, got these replies; authorities were asked so for them, the pass made these steps, and these entries were made,

@@ -224,8 +224,8 @@ fn judged<P: Panel, R: Net<Listener = TcpListener, Stream = TcpStream> + Clock>(
     }
 }
 
-/// The reply that a finding of the guard is.
-fn found_reply(at: u64, finding: &Finding) -> Reply
+/// The reply that a finding of the guard is, without the value of a step.
+pub(crate) fn found_reply(at: u64, finding: &Finding) -> Reply
     ensures { result ≡ found_reply at finding.now }
 {
     match finding {

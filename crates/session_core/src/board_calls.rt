@@ -1,5 +1,5 @@
 //! A call in a session over the shared board.
-ghost use Rattle.std.specs.Prelude.{◌≡◌, ◌≢◌, ◌≤◌, ◌<◌, ℕ, List, [], filter, length, true, false, Some, None, IfSome};
+ghost use Rattle.std.specs.Prelude.{◌≡◌, ◌≢◌, ◌≤◌, ◌<◌, ◌⊎◌, ℕ, List, [], ◌∷◌, filter, length, true, false, Some, None, IfSome};
 ghost use Rattle.nal_rules.specs.Asking.{case_tree, lines_of};
 ghost use Rattle.nal_rules.specs.Faults.{is_ask};
 ghost use Rattle.nal_rules.specs.Verdicts.{CaseTree};
@@ -7,7 +7,8 @@ ghost use Rattle.nal_rules.specs.declared.verdicts.Verdict.{Verdict};
 ghost use Rattle.nal_rules.specs.declared.verdicts.Verdict.TheVariants.{Allowed as AllowedVerdict};
 ghost use Rattle.policy_history.specs.Judged.{IsLasting};
 ghost use Rattle.policy_history.specs.Values.{entry_trees};
-ghost use Rattle.guard_core.specs.Judging.{HasCount, IsJudged, verdict_of};
+ghost use Rattle.guard_core.specs.declared.findings.GuardError.TheVariants.{Down as DownError};
+ghost use Rattle.guard_core.specs.Judging.{HasCount, IsBrokenOff, IsJudged, verdict_of};
 ghost use Rattle.verdict_words.specs.declared.places.CasePlace.{CasePlace};
 ghost use Rattle.verdict_words.specs.declared.places.Held.{Held};
 ghost use Rattle.verdict_words.specs.Words.{IsPlace};
@@ -16,18 +17,27 @@ ghost use Rattle.authority_ask.specs.PanelCalls.{HasOnlyAsked, asked_since};
 ghost use Rattle.authority_ask.specs.Panels.{Told};
 ghost use Rattle.session_wire.specs.declared.requests.Request.TheVariants.{Call};
 ghost use Rattle.policy_book.specs.Snaps.{IsSnapOf};
-ghost use Rattle.session_core.specs.Served.{IsUnrecorded};
+ghost use Rattle.policy_history.specs.declared.heads.Head.{Head};
+ghost use Rattle.session_wire.specs.declared.replies.Reply.{Reply};
+ghost use Rattle.audit_check.specs.declared.records.Recorded.{Recorded};
+ghost use Rattle.audit_form.specs.ReplyRecords.{Records};
+ghost use Rattle.session_core.specs.Records.{IsNoted, given_in};
+ghost use Rattle.session_core.specs.Served.{AreCounted};
+ghost use Rattle.session_core.specs.Told.{verdict_reply};
 ghost use Rattle.session_core.specs.declared.board_session.BoardSession.{BoardSession};
-ghost use Rattle.session_core.specs.Inner.Boarding.{HasKept, HasRun, IsChecked, IsLooked, IsMissed, IsReady, IsReplyOf, IsTurn, head_of, trees_of, who_of};
+ghost use Rattle.session_core.specs.Inner.Boarding.{HasKept, HasRun, IsAdmitted, IsChecked, IsLooked, IsMissed, IsReady, IsReplyOf, IsTurn, head_of, trees_of, who_of};
 ghost use Rattle.session_core.specs.Inner.Knowing.{knows_row};
 
-use crate::board_session::{BoardSession, NOT_OPEN};
+use crate::answers::found_reply;
+use crate::board_session::{Admitted, Beside, BoardSession, NOT_OPEN};
 use crate::known::Room;
+use crate::records::RecordKeeper;
+use audit_check::{Recorded, answers_of};
 use authority_ask::Panel;
 use guard_core::{Finding, GuardError, judge};
-use nal_rules::{Case, Verdict, cause_numbers};
+use nal_rules::{Case, Verdict};
 use nal_term::Name;
-use nx_io::{Gate, Place};
+use nx_io::{Gate, Place, Sink};
 use policy_book::{BookAccess, NalMatter, Snapped, held_of};
 use proof_lines::{Proof, Rule};
 use session_wire::Reply;
@@ -38,6 +48,8 @@ use verdict_words::{Board, CasePlace, Held, Look, Pass};
 
 /// The number of the refusal of a call of an object that is not there. `docs/FORMATS.md`, "Events and refusals", lists them.
 const NO_SUCH_OBJECT: u64 = 8;
+/// That of a call whose record could not be sent.
+const NOT_RECORDED: u64 = 20;
 
 /// A case as a snapshot gave it: its point in the history, its place, if it has a number, and its object's number.
 #[derive(Drop)]
@@ -49,63 +61,76 @@ pub struct Taken {
 }
 
 impl BoardSession {
-    /// Answers a call.
+    /// Answers a call. Its record is sent before its verdict is kept, before its step and before its reply: where it can't be sent, the
+    /// call is refused, and so is every later one.
     pub fn call<
         B: BookAccess,
         G: Gate,
         P: Panel,
+        C: Sink,
         R: Net<Listener = TcpListener, Stream = TcpStream> + Clock,
     >(
         self,
         rt: &R,
         alloc: Global,
-        board: &Board<NalMatter>,
+        beside: &Beside<G>,
         book: &mut B,
-        gate: &G,
         op: &Name,
         object: &Name,
         arg: u64,
         panel: &mut P,
+        records: &mut RecordKeeper<C>,
     ) -> (BoardSession, Reply)
-        requires named { B.board book.old ≡ board.now }
-        requires ready { IsReady board.now self }
-        ensures ready { IsReady board.now result.0 }
+        requires named { B.board book.old ≡ beside.now.board.now }
+        requires ready { IsReady beside.now.board.now self }
+        ensures ready { IsReady beside.now.board.now result.0 }
         ensures turn { IsTurn self result.0 (asked_since (P.history panel.old) (P.history panel.new))
             (Call op.now object.now arg) result.1 }
         ensures asked { HasOnlyAsked (P.history panel.old) (P.history panel.new) }
-        ensures recorded { ¬ IsUnrecorded result.1 }
-        ensures book { (B.board book.new ≡ B.board book.old) × (B.unrecorded book.new ≡ B.unrecorded book.old) }
+        ensures noted { IsNoted (head_of self) (who_of self) (Call op.now object.now arg) result.1
+            (asked_since (P.history panel.old) (P.history panel.new)) records.old records.new }
+        ensures book { B.board book.new ≡ B.board book.old }
+        ensures counted { AreCounted (B.unrecorded book.old) (B.unrecorded book.new)
+            (Call op.now object.now arg ∷ []) (result.1 ∷ []) }
     {
         let Some(principal) = self.principal() else {
             let at = self.pass.at();
             let number = NOT_OPEN;
             return (self, Reply::Refused { at, number });
         };
-        let (session, found) = self.look(rt, board, gate, principal, op, object, arg);
+        if records.is_broken() {
+            let at = self.pass.at();
+            let number = NOT_RECORDED;
+            return (self, Reply::Refused { at, number });
+        }
+        let (session, found) = self.look(rt, beside, principal, op, object, arg, records);
         match found {
             Some(reply) => (session, reply),
             None => session.snap(
-                rt, alloc, board, book, gate, principal, op, object, arg, panel,
+                rt, alloc, beside, book, principal, op, object, arg, panel, records,
             ),
         }
     }
 
     /// Looks for a kept verdict of a case that is known. None where the case is to be judged.
-    fn look<G: Gate, R: Net<Listener = TcpListener, Stream = TcpStream> + Clock>(
+    fn look<G: Gate, C: Sink, R: Net<Listener = TcpListener, Stream = TcpStream> + Clock>(
         self,
         rt: &R,
-        board: &Board<NalMatter>,
-        gate: &G,
+        beside: &Beside<G>,
         principal: u32,
         op: &Name,
         object: &Name,
         arg: u64,
+        records: &mut RecordKeeper<C>,
     ) -> (BoardSession, Option<Reply>)
-        requires ready { IsReady board.now self }
+        requires ready { IsReady beside.now.board.now self }
         requires who { who_of self ≡ Some principal }
-        ensures ready { IsReady board.now result.0 }
+        requires whole { records.old.broken ≡ false }
+        ensures ready { IsReady beside.now.board.now result.0 }
         ensures looked { IsLooked principal op.now object.now arg self result.0 result.1 }
-        ensures recorded { IfSome result.1 (λ reply. ¬ IsUnrecorded reply) }
+        ensures noted { IfSome result.1 (λ reply. IsNoted (head_of self) (Some principal)
+            (Call op.now object.now arg) reply [] records.old records.new) }
+        ensures unnoted { result.1 ≡ None → records.new ≡ records.old }
     {
         let Some(place) = self.known.find(op, object) else {
             return (self, None);
@@ -116,9 +141,19 @@ impl BoardSession {
             known,
         } = self;
         let mut pass = pass;
-        match board.look(&mut pass, &place) {
+        match beside.board.look(&mut pass, &place) {
             Look::Hit { at, held } => {
-                let reply = hit(board, &mut pass, op, &place, arg, at, &held);
+                let told = kept_reply(at, &held);
+                if !note(&admitted, op, object, &[], &told, records) {
+                    let session = BoardSession {
+                        pass,
+                        admitted,
+                        known,
+                    };
+                    let number = NOT_RECORDED;
+                    return (session, Some(Reply::Refused { at, number }));
+                }
+                let reply = hit(beside.board, &mut pass, op, &place, arg, at, &held);
                 let session = BoardSession {
                     pass,
                     admitted,
@@ -128,7 +163,7 @@ impl BoardSession {
             }
             Look::Miss => {
                 let session = pass.session();
-                gate.at(rt, Place::Missed { session, principal });
+                beside.gate.at(rt, Place::Missed { session, principal });
                 let session = BoardSession {
                     pass,
                     admitted,
@@ -144,27 +179,32 @@ impl BoardSession {
         B: BookAccess,
         G: Gate,
         P: Panel,
+        C: Sink,
         R: Net<Listener = TcpListener, Stream = TcpStream> + Clock,
     >(
         self,
         rt: &R,
         alloc: Global,
-        board: &Board<NalMatter>,
+        beside: &Beside<G>,
         book: &mut B,
-        gate: &G,
         principal: u32,
         op: &Name,
         object: &Name,
         arg: u64,
         panel: &mut P,
+        records: &mut RecordKeeper<C>,
     ) -> (BoardSession, Reply)
-        requires named { B.board book.old ≡ board.now }
-        requires ready { IsReady board.now self }
+        requires named { B.board book.old ≡ beside.now.board.now }
+        requires ready { IsReady beside.now.board.now self }
         requires who { who_of self ≡ Some principal }
-        ensures ready { IsReady board.now result.0 }
-        ensures turn { (s : BoardSession) → who_of s ≡ Some principal → IsMissed principal op.now object.now s self → IsTurn s result.0 (asked_since (P.history panel.old) (P.history panel.new)) (Call op.now object.now arg) result.1 }
+        requires whole { records.old.broken ≡ false }
+        ensures ready { IsReady beside.now.board.now result.0 }
+        ensures turn { (s : BoardSession) → who_of s ≡ Some principal → IsMissed principal op.now object.now s self
+            → IsTurn s result.0 (asked_since (P.history panel.old) (P.history panel.new))
+            (Call op.now object.now arg) result.1 }
         ensures asked { HasOnlyAsked (P.history panel.old) (P.history panel.new) }
-        ensures recorded { ¬ IsUnrecorded result.1 }
+        ensures noted { IsNoted (head_of self) (Some principal) (Call op.now object.now arg) result.1
+            (asked_since (P.history panel.old) (P.history panel.new)) records.old records.new }
         ensures book { (B.board book.new ≡ B.board book.old) × (B.unrecorded book.new ≡ B.unrecorded book.old) }
     {
         let BoardSession {
@@ -201,68 +241,85 @@ impl BoardSession {
                     object,
                 };
                 session.judge(
-                    rt, alloc, board, gate, principal, op, &taken, room, arg, panel,
+                    rt, alloc, beside, principal, op, &taken, room, arg, panel, records,
                 )
             }
-            Snapped::NoObject { at } => {
-                let number = NO_SUCH_OBJECT;
-                (session, Reply::Refused { at, number })
-            }
+            Snapped::NoObject { at } => session.find_none(op, object, at, records),
             Snapped::NoMemory => (session, Reply::NoMemory),
         }
     }
 
+    /// Answers a call of an object that is not there.
+    fn find_none<C: Sink>(
+        self,
+        op: &Name,
+        object: &Name,
+        at: u64,
+        records: &mut RecordKeeper<C>,
+    ) -> (BoardSession, Reply)
+        requires who { (p : ℕ) × IsAdmitted (head_of self) p self.admitted }
+        requires whole { records.old.broken ≡ false }
+        ensures same { result.0 ≡ self }
+        ensures reply { (result.1 ≡ Reply.Refused at 8) ⊎ (result.1 ≡ Reply.Refused at 20) }
+        ensures noted { (p arg : ℕ) → IsAdmitted (head_of self) p self.admitted → IsNoted (head_of self) (Some p)
+            (Call op.now object.now arg) result.1 [] records.old records.new }
+    {
+        let number = NO_SUCH_OBJECT;
+        let told = Reply::Refused { at, number };
+        if note(&self.admitted, op, object, &[], &told, records) {
+            return (self, told);
+        }
+        let number = NOT_RECORDED;
+        (self, Reply::Refused { at, number })
+    }
+
     /// Judges the case of a snapshot.
-    fn judge<G: Gate, P: Panel, R: Net<Listener = TcpListener, Stream = TcpStream> + Clock>(
+    fn judge<
+        G: Gate,
+        P: Panel,
+        C: Sink,
+        R: Net<Listener = TcpListener, Stream = TcpStream> + Clock,
+    >(
         self,
         rt: &R,
         alloc: Global,
-        board: &Board<NalMatter>,
-        gate: &G,
+        beside: &Beside<G>,
         principal: u32,
         op: &Name,
         taken: &Taken,
         room: Room,
         arg: u64,
         panel: &mut P,
+        records: &mut RecordKeeper<C>,
     ) -> (BoardSession, Reply)
-        requires board { self.pass.board ≡ board.now }
-        requires snap { IsSnapOf (head_of self) (trees_of self) principal op.now room.object taken.now.at taken.now.case taken.now.place taken.now.object }
+        requires board { self.pass.board ≡ beside.now.board.now }
+        requires who { IsAdmitted (head_of self) principal self.admitted }
+        requires snap { IsSnapOf (head_of self) (trees_of self) principal op.now room.object taken.now.at taken.now.case
+            taken.now.place taken.now.object }
         requires op { room.op ≡ op.now }
         requires spare { 1 ≤ self.known.spare }
         requires known { knows_row self.known.rows op.now room.object ≡ true → taken.now.place ≢ None }
-        ensures checked { IsChecked principal op.now room.object arg taken.now.object taken.now.place (case_tree taken.now.case) self result.0 (asked_since (P.history panel.old) (P.history panel.new)) result.1 }
+        requires whole { records.old.broken ≡ false }
+        ensures checked { IsChecked principal op.now room.object arg taken.now.object taken.now.place
+            (case_tree taken.now.case) self result.0 (asked_since (P.history panel.old) (P.history panel.new)) result.1 }
         ensures asked { HasOnlyAsked (P.history panel.old) (P.history panel.new) }
-        ensures recorded { ¬ IsUnrecorded result.1 }
+        ensures noted { IsNoted (head_of self) (Some principal) (Call op.now room.object arg) result.1
+            (asked_since (P.history panel.old) (P.history panel.new)) records.old records.new }
     {
         if asks(&taken.case) {
             let session = self.pass.session();
-            gate.at(rt, Place::Asking { session, principal });
+            beside.gate.at(rt, Place::Asking { session, principal });
         }
         match judge(rt, alloc, &taken.case, panel) {
-            Ok(finding) => self.found(board, op, taken, room, arg, &finding),
-            Err(GuardError::Down { line }) => {
-                let BoardSession {
-                    pass,
-                    admitted,
-                    known,
-                } = self;
-                let mut known = known;
-                let _is_known = known.join(room, taken.place);
-                let session = BoardSession {
-                    pass,
-                    admitted,
-                    known,
-                };
-                (session, Reply::Down { at: taken.at, line })
-            }
+            Ok(finding) => self.found(beside.board, op, taken, room, arg, &finding, records),
+            Err(GuardError::Down { line }) => self.down(op, taken, room, line, records),
             Err(GuardError::Memory) => (self, Reply::NoMemory),
         }
     }
 
-    /// Answers a call by what the guard found: the case is known from then on, its verdict is kept where it lasts, and an
-    /// allowed call steps on its register.
-    fn found(
+    /// Answers a call by what the guard found: once its record was sent, the case is known from then on, its verdict is kept where it
+    /// lasts, and an allowed call steps on its register.
+    fn found<C: Sink>(
         self,
         board: &Board<NalMatter>,
         op: &Name,
@@ -270,17 +327,38 @@ impl BoardSession {
         room: Room,
         arg: u64,
         finding: &Finding,
+        records: &mut RecordKeeper<C>,
     ) -> (BoardSession, Reply)
         requires board { self.pass.board ≡ board.now }
-        requires snap { (p : ℕ) × IsSnapOf (head_of self) (trees_of self) p op.now room.object taken.now.at taken.now.case taken.now.place taken.now.object }
+        requires who { (p : ℕ) × IsAdmitted (head_of self) p self.admitted }
+        requires snap { (p : ℕ) × IsSnapOf (head_of self) (trees_of self) p op.now room.object taken.now.at
+            taken.now.case taken.now.place taken.now.object }
         requires op { room.op ≡ op.now }
         requires spare { 1 ≤ self.known.spare }
         requires known { knows_row self.known.rows op.now room.object ≡ true → taken.now.place ≢ None }
         requires judged { (told : List Told) × IsJudged (case_tree taken.now.case) told finding.now }
+        requires whole { records.old.broken ≡ false }
         ensures checked { (p : ℕ) (told : List Told) → IsJudged (case_tree taken.now.case) told finding.now
-            → IsChecked p op.now room.object arg taken.now.object taken.now.place (case_tree taken.now.case) self result.0 told result.1 }
-        ensures recorded { ¬ IsUnrecorded result.1 }
+            → IsChecked p op.now room.object arg taken.now.object taken.now.place (case_tree taken.now.case) self
+            result.0 told result.1 }
+        ensures noted { (p : ℕ) (told : List Told) → IsAdmitted (head_of self) p self.admitted
+            → IsJudged (case_tree taken.now.case) told finding.now
+            → IsNoted (head_of self) (Some p) (Call op.now room.object arg) result.1 told records.old records.new }
     {
+        let told = found_reply(taken.at, finding);
+        let what = Recorded::Told(verdict_of(finding));
+        let answers = answers_of(&taken.case, what);
+        if !note(
+            &self.admitted,
+            op,
+            &room.object,
+            answers.as_slice(),
+            &told,
+            records,
+        ) {
+            let (at, number) = (taken.at, NOT_RECORDED);
+            return (self, Reply::Refused { at, number });
+        }
         few_lines(&taken.case);
         let BoardSession {
             pass,
@@ -298,6 +376,83 @@ impl BoardSession {
         };
         (session, reply)
     }
+
+    /// Answers a call for which an authority was down: once its record was sent, the case is known from then on.
+    fn down<C: Sink>(
+        self,
+        op: &Name,
+        taken: &Taken,
+        room: Room,
+        line: u64,
+        records: &mut RecordKeeper<C>,
+    ) -> (BoardSession, Reply)
+        requires who { (p : ℕ) × IsAdmitted (head_of self) p self.admitted }
+        requires at { taken.now.at ≡ length self.pass.seen }
+        requires op { room.op ≡ op.now }
+        requires spare { 1 ≤ self.known.spare }
+        requires broken { (told : List Told) × IsBrokenOff (case_tree taken.now.case) told (DownError line) }
+        requires whole { records.old.broken ≡ false }
+        ensures checked { (p arg : ℕ) (told : List Told) → IsBrokenOff (case_tree taken.now.case) told (DownError line)
+            → IsChecked p op.now room.object arg taken.now.object taken.now.place (case_tree taken.now.case) self
+            result.0 told result.1 }
+        ensures noted { (p arg : ℕ) (told : List Told) → IsAdmitted (head_of self) p self.admitted
+            → IsBrokenOff (case_tree taken.now.case) told (DownError line)
+            → IsNoted (head_of self) (Some p) (Call op.now room.object arg) result.1 told records.old records.new }
+    {
+        let at = taken.at;
+        let told = Reply::Down { at, line };
+        let what = Recorded::Down { line };
+        let answers = answers_of(&taken.case, what);
+        if !note(
+            &self.admitted,
+            op,
+            &room.object,
+            answers.as_slice(),
+            &told,
+            records,
+        ) {
+            let number = NOT_RECORDED;
+            return (self, Reply::Refused { at, number });
+        }
+        let BoardSession {
+            pass,
+            admitted,
+            known,
+        } = self;
+        let mut known = known;
+        let _is_known = known.join(room, taken.place);
+        let session = BoardSession {
+            pass,
+            admitted,
+            known,
+        };
+        (session, told)
+    }
+}
+
+/// Sends the record of a call by who is admitted, to which authorities gave these answers, and which is about to be told this. Whether the
+/// call may go on.
+fn note<C: Sink>(
+    who: &Option<Admitted>,
+    op: &Name,
+    object: &Name,
+    answers: &[bool],
+    told: &Reply,
+    records: &mut RecordKeeper<C>,
+) -> bool
+    requires who { (h : Head) × (p : ℕ) × IsAdmitted h p who.now }
+    requires few { length answers.now ≤ 16 }
+    requires due { (at : ℕ) × (v : Recorded) × Records told.now at v }
+    requires whole { records.old.broken ≡ false }
+    ensures sent { result ≡ true → (h : Head) (p arg at : ℕ) (v : Recorded) (asks : List Told) (reply : Reply)
+        → IsAdmitted h p who.now → answers.now ≡ given_in asks → Records told.now at v → Records reply at v
+        → IsNoted h (Some p) (Call op.now object.now arg) reply asks records.old records.new }
+    ensures cut { result ≡ false → (h : Head) (p arg at : ℕ) (v : Recorded) (asks : List Told)
+        → IsAdmitted h p who.now → answers.now ≡ given_in asks → Records told.now at v
+        → IsNoted h (Some p) (Call op.now object.now arg) (Reply.Refused at 20) asks records.old records.new }
+{
+    let Some(who) = who else { unreachable!() };
+    records.note(&who.name, op, object, answers, told)
 }
 
 /// Runs an allowed call on its register. The reply of a call that was judged.
@@ -311,9 +466,7 @@ fn judged_reply(
 ) -> Reply
     requires board { pass.old.board ≡ board.now }
     requires object { taken.now.object < 4096 }
-    ensures reply { IsReplyOf pass.old pass.new op.now arg taken.now.object taken.now.at 0
-        (verdict_of finding.now) result }
-    ensures recorded { ¬ IsUnrecorded result }
+    ensures { IsReplyOf pass.old pass.new op.now arg taken.now.object taken.now.at 0 (verdict_of finding.now) result }
 {
     match finding {
         Finding::Allowed { .. } => {
@@ -321,16 +474,7 @@ fn judged_reply(
             let (at, hit) = (taken.at, 0);
             Reply::Allowed { at, hit, value }
         }
-        Finding::Denied(cause) => {
-            let (cause, line, fault) = cause_numbers(cause);
-            let at = taken.at;
-            Reply::Denied {
-                at,
-                cause,
-                line,
-                fault,
-            }
-        }
+        Finding::Denied(_) => found_reply(taken.at, finding),
     }
 }
 
@@ -347,12 +491,27 @@ fn hit(
     requires board { pass.old.board ≡ board.now }
     requires object { place.now.object < 4096 }
     requires code { 1 ≤ held.now.code }
-    ensures reply { (verdict : Verdict) → StandsFor verdict held.now → IsReplyOf pass.old pass.new op.now arg place.now.object at 1 verdict result }
-    ensures recorded { ¬ IsUnrecorded result }
+    ensures { (verdict : Verdict) → StandsFor verdict held.now
+        → IsReplyOf pass.old pass.new op.now arg place.now.object at 1 verdict result }
 {
     if held.code == 1 {
         let value = run(board, pass, op, place.object, arg);
         return Reply::Allowed { at, hit: 1, value };
+    }
+    kept_reply(at, held)
+}
+
+/// What a kept verdict tells, without the value of a step.
+fn kept_reply(at: u64, held: &Held) -> Reply
+    requires code { 1 ≤ held.now.code }
+    ensures { (verdict : Verdict) → StandsFor verdict held.now → result ≡ verdict_reply at 1 0 verdict }
+{
+    if held.code == 1 {
+        return Reply::Allowed {
+            at,
+            hit: 1,
+            value: 0,
+        };
     }
     Reply::Denied {
         at,

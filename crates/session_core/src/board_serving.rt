@@ -11,18 +11,20 @@ ghost use Rattle.session_core.specs.Served.{IsServedOver};
 ghost use Rattle.session_core.specs.Inner.Boarding.{HasGone, IsReady, who_of};
 ghost use Rattle.session_core.specs.Inner.Sittings.{HasSat};
 
-use crate::board_session::BoardSession;
+use crate::board_session::{Beside, BoardSession};
 use crate::ends::SessionEnd;
 use crate::known::Known;
+use crate::records::RecordKeeper;
 use crate::sitting::{Sitting, serve_sitting};
 use authority_ask::Panel;
-use nx_io::{Gate, Link, Place};
+use nx_io::{Gate, Link, Place, Sink};
 use policy_book::{BookAccess, NalMatter};
 use session_wire::{FrameReader, Reply, Request};
 use std::alloc::{AllocError, Global};
+use std::mem;
 use std::net::{Net, TcpListener, TcpStream};
 use std::rt::Clock;
-use verdict_words::{Board, Pass};
+use verdict_words::Pass;
 
 /// What is reported of a session over the shared board.
 #[derive(Drop)]
@@ -35,29 +37,31 @@ pub struct Report<L> {
     pub end: SessionEnd,
 }
 
-/// A session, with what it shares with others.
+/// A session, with what it shares with others, and with the records of its worker.
 #[derive(Drop)]
-pub struct Sharing<'a, G: Gate> {
+pub struct Sharing<'a, G: Gate, C: Sink> {
     pub session: BoardSession,
-    pub board: &'a Board<NalMatter>,
-    pub gate: &'a G,
+    pub beside: &'a Beside<'a, G>,
+    pub records: RecordKeeper<C>,
 }
 
 impl<
     'a,
     B: BookAccess,
+    C: Sink + Drop,
     G: Gate,
     P: Panel,
     R: Net<Listener = TcpListener, Stream = TcpStream> + Clock,
-> Sitting<R, B, P> for Sharing<'a, G> {
+> Sitting<R, B, P> for Sharing<'a, G, C> {
     ghost use Rattle.session_core.specs.Inner.Boarding.{IsReady, HasGone, who_of};
     ghost use Rattle.std.specs.Prelude.{◌≡◌};
     ghost use Rattle.std.specs.Option.{is_some};
 
-    ghost ready = { λ s book panel. (B.board book ≡ s.board.now) × IsReady s.board.now s.session };
+    ghost ready = { λ s book panel. (B.board book ≡ s.beside.now.board.now) × IsReady s.beside.now.board.now s.session };
 
     ghost told = { λ first book_first panel_first s book panel requests replies.
-        HasGone first.session s.session (P.history panel_first) (P.history panel) (B.unrecorded book_first) (B.unrecorded book) requests replies };
+        HasGone first.session s.session (P.history panel_first) (P.history panel) (B.unrecorded book_first) (B.unrecorded book)
+        first.records s.records requests replies };
 
     ghost admitted = { λ s. is_some (who_of s.session) };
 
@@ -71,14 +75,23 @@ impl<
     ) -> (Self, Reply) {
         let Sharing {
             session,
-            board,
-            gate,
+            beside,
+            records,
         } = self;
-        let (session, reply) = session.answer(rt, alloc, board, book, gate, request, panel);
+        let mut records = records;
+        let (session, reply) = session.answer(
+            rt,
+            alloc,
+            beside,
+            book,
+            request,
+            panel,
+            &mut records,
+        );
         let sharing = Sharing {
             session,
-            board,
-            gate,
+            beside,
+            records,
         };
         (sharing, reply)
     }
@@ -94,7 +107,8 @@ impl<
     fn replied(&self, rt: &R) {
         let session = self.session.pass.session();
         let principal = self.session.principal();
-        self.gate.at(rt, Place::Answered { session, principal });
+        let place = Place::Answered { session, principal };
+        self.beside.gate.at(rt, place);
     }
 }
 
@@ -104,25 +118,29 @@ impl<
 /// answer.
 ///
 /// The ends are those of `serve_on`. The report has the number and the principal of the session, how it ended, and its link
-/// and pass. The link is told that its peer is admitted exactly where a hello is welcomed, before that reply is sent.
+/// and pass. The link is told that its peer is admitted exactly where a hello is welcomed.
+///
+/// The record of each call is sent before its reply, where records are wanted. Where one can't be sent whole, its call is refused, and so
+/// is each later one that these records are lent to.
 pub fn serve_link<
     L: Link,
     P: Panel,
     B: BookAccess,
+    C: Sink + Drop,
     G: Gate,
     R: Net<Listener = TcpListener, Stream = TcpStream> + Clock,
 >(
     rt: &R,
     alloc: Global,
-    board: &Board<NalMatter>,
+    beside: &Beside<G>,
     book: &mut B,
     pass: Pass<NalMatter>,
     link: L,
     panel: &mut P,
-    gate: &G,
+    records: &mut RecordKeeper<C>,
 ) -> Report<L>
-    requires named { B.board book.old ≡ board.now }
-    requires board { pass.board ≡ board.now }
+    requires named { B.board book.old ≡ beside.now.board.now }
+    requires board { pass.board ≡ beside.now.board.now }
     requires trail { pass.trail ≡ [] }
     requires unused { All (λ entry. entry.session ≢ pass.session) pass.seen }
     requires taken { L.taken link ≡ [] }
@@ -130,17 +148,19 @@ pub fn serve_link<
     requires over { L.over link ≡ false }
     requires closed { L.closed link ≡ false }
     requires admitted { L.admitted link ≡ false }
-    ensures told { IsServedOver board.now.origin.setting (length board.now.origin.opening) (record {
-      session = result.session;
-      end = result.end;
-      who = result.principal;
-      taken = L.taken result.link;
-      sent = L.sent result.link;
-      seen = entry_trees result.pass.seen;
-      trail = result.pass.trail;
-    }) (asked_since (P.history panel.old) (P.history panel.new)) (B.unrecorded book.old) (B.unrecorded book.new) }
+    ensures told { IsServedOver beside.now.board.now.origin.setting
+        (length beside.now.board.now.origin.opening) (record {
+          session = result.session;
+          end = result.end;
+          who = result.principal;
+          taken = L.taken result.link;
+          sent = L.sent result.link;
+          seen = entry_trees result.pass.seen;
+          trail = result.pass.trail;
+        }) (asked_since (P.history panel.old) (P.history panel.new)) (B.unrecorded book.old) (B.unrecorded book.new)
+        records.old records.new }
     ensures session { (result.session ≡ pass.session) × (result.pass.session ≡ pass.session) }
-    ensures board { result.pass.board ≡ board.now }
+    ensures board { result.pass.board ≡ beside.now.board.now }
     ensures seen { IsPrefix pass.seen result.pass.seen }
     ensures known { IsPrefix pass.known result.pass.known }
     ensures bytes { Gave (L.left link) (L.left result.link) (L.taken link) (L.taken result.link) }
@@ -162,7 +182,7 @@ pub fn serve_link<
         admitted: None,
         known: Known::new(alloc),
     };
-    let (session, end) = sit(rt, alloc, board, book, gate, session, &mut link, panel);
+    let (session, end) = sit(rt, alloc, beside, book, session, &mut link, panel, records);
     link.close();
     let principal = session.principal();
     Report {
@@ -179,29 +199,31 @@ fn sit<
     L: Link,
     P: Panel,
     B: BookAccess,
+    C: Sink + Drop,
     G: Gate,
     R: Net<Listener = TcpListener, Stream = TcpStream> + Clock,
 >(
     rt: &R,
     alloc: Global,
-    board: &Board<NalMatter>,
+    beside: &Beside<G>,
     book: &mut B,
-    gate: &G,
     session: BoardSession,
     link: &mut L,
     panel: &mut P,
+    records: &mut RecordKeeper<C>,
 ) -> (BoardSession, SessionEnd)
-    requires named { B.board book.old ≡ board.now }
-    requires ready { IsReady board.now session }
+    requires named { B.board book.old ≡ beside.now.board.now }
+    requires ready { IsReady beside.now.board.now session }
     requires taken { L.taken link.old ≡ [] }
     requires sent { L.sent link.old ≡ [] }
     requires over { L.over link.old ≡ false }
     requires is_open { L.closed link.old ≡ false }
     requires admitted { L.admitted link.old ≡ is_some (who_of session) }
-    ensures ready { IsReady board.now result.0 }
+    ensures ready { IsReady beside.now.board.now result.0 }
     ensures sat { HasSat (HasGone session result.0 (P.history panel.old) (P.history panel.new)
-        (B.unrecorded book.old) (B.unrecorded book.new)) result.1 (L.taken link.new) (L.sent link.new) }
-    ensures book { B.board book.new ≡ board.now }
+        (B.unrecorded book.old) (B.unrecorded book.new) records.old records.new)
+        result.1 (L.taken link.new) (L.sent link.new) }
+    ensures book { B.board book.new ≡ beside.now.board.now }
     ensures bytes { Gave (L.left link.old) (L.left link.new) (L.taken link.old) (L.taken link.new) }
     ensures over { L.over link.new ≡ is_over result.1 }
     ensures is_open { L.closed link.new ≡ false }
@@ -214,11 +236,16 @@ fn sit<
         Ok(mut reader) => {
             let sharing = Sharing {
                 session,
-                board,
-                gate,
+                beside,
+                records: mem::replace(records, RecordKeeper::nobody()),
             };
             let (sharing, end) = serve_sitting(rt, alloc, sharing, &mut reader, link, book, panel);
-            let Sharing { session, .. } = sharing;
+            let Sharing {
+                session,
+                records: kept,
+                ..
+            } = sharing;
+            *records = kept;
             (session, end)
         }
         Err(AllocError) => (session, SessionEnd::Memory),

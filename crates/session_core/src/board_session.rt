@@ -1,16 +1,19 @@
 //! A session over the shared board: what each request is answered, with verdicts that are kept.
-ghost use Rattle.std.specs.Prelude.{◌≡◌, ◌∷◌, [], Some, None};
+ghost use Rattle.std.specs.Prelude.{◌≡◌, ◌∷◌, [], List, Some, None};
 ghost use Rattle.authority_ask.specs.PanelCalls.{HasOnlyAsked, asked_since};
+ghost use Rattle.authority_ask.specs.Panels.{Told};
 ghost use Rattle.session_wire.specs.declared.requests.Request.TheVariants.{Hello, Call};
-ghost use Rattle.session_core.specs.Served.{AreCounted, IsUnrecorded};
-ghost use Rattle.session_core.specs.Inner.Boarding.{IsReady, IsTurn, reply_of, who_of};
+ghost use Rattle.session_core.specs.Records.{IsCall, IsNoted, IsNotRecorded, Kept};
+ghost use Rattle.session_core.specs.Served.{AreCounted};
+ghost use Rattle.session_core.specs.Inner.Boarding.{IsReady, IsTurn, head_of, reply_of, who_of};
 ghost use Rattle.session_core.specs.Inner.Steps.{IsHello};
 
 use crate::known::Known;
+use crate::records::RecordKeeper;
 use authority_ask::Panel;
 use journal_text::{event_of, policy_line, refusal_number};
 use nal_term::{Name, Secret};
-use nx_io::Gate;
+use nx_io::{Gate, Sink};
 use policy_book::{BookAccess, NalMatter, Written};
 use session_wire::{Reply, Request};
 use std::alloc::Global;
@@ -30,6 +33,14 @@ const BAD_SECRET: u64 = 3;
 pub struct Admitted {
     pub number: u32,
     pub name: Name,
+}
+
+/// What sessions that run beside each other share.
+#[derive(Drop)]
+pub struct Beside<'a, G: Gate> {
+    pub board: &'a Board<NalMatter>,
+    /// Where a session stops to let others go on, in tests.
+    pub gate: &'a G,
 }
 
 /// A session over the shared board: its pass, who is admitted in it, and the cases that it knows.
@@ -56,31 +67,35 @@ impl BoardSession {
         B: BookAccess,
         G: Gate,
         P: Panel,
+        C: Sink,
         R: Net<Listener = TcpListener, Stream = TcpStream> + Clock,
     >(
         self,
         rt: &R,
         alloc: Global,
-        board: &Board<NalMatter>,
+        beside: &Beside<G>,
         book: &mut B,
-        gate: &G,
         request: &Request,
         panel: &mut P,
+        records: &mut RecordKeeper<C>,
     ) -> (BoardSession, Reply)
-        requires named { B.board book.old ≡ board.now }
-        requires ready { IsReady board.now self }
-        ensures ready { IsReady board.now result.0 }
+        requires named { B.board book.old ≡ beside.now.board.now }
+        requires ready { IsReady beside.now.board.now self }
+        ensures ready { IsReady beside.now.board.now result.0 }
         ensures turn { IsTurn self result.0 (asked_since (P.history panel.old) (P.history panel.new))
             request.now result.1 }
         ensures asked { HasOnlyAsked (P.history panel.old) (P.history panel.new) }
+        ensures noted { IsNoted (head_of self) (who_of self) request.now result.1
+            (asked_since (P.history panel.old) (P.history panel.new)) records.old records.new }
         ensures book { B.board book.new ≡ B.board book.old }
-        ensures counted { AreCounted (B.unrecorded book.old) (B.unrecorded book.new) (result.1 ∷ []) }
+        ensures counted { AreCounted (B.unrecorded book.old) (B.unrecorded book.new)
+            (request.now ∷ []) (result.1 ∷ []) }
     {
         match request {
             Request::Hello { name, secret } => self.open(alloc, book, name, secret),
             Request::Call { op, object, arg } => {
                 let arg = *arg;
-                self.call(rt, alloc, board, book, gate, op, object, arg, panel)
+                self.call(rt, alloc, beside, book, op, object, arg, panel, records)
             }
             _ => self.change(alloc, book, request),
         }
@@ -97,7 +112,9 @@ impl BoardSession {
         requires ready { IsReady (B.board book.old) self }
         ensures ready { IsReady (B.board book.old) result.0 }
         ensures turn { IsTurn self result.0 [] (Hello name.now secret.now) result.1 }
-        ensures recorded { ¬ IsUnrecorded result.1 }
+        ensures recorded { ¬ IsNotRecorded result.1 }
+        ensures noted { (asks : List Told) (kept : Kept) → IsNoted (head_of self) (who_of self)
+            (Hello name.now secret.now) result.1 asks kept kept }
         ensures book { (B.board book.new ≡ B.board book.old) × (B.unrecorded book.new ≡ B.unrecorded book.old) }
     {
         let at = self.pass.at();
@@ -133,10 +150,14 @@ impl BoardSession {
     ) -> (BoardSession, Reply)
         requires ready { IsReady (B.board book.old) self }
         requires no_hello { ¬ IsHello request.now }
+        requires no_call { ¬ IsCall request.now }
         ensures ready { IsReady (B.board book.old) result.0 }
         ensures turn { IsTurn self result.0 [] request.now result.1 }
+        ensures noted { (asks : List Told) (kept : Kept) → IsNoted (head_of self) (who_of self) request.now result.1
+            asks kept kept }
         ensures book { B.board book.new ≡ B.board book.old }
-        ensures counted { AreCounted (B.unrecorded book.old) (B.unrecorded book.new) (result.1 ∷ []) }
+        ensures counted { AreCounted (B.unrecorded book.old) (B.unrecorded book.new)
+            (request.now ∷ []) (result.1 ∷ []) }
     {
         let Some(who) = &self.admitted else {
             let at = self.pass.at();

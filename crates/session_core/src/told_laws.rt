@@ -1,6 +1,6 @@
 //! The laws of what a session over a shared board is told.
 ghost use Rattle.session_core.specs.Earned.{TellsInOrder, TellsWhatIsTrue, TellsWhatIsTrueAlone};
-ghost use Rattle.session_core.specs.ToldLaws.{DownsAreTold, DownsAreToldAlone, OnlyAllowedRuns, OnlyDoneAdds, ToldStaysTold};
+ghost use Rattle.session_core.specs.ToldLaws.{DownsAreTold, DownsAreToldAlone, NotedStaysNoted, OnlyAllowedRuns, OnlyDoneAdds, ToldStaysTold};
 ghost use Rattle.session_core.specs.ToldRows.{AllowedAndKept, AllowedAndOtherSaid, AllowedAndThenDeleted, AllowedThenDenied, AskedEachTime, ChangesAreSeen, DeletedStillAllowed, DoneWithoutEntry, FirstCallHits, GreetedOnce, NotRecordedIsRefused, OtherRegionLeaves, SameRegionRaises, WrongLineAndThenCleared, WrongLineKept, YesUsedTwice};
 
 /// What is told of a call is true. Each reply that allows one is earned: at the point that it names the goal in force is derived
@@ -14,10 +14,10 @@ pub fn told_replies_are_earned()
     ensures alone { TellsWhatIsTrueAlone }
 {}
 
-/// What a session was told over its history it was told over every longer one too. The call does nothing.
-#[tactic(auto, using(crate::proofs::ToldLaws::told_stays_told))]
+/// What a session was told over its history it was told over every longer one too, and what was recorded of it is the same. The call does nothing.
 pub fn what_was_told_stays_told()
-    ensures { ToldStaysTold }
+    ensures told { ToldStaysTold }
+    ensures noted { NotedStaysNoted }
 {}
 
 /// No request steps on a register but one that is replied `Allowed`, and none makes an entry but one that is replied `Done`.
@@ -28,8 +28,8 @@ pub fn only_allowed_calls_run_and_only_changes_add()
     ensures adds { OnlyDoneAdds }
 {}
 
-/// Authorities were down as often as a session is told it: where a reply is `Down`, one was, and no other ask was answered so. The
-/// call does nothing.
+/// Authorities were down as often as a session is told it: where a reply is `Down`, one was, and no other ask was answered so, unless
+/// the record of its call could not be sent. The call does nothing.
 pub fn downs_are_told()
     ensures beside { DownsAreTold }
     ensures alone { DownsAreToldAlone }

@@ -1,10 +1,11 @@
 -- A session over a shared board between two of its requests, and what one request comes to.
-use Rattle.std.specs.Prelude.{◌≡◌, ◌<◌, ◌≤◌, ℕ, Bool, List, [], ◌++◌, length, take, All, Option, Some, None, option_map, IfSome}
+use Rattle.std.specs.Prelude.{◌≡◌, ◌<◌, ◌≤◌, ℕ, Bool, true, false, List, [], ◌++◌, length, take, All, Option, Some, None, option_map, IfSome}
 use Rattle.nal_rules.specs.Verdicts.{CaseTree}
 use Rattle.nal_rules.specs.declared.verdicts.Verdict.{Verdict}
 use Rattle.guard_core.specs.declared.findings.Finding.{Finding}
 use Rattle.guard_core.specs.declared.findings.GuardError.TheVariants.{Down as DownError, Memory as MemoryError}
 use Rattle.verdict_words.specs.declared.places.CasePlace.{CasePlace}
+use Rattle.nx_io.specs.Streams.{SendsPart, one_more}
 use Rattle.policy_history.specs.declared.events.Entry.{Entry}
 use Rattle.policy_history.specs.declared.heads.Head.{Head}
 use Rattle.policy_history.specs.Events.{EntryTree, name_of}
@@ -29,6 +30,7 @@ use Rattle.policy_book.specs.declared.writing.Written.{Written}
 use Rattle.policy_book.specs.declared.writing.Written.TheVariants.{Done as WrittenDone, Refused as WrittenRefused, NoMemory as WrittenNoMemory}
 use Rattle.session_core.specs.declared.board_session.Admitted.{Admitted}
 use Rattle.session_core.specs.declared.board_session.BoardSession.{BoardSession}
+use Rattle.session_core.specs.Records.{AreNoted, Kept}
 use Rattle.session_core.specs.Served.{AreCounted}
 use Rattle.session_core.specs.Standing.{Standing}
 use Rattle.session_core.specs.Told.{Answers, IsPlaceIn, Keeps, Leads, Misses, Runs, Turn, verdict_reply}
@@ -60,6 +62,13 @@ abbrev pub AreKnown : Head → List EntryTree → Option ℕ → List KnownRow �
 AreKnown h es None rows = rows ≡ []
 AreKnown h es (Some p) rows = All (IsKnownRow h es p) rows
 
+-- principal p of this head is admitted, under its name
+pub record IsAdmitted (h : Head) (p : ℕ) (who : Option Admitted) : Type 0 where
+  pub admitted : Admitted
+  pub is_who : who ≡ Some admitted
+  pub number : admitted.number ≡ p
+  pub name : admitted.name ≡ name_of h.principals p
+
 -- a session over this board can answer
 pub record IsReady (board : Identity Entry Head) (s : BoardSession) : Type 0 where
   pub board_is : s.pass.board ≡ board
@@ -81,8 +90,8 @@ pub record IsTurn (s t : BoardSession) (asks : List Ask) (request : Request) (re
   pub session_is : t.pass.session ≡ s.pass.session
   pub board_is : t.pass.board ≡ s.pass.board
 
--- From the one state of session and panel to the other these requests were told these replies, and so many changes were told not to be recorded before and then
-pub record HasGone (s t : BoardSession) (p q : PanelHistory) (count count_now : ℕ) (requests : List Request) (replies : List Reply) : Type 0 where
+-- From the one state of session and panel to the other these requests were told these replies, so many changes were told not to be recorded before and then, and so much was recorded of calls before and then
+pub record HasGone (s t : BoardSession) (p q : PanelHistory) (count count_now : ℕ) (kept kept_now : Kept) (requests : List Request) (replies : List Reply) : Type 0 where
   pub steps : List Item
   pub added : List EntryTree
   pub leads : Leads (head_of s) (trees_of t) s.pass.session (standing s) requests replies (asked_since p q) steps added (standing t)
@@ -93,7 +102,8 @@ pub record HasGone (s t : BoardSession) (p q : PanelHistory) (count count_now : 
   pub session_is : t.pass.session ≡ s.pass.session
   pub board_is : t.pass.board ≡ s.pass.board
   pub asked : HasOnlyAsked p q
-  pub counted : AreCounted count count_now replies
+  pub counted : AreCounted count count_now requests replies
+  pub noted : AreNoted (head_of s) (trees_of t) s.pass.session (standing s) requests replies (asked_since p q) steps added (standing t) leads kept kept_now
 
 -- a pass that made these steps, and then knew so much
 abbrev pub stepped_by : PassValue Entry Head → List Item → List AtomicStep → PassValue Entry Head
@@ -148,6 +158,18 @@ pub record HasJoined (op object : List ℕ) (place : Option CasePlace) (s t : Bo
   pub admitted_is : t.admitted ≡ s.admitted
   pub known_is : t.known.rows ≡ joined_rows s.known.rows op object place
 
+-- a case was judged with these asks, or an authority was down
+pub data IsSettled (c : CaseTree) (asks : List Ask) : Type 0 where
+  settled_judged : (finding : Finding) → IsJudged c asks finding → IsSettled c asks
+  settled_down : (line : ℕ) → IsBrokenOff c asks (DownError line) → IsSettled c asks
+
+-- what came of the record with this line: it was not wanted, it was sent, or a proper part of it was, since the sink failed
+pub data IsWritten (line : List ℕ) (done : Bool) (kept kept_now : Kept) : Type 0 where
+  not_wanted : kept.wanted ≡ false → done ≡ true → kept_now ≡ kept → IsWritten line done kept kept_now
+  sent : kept.wanted ≡ true → done ≡ true → kept_now ≡ record kept { sent = kept.sent ++ line } → IsWritten line done kept kept_now
+  cut_off : kept.wanted ≡ true → done ≡ false → SendsPart kept.sent kept_now.sent line → kept_now ≡ record { wanted = true; sent = kept_now.sent; faults = one_more kept.faults; broken = true }
+      → IsWritten line done kept kept_now
+
 -- what comes of a case that was taken from the book, with the number k of its object: it is judged, or the guard breaks off
 pub data IsChecked (p : ℕ) (op object : List ℕ) (arg k : ℕ) (place : Option CasePlace) (c : CaseTree) (s t : BoardSession) (asks : List Ask) (reply : Reply) : Type 0 where
   judged : (value : ℕ) (finding : Finding) (kept ran : List Item) → IsJudged c asks finding
@@ -157,6 +179,7 @@ pub data IsChecked (p : ℕ) (op object : List ℕ) (arg k : ℕ) (place : Optio
   down : (line : ℕ) → IsBrokenOff c asks (DownError line) → HasJoined op object place s t [] → reply ≡ Down (length s.pass.seen) line
       → IsChecked p op object arg k place c s t asks reply
   no_memory : IsBrokenOff c asks MemoryError → t ≡ s → reply ≡ NoMemory → IsChecked p op object arg k place c s t asks reply
+  unrecorded : IsSettled c asks → t ≡ s → reply ≡ Refused (length s.pass.seen) 20 → IsChecked p op object arg k place c s t asks reply
 
 -- the reply that tells what became of a change
 abbrev pub reply_of : Written → Reply

@@ -5,16 +5,16 @@ use Rattle.session_core.proofs.board_serving.serve_link.Goals as goal
 
 pub sit-session-requires-clause-ready : goal.sit-session-requires-clause-ready
 sit-session-requires-clause-ready g c =
-    first_ready c.args.board.now _ c.args.pass (record { pass = c.meet-pass.result; admitted = None; known = c.new.result }) (rw c.requires.named at c.meet-pass.ensures.met.1) refl c.new.ensures refl
+    first_ready c.args.beside.now.board.now _ c.args.pass (record { pass = c.meet-pass.result; admitted = None; known = c.new.result }) (rw c.requires.named at c.meet-pass.ensures.met.1) refl c.new.ensures refl
 
 pub returns-clause-told : goal.returns-clause-told
 returns-clause-told g c =
     let sat = c.sit-session.ensures.sat in
     let met = rw c.requires.named at c.meet-pass.ensures.met.1 in
     rw (c.close.ensures.coming.taken_is, c.close.ensures.sent, c.principal-principal.ensures, ← c.meet-pass.ensures.unrecorded)
-    (served_over c.args.board.now _ c.args.pass (record { pass = c.meet-pass.result; admitted = None; known = c.new.result }) met refl c.new.ensures
-    c.sit-session.result.0 _ _ _ _ sat.requests sat.replies c.sit-session.result.1 _ _ c.session-number.result c.requires.trail c.requires.unused
-    (opening_here c.args.board.now _ c.args.pass c.meet-pass.result met c.at-at.ensures.begins) c.session-number.ensures.session sat.told sat.ended)
+    (served_over c.args.beside.now.board.now _ c.args.pass (record { pass = c.meet-pass.result; admitted = None; known = c.new.result }) met refl c.new.ensures
+    c.sit-session.result.0 _ _ _ _ _ _ sat.requests sat.replies c.sit-session.result.1 _ _ c.session-number.result c.requires.trail c.requires.unused
+    (opening_here c.args.beside.now.board.now _ c.args.pass c.meet-pass.result met c.at-at.ensures.begins) c.session-number.ensures.session sat.told sat.ended)
 
 pub returns-clause-session : goal.returns-clause-session
 returns-clause-session g c =

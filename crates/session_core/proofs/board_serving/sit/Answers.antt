@@ -4,7 +4,7 @@ use Rattle.session_core.proofs.BoardGoing.{gone_first}
 use Rattle.session_core.proofs.board_serving.sit.Goals as goal
 
 pub serve_sitting-sharing-requires-clause-told : goal.serve_sitting-sharing-requires-clause-told
-serve_sitting-sharing-requires-clause-told g c = gone_first _ _ _
+serve_sitting-sharing-requires-clause-told g c = gone_first _ _ _ _
 
 pub returns-in-Ok-clause-ready : goal.returns-in-Ok-clause-ready
 returns-in-Ok-clause-ready g c =
@@ -20,4 +20,4 @@ returns-in-Ok-clause-book g c =
     ready.0 ∙ sym ready.1.board_is ∙ told.board_is ∙ c.requires.ready.board_is
 
 pub returns-in-Err-clause-sat : goal.returns-in-Err-clause-sat
-returns-in-Err-clause-sat g c = record { requests = []; replies = []; ended = no_memory refl c.requires.taken c.requires.sent refl refl; told = gone_first _ _ _ }
+returns-in-Err-clause-sat g c = record { requests = []; replies = []; ended = no_memory refl c.requires.taken c.requires.sent refl refl; told = gone_first _ _ _ _ }

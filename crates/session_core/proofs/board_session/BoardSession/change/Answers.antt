@@ -1,4 +1,5 @@
 use Rattle.session_core.proofs.BoardTurns.{early_change, given_up_any, nobody_of, somebody_of, written_counted, written_ready, written_turn}
+use Rattle.session_core.proofs.Noting.{noted_none}
 use Rattle.session_core.proofs.board_session.BoardSession.change.Goals as goal
 
 pub returns-in_default-clause-turn : goal.returns-in_default-clause-turn
@@ -21,4 +22,16 @@ returns-clause-ready g c =
     (rw c.in-Ok-Some.field-0-is at c.in-Ok-Some.ensures.event) _ c.requires.ready c.write-pass.result.1 (rw (← c.requires.ready.board_is) at c.write-pass.ensures.answered)
 
 pub returns-clause-counted : goal.returns-clause-counted
-returns-clause-counted g c = rw c.written_reply.ensures (written_counted _ _ c.write-pass.result.1 c.write-pass.ensures.unrecorded)
+returns-clause-counted g c = rw c.written_reply.ensures (written_counted _ _ c.args.request.now c.write-pass.result.1 c.write-pass.ensures.unrecorded)
+
+pub returns-in_default-clause-noted : goal.returns-in_default-clause-noted
+returns-in_default-clause-noted g c = λ asks kept. noted_none (λ call. absurd (c.requires.no_call call))
+
+pub returns-in_default-event_of-clause-noted : goal.returns-in_default-event_of-clause-noted
+returns-in_default-event_of-clause-noted g c = λ asks kept. noted_none (λ call. absurd (c.requires.no_call call))
+
+pub returns-in_default-policy_line-clause-noted : goal.returns-in_default-policy_line-clause-noted
+returns-in_default-policy_line-clause-noted g c = λ asks kept. noted_none (λ call. absurd (c.requires.no_call call))
+
+pub returns-clause-noted : goal.returns-clause-noted
+returns-clause-noted g c = λ asks kept. noted_none (λ call. absurd (c.requires.no_call call))

@@ -1,5 +1,6 @@
 use Rattle.std.proofs.Common.{Some, None, sym, refl, ◌∙◌}
 use Rattle.session_core.proofs.BoardTurns.{again_turn, found_here, given_up_any, unknown_turn, welcome_ready, welcome_turn}
+use Rattle.session_core.proofs.Noting.{noted_none}
 use Rattle.session_core.proofs.board_session.BoardSession.open.Goals as goal
 
 pub returns-in-Some-clause-turn : goal.returns-in-Some-clause-turn
@@ -23,3 +24,15 @@ pub returns-clause-ready : goal.returns-clause-ready
 returns-clause-ready g c =
     welcome_ready _ c.args.self (record { number = c.in-Some-found.number; name = c.in-Ok.name }) c.args.name.now c.args.secret.now c.requires.ready (sym c.principal.ensures ∙ c.in_default.is)
     c.in-Some-found.ensures.within c.in-Ok.ensures (sym c.admit-found.ensures.number ∙ c.in-Some-found.is)
+
+pub returns-in-Some-clause-noted : goal.returns-in-Some-clause-noted
+returns-in-Some-clause-noted g c = λ asks kept. noted_none (λ call. absurd call)
+
+pub returns-in_default-found-clause-noted : goal.returns-in_default-found-clause-noted
+returns-in_default-found-clause-noted g c = λ asks kept. noted_none (λ call. absurd call)
+
+pub returns-in_default-copy-clause-noted : goal.returns-in_default-copy-clause-noted
+returns-in_default-copy-clause-noted g c = λ asks kept. noted_none (λ call. absurd call)
+
+pub returns-clause-noted : goal.returns-clause-noted
+returns-clause-noted g c = λ asks kept. noted_none (λ call. absurd call)
