@@ -1,5 +1,5 @@
 -- What a request of a session alone records.
-use Rattle.std.proofs.Common.{◌≡◌, ℕ, List, length, Option, Some, None, refl, sym, ap, subst, ◌∙◌}
+use Rattle.std.proofs.Common.{◌≡◌, ◌≤◌, ℕ, List, length, Option, Some, None, refl, sym, ap, subst, ◌∙◌, arith}
 use Rattle.std.proofs.Math.Seq.{take-length}
 use Rattle.object_table.specs.Objects.{number_of}
 use Rattle.policy_history.specs.declared.heads.Head.{Head}
@@ -16,8 +16,9 @@ use Rattle.session_core.specs.Answers as answers
 use Rattle.session_core.specs.Told.{state_at, verdict_reply}
 use Rattle.authority_ask.specs.Panels.{Told as Ask}
 use Rattle.audit_check.specs.declared.records.Recorded.{Recorded}
-use Rattle.told_records.specs.ToldRecords.{AloneIsRight, IsRightCall, Records}
-use Rattle.told_records.proofs.Calls.{judged}
+use Rattle.audit_form.specs.ReplyRecords.{Records}
+use Rattle.session_core.proofs.ForCallers.{judged}
+use Rattle.told_records.specs.ToldRecords.{AloneIsRight, IsRightCall}
 use Rattle.told_records.proofs.Turns.{right_down, right_no_object, right_verdict, verdict_recorded}
 
 -- the reply that a finding is, is that of its verdict
@@ -32,16 +33,19 @@ module _ (h : Head) (es : List EntryTree) (p : ℕ) (op object : List ℕ) (at :
   whole : state_at h es (length es) ≡ replay h es
   whole = ap (replay h) (take-length es)
 
+  here : length es ≤ length es
+  here = omega arith
+
   on : (o : Option ℕ) → number_of (replay h es).objects object ≡ o → IsCalledOn h es p op o outcome → IsRightCall h es p op object outcome.asks at v
   on None none is =
       let m = as_reply (Refused (length es) 8) (ap (λ (x : Outcome). x.reply) is) in
-      subst (λ (xs : List Ask). IsRightCall h es p op object xs at v) (sym (ap (λ (x : Outcome). x.asks) is)) (right_no_object h es p op object (length es) at v (rw whole none) m.1 m.2)
+      subst (λ (xs : List Ask). IsRightCall h es p op object xs at v) (sym (ap (λ (x : Outcome). x.asks) is)) (right_no_object h es p op object (length es) at v here (rw whole none) m.1 m.2)
   on (Some k) found (answers.found finding j is) =
       let m = verdict_recorded (length es) 0 0 (verdict_of finding) at v (as_reply (verdict_reply (length es) 0 0 (verdict_of finding)) (ap (λ (x : Outcome). x.reply) is ∙ found_is (length es) finding)) in
-      right_verdict h es p op object outcome.asks (length es) k (verdict_of finding) at v (rw whole found) (rw whole (judged (case_at h (replay h es) p op k) outcome.asks finding j)) m.0 m.1
+      right_verdict h es p op object outcome.asks (length es) k (verdict_of finding) at v here (rw whole found) (rw whole (judged (case_at h (replay h es) p op k) outcome.asks finding j)) m.0 m.1
   on (Some k) found (answers.down line broken is) =
       let m = as_reply (Down (length es) line) (ap (λ (x : Outcome). x.reply) is) in
-      right_down h es p op object outcome.asks (length es) k line at v (rw whole found) (rw whole broken) m.0 m.1
+      right_down h es p op object outcome.asks (length es) k line at v here (rw whole found) (rw whole broken) m.0 m.1
 
 pub alone_is_right : AloneIsRight
 alone_is_right h es session p op object arg at v outcome (answers.answered is) r = on h es p op object at v outcome r (number_of (replay h es).objects object) refl is

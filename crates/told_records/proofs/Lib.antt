@@ -3,6 +3,10 @@ pub mod Calls
 pub mod Turns
 pub mod Along
 pub mod Alone
+mod OneLines
+mod ShortProofs
+mod RightLines
+mod Recorded
 mod Spelled
 mod Peers
 mod PeersBeside

@@ -1,5 +1,5 @@
 -- What one request of a session records.
-use Rattle.std.proofs.Common.{◌≡◌, ℕ, List, [], take, Bool, Some, None, refl, sym, ap, subst, ◌∙◌}
+use Rattle.std.proofs.Common.{◌≡◌, ◌≤◌, ℕ, List, [], length, take, Bool, Some, None, refl, sym, ap, subst, ◌∙◌}
 use Rattle.nal_rules.specs.Verdicts.{CaseTree, IsVerdict}
 use Rattle.nal_rules.specs.declared.verdicts.Cause.{Cause}
 use Rattle.nal_rules.specs.declared.verdicts.Verdict.{Verdict}
@@ -23,8 +23,11 @@ use Rattle.session_core.specs.Told as told
 use Rattle.audit_check.specs.declared.records.Recorded.{Recorded}
 use Rattle.audit_check.specs.declared.records.Recorded.TheVariants as recorded
 use Rattle.audit_check.specs.Records.{IsToldWith}
-use Rattle.told_records.specs.ToldRecords.{IsRightCall, Records, RepliesAreRight, given_in}
-use Rattle.told_records.proofs.Calls.{down_known, down_unknown, judged, lasting, told_known, told_unknown}
+use Rattle.audit_form.specs.ReplyRecords.{Records}
+use Rattle.session_core.specs.Records.{given_in}
+use Rattle.session_core.proofs.ForCallers.{down_known, down_unknown, judged, told_known, told_unknown, unrecorded_reply}
+use Rattle.told_records.specs.ToldRecords.{IsRightCall, RepliesAreRight}
+use Rattle.told_records.proofs.Calls.{lasting}
 use Rattle.told_records.proofs.Numbers.{one_cause}
 
 -- the reply that a verdict is records it
@@ -34,22 +37,24 @@ verdict_recorded n hit value (DeniedVerdict cause) at v (c, numbers, is, told) =
 
 -- a call whose verdict is told with these answers
 pub right_verdict : (h : Head) (es : List EntryTree) (p : ℕ) (op object : List ℕ) (asks : List Ask) (n k : ℕ) (verdict : Verdict) (at : ℕ) (v : Recorded)
-    → number_of (state_at h es n).objects object ≡ Some k → IsToldWith (case_at h (state_at h es n) p op k) (given_in asks) verdict → at ≡ n → v ≡ recorded.Told verdict → IsRightCall h es p op object asks at v
-right_verdict h es p op object asks n k verdict at v found t at_is v_is =
+    → n ≤ length es → number_of (state_at h es n).objects object ≡ Some k → IsToldWith (case_at h (state_at h es n) p op k) (given_in asks) verdict → at ≡ n → v ≡ recorded.Told verdict → IsRightCall h es p op object asks at v
+right_verdict h es p op object asks n k verdict at v within found t at_is v_is =
     rw (at_is, v_is) (record {
+      within = within;
       with_answers = rw found (told_known (case_at h (state_at h es n) p op k) (given_in asks) verdict t);
       without = rw found (told_unknown (case_at h (state_at h es n) p op k) (given_in asks) verdict t);
     })
 
 pub right_no_object : (h : Head) (es : List EntryTree) (p : ℕ) (op object : List ℕ) (n at : ℕ) (v : Recorded)
-    → number_of (state_at h es n).objects object ≡ None → at ≡ n → v ≡ recorded.NoObject → IsRightCall h es p op object [] at v
-right_no_object h es p op object n at v none at_is v_is = rw (at_is, v_is) (record { with_answers = rw none (refl, refl); without = rw none (refl, tt) })
+    → n ≤ length es → number_of (state_at h es n).objects object ≡ None → at ≡ n → v ≡ recorded.NoObject → IsRightCall h es p op object [] at v
+right_no_object h es p op object n at v within none at_is v_is = rw (at_is, v_is) (record { within = within; with_answers = rw none (refl, refl); without = rw none (refl, tt) })
 
 pub right_down : (h : Head) (es : List EntryTree) (p : ℕ) (op object : List ℕ) (asks : List Ask) (n k line at : ℕ) (v : Recorded)
-    → number_of (state_at h es n).objects object ≡ Some k → Rattle.guard_core.specs.Judging.IsBrokenOff (case_at h (state_at h es n) p op k) asks (Rattle.guard_core.specs.declared.findings.GuardError.TheVariants.Down line)
+    → n ≤ length es → number_of (state_at h es n).objects object ≡ Some k → Rattle.guard_core.specs.Judging.IsBrokenOff (case_at h (state_at h es n) p op k) asks (Rattle.guard_core.specs.declared.findings.GuardError.TheVariants.Down line)
     → at ≡ n → v ≡ recorded.Down line → IsRightCall h es p op object asks at v
-right_down h es p op object asks n k line at v found broken at_is v_is =
+right_down h es p op object asks n k line at v within found broken at_is v_is =
     rw (at_is, v_is) (record {
+      within = within;
       with_answers = rw found (down_known (case_at h (state_at h es n) p op k) asks line broken);
       without = rw found (down_unknown (case_at h (state_at h es n) p op k) asks line broken);
     })
@@ -75,24 +80,24 @@ module _ (h : Head) (es : List EntryTree) (before : Standing) (p : ℕ) (op obje
   as_reply : (reply : Reply) → turn.reply ≡ reply → Records reply at v
   as_reply reply e = subst (λ (x : Reply). Records x at v) e r
 
-  judged_call : (n : ℕ) (looked : List Rattle.verdict_words.specs.declared.views.Item.Item) → Judges h (state_at h es n) before p op object arg n looked turn → IsRightCall h es p op object turn.asks at v
-  judged_call n looked (told.no_object none is) =
+  judged_call : (n : ℕ) (looked : List Rattle.verdict_words.specs.declared.views.Item.Item) → n ≤ length es → Judges h (state_at h es n) before p op object arg n looked turn → IsRightCall h es p op object turn.asks at v
+  judged_call n looked within (told.no_object none is) =
       let m = as_reply (Refused n 8) (ap (λ (t : Turn). t.reply) is) in
-      subst (λ (xs : List Ask). IsRightCall h es p op object xs at v) (sym (ap (λ (t : Turn). t.asks) is)) (right_no_object h es p op object n at v none m.1 m.2)
-  judged_call n looked (told.judged k value finding kept ran found j keeps runs is) =
+      subst (λ (xs : List Ask). IsRightCall h es p op object xs at v) (sym (ap (λ (t : Turn). t.asks) is)) (right_no_object h es p op object n at v within none m.1 m.2)
+  judged_call n looked within (told.judged k value finding kept ran found j keeps runs is) =
       let m = verdict_recorded n 0 value (verdict_of finding) at v (as_reply (verdict_reply n 0 value (verdict_of finding)) (ap (λ (t : Turn). t.reply) is)) in
-      right_verdict h es p op object turn.asks n k (verdict_of finding) at v found (judged (case_at h (state_at h es n) p op k) turn.asks finding j) m.0 m.1
-  judged_call n looked (told.down k line found broken is) =
+      right_verdict h es p op object turn.asks n k (verdict_of finding) at v within found (judged (case_at h (state_at h es n) p op k) turn.asks finding j) m.0 m.1
+  judged_call n looked within (told.down k line found broken is) =
       let m = as_reply (Down n line) (ap (λ (t : Turn). t.reply) is) in
-      right_down h es p op object turn.asks n k line at v found broken m.0 m.1
+      right_down h es p op object turn.asks n k line at v within found broken m.0 m.1
 
   called : Calls h es before p op object arg turn → IsRightCall h es p op object turn.asks at v
   called (told.hit n place slot of_object of_store value held verdict ran looks makes stands right runs is) =
       let m = verdict_recorded n 1 value verdict at v (as_reply (verdict_reply n 1 value verdict) (ap (λ (t : Turn). t.reply) is)) in
       let none : turn.asks ≡ [] = ap (λ (t : Turn). t.asks) is in
-      right_verdict h es p op object turn.asks n place.object verdict at v looks.place_is.object_is
+      right_verdict h es p op object turn.asks n place.object verdict at v looks.seen.1 looks.place_is.object_is
       (subst (λ (bs : List Bool). IsToldWith (case_at h (state_at h es n) p op place.object) bs verdict) (sym (ap given_in none)) (kept_verdict h es p op object n place verdict looks.place_is right)) m.0 m.1
-  called (told.snapped low n looked misses seen judges) = judged_call n looked judges
+  called (told.snapped low n looked misses seen judges) = judged_call n looked seen.1 judges
 
   no_reply : turn.reply ≡ NoMemory → ⊥
   no_reply e = as_reply NoMemory e
@@ -120,3 +125,7 @@ replies_are_right h es s before request turn (told.call q op2 object2 arg2 is_wh
 replies_are_right h es s before request turn (told.given_up is) = λ p op object arg at v who call r. absurd (no_reply h es before p op object arg at v turn r (ap (λ (t : Turn). t.reply) is))
 replies_are_right h es s before request turn (told.call_given_up q op2 object2 arg2 is_who is gives) = λ p op object arg at v who call r.
     absurd (given_up h es before q op2 object2 arg2 at v turn r gives)
+replies_are_right h es s before request turn (told.call_unrecorded q op2 object2 arg2 is_who is goes) = λ p op object arg at v who call r.
+    let refused = unrecorded_reply goes in
+    let eight = (as_reply h es before q op2 object2 arg2 at v turn r (Refused refused.0 20) refused.1).0 in
+    absurd (cc eight)

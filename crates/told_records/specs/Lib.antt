@@ -1,2 +1,3 @@
 pub mod ToldRecords
+pub mod Recordings
 pub mod PeerSessions

@@ -1,55 +1,25 @@
--- The records that the replies of a session make, and that they are right.
-use Rattle.std.specs.Prelude.{◌≡◌, ℕ, List, [], ◌∷◌, Bool, true, false, Some}
-use Rattle.nal_rules.specs.Numbers.{cause_numbers}
-use Rattle.nal_rules.specs.declared.verdicts.Cause.{Cause}
-use Rattle.nal_rules.specs.declared.verdicts.Verdict.TheVariants.{Allowed as AllowedVerdict, Denied as DeniedVerdict}
+-- The records that the replies of a session make are right.
+use Rattle.std.specs.Prelude.{◌≡◌, ◌≤◌, ℕ, List, [], ◌∷◌, length, Some}
 use Rattle.policy_history.specs.declared.heads.Head.{Head}
 use Rattle.policy_history.specs.Events.{EntryTree}
 use Rattle.authority_ask.specs.Panels.{Told as Ask}
-use Rattle.authority_ask.specs.declared.panels.Ask.{Ask as Answer}
-use Rattle.authority_ask.specs.declared.panels.Ask.TheVariants.{Yes, No}
 use Rattle.session_wire.specs.declared.requests.Request.{Request}
 use Rattle.session_wire.specs.declared.requests.Request.TheVariants.{Call}
 use Rattle.session_wire.specs.declared.replies.Reply.{Reply}
-use Rattle.session_wire.specs.declared.replies.Reply.TheVariants.{Allowed, Denied, Refused, Down}
 use Rattle.verdict_words.specs.declared.views.Item.{Item}
 use Rattle.session_core.specs.Answers.{HasOutcome, Outcome}
+use Rattle.session_core.specs.Records.{given_in}
 use Rattle.session_core.specs.Standing.{Standing, beginning}
 use Rattle.session_core.specs.Told.{Answers, IsTold, Leads, Turn}
-use Rattle.audit_check.specs.declared.records.Answers.{Answers as Given}
 use Rattle.audit_check.specs.declared.records.Answers.TheVariants.{Known, Unknown}
-use Rattle.audit_check.specs.declared.records.Record.{Record}
 use Rattle.audit_check.specs.declared.records.Recorded.{Recorded}
-use Rattle.audit_check.specs.declared.records.Recorded.TheVariants as recorded
 use Rattle.audit_check.specs.Records.{IsRightRecord}
+use Rattle.audit_form.specs.ReplyRecords.{Records, record_of}
 
--- what the reply of a call records, and at which point: its verdict, that no object has the name, or that an authority was down. A
--- reply of another kind records nothing
-abbrev pub Records : Reply → ℕ → Recorded → Type 0
-Records (Allowed n hit value) at v = (at ≡ n) × (v ≡ recorded.Told AllowedVerdict)
-Records (Denied n cause line fault) at v = (c : Cause) × (cause_numbers c ≡ (cause, line, fault)) × (at ≡ n) × (v ≡ recorded.Told (DeniedVerdict c))
-Records (Refused n refusal) at v = (refusal ≡ 8) × (at ≡ n) × (v ≡ recorded.NoObject)
-Records (Down n line) at v = (at ≡ n) × (v ≡ recorded.Down line)
-Records _ at v = ⊥
-
--- an answer Yes or No, and those behind it; another one is none
-abbrev pub given_first : Answer → List Bool → List Bool
-given_first Yes later = true ∷ later
-given_first No later = false ∷ later
-given_first _ later = later
-
--- the answers Yes and No that were given to asks
-abbrev pub given_in : List Ask → List Bool
-given_in [] = []
-given_in (t ∷ ts) = given_first t.answer (given_in ts)
-
--- the record of a call
-abbrev pub record_of : ℕ → List ℕ → List ℕ → ℕ → Given → Recorded → Record
-record_of p op object at answers v = record { at = at; principal = p; op = op; object = object; answers = answers; verdict = v }
-
--- the record of the call is right over this history, with the answers that were given to these asks, and with answers that are not
--- known
+-- the record of the call is right over this history, at a length of it, with the answers that were given to these asks, and with answers
+-- that are not known
 pub record IsRightCall (h : Head) (es : List EntryTree) (p : ℕ) (op object : List ℕ) (asks : List Ask) (at : ℕ) (v : Recorded) : Type 0 where
+  pub within : at ≤ length es
   pub with_answers : IsRightRecord h es (record_of p op object at (Known (given_in asks)) v)
   pub without : IsRightRecord h es (record_of p op object at Unknown v)
 

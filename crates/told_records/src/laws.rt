@@ -1,5 +1,6 @@
 //! The laws between the service and the auditor, and between the service and peers.
 ghost use Rattle.told_records.specs.PeerSessions.{LonePeersSayLabels, PeersSayLabels};
+ghost use Rattle.told_records.specs.Recordings.{NoneIsLeftOut, OneBehindTheOther, RecordedIsRight};
 ghost use Rattle.told_records.specs.ToldRecords.{AloneIsRight, RepliesAreRight, ToldIsRight};
 
 /// Each reply of a call that a session is told makes a record that is right over the whole history: with the answers that
@@ -9,6 +10,16 @@ pub fn replies_make_right_records()
     ensures reply { RepliesAreRight }
     ensures session { ToldIsRight }
     ensures alone { AloneIsRight }
+{}
+
+/// What was recorded of a session over a policy that is read again as the program writes it: whole lines of records, each right over
+/// the whole history, and behind them at most one part of a line, where the sink failed. Where records are wanted, each call whose reply
+/// has a record has its line there, whole. And what two sessions had recorded, one behind the other, is such lines too. The call does
+/// nothing.
+pub fn recorded_lines_are_right()
+    ensures session { RecordedIsRight }
+    ensures each { NoneIsLeftOut }
+    ensures behind { OneBehindTheOther }
 {}
 
 /// Where a peer sends the requests of a bundle to a service, each entry that comes of it is that by which the peer says a label of the
