@@ -1,13 +1,13 @@
 -- A service that has finished.
 use Rattle.std.proofs.Common.{◌≡◌, ◌⊎◌, inl, inr, ◌<◌, ◌≤◌, ◌+◌, ◌*◌, ℕ, Bool, true, false, List, [], ◌∷◌, ◌++◌, length, take, drop, filter, refl, sym, ap, ◌∙◌, subst, arith, append_assoc, length-append}
 use Rattle.std.proofs.Math.Seq.{drop-append_seam}
-use Rattle.std.proofs.lemmas.List.Elements.{All-append, All-cons, All-head, All-map, All-nil, All-tail, All-weaker, Contains-append_right}
+use Rattle.std.proofs.lemmas.List.Elements.{All-append, All-cons, All-map, All-nil, All-weaker, Contains-append_right}
 use Rattle.std.specs.Prelude.{All, Contains, map, not, ◌==◌}
 use Rattle.std.proofs.lemmas.List.{append-nil}
 use Rattle.std.proofs.lemmas.Bool.{ne_eqb, eq-eqb}
 use mathlib.Core.Logic.{dite}
 use native.Mathlib.Decide.{ℕ_discrete}
-use Rattle.authority_ask.specs.PanelCalls.{PanelHistory}
+use Rattle.nexus_serve.specs.Means.{MeansHistory}
 use Rattle.nx_io.specs.Streams.{Rose}
 use Rattle.policy_history.specs.declared.events.Entry.{Entry}
 use Rattle.policy_history.specs.declared.heads.Head.{Head}
@@ -21,7 +21,7 @@ use Rattle.verdict_words.specs.Settling.{all_of}
 use Rattle.verdict_words.specs.Values.{Identity, PassValue}
 use Rattle.verdict_words.specs.declared.views.Item.TheVariants.{Met}
 use Rattle.policy_book.specs.Books.{BookValue, IsMetIn, session_of}
-use Rattle.session_core.specs.ToldLaws.{ToldStaysTold}
+use Rattle.session_core.specs.ToldLaws.{NotedStaysNoted}
 use Rattle.nexus_serve.specs.declared.closing.ServeEnd.{ServeEnd}
 use Rattle.nexus_serve.specs.declared.closing.ServeEnd.TheVariants.{Done, DoorFault, NoRoom}
 use Rattle.nexus_serve.specs.Views.{ReportView}
@@ -30,34 +30,30 @@ use Rattle.nexus_serve.specs.Services.{HasSeenAll, HaveOneOrder, IsServed, Serve
 use Rattle.nexus_serve.specs.Inner.Gathering.{gathered_all, nothing, pass_of}
 use Rattle.nexus_serve.specs.Inner.Joining.{IsMetBy, met_report, reports_of, unused_of}
 use Rattle.nexus_serve.specs.Inner.Reporting.{IsReported}
-use Rattle.nexus_serve.specs.Inner.Serving.{AreDone, doors_of, panels_of}
+use Rattle.nexus_serve.specs.Inner.Serving.{AreDone, doors_of, means_of}
 use Rattle.nexus_serve.specs.Inner.Working.{IsUnused, WorkerValue, end_of}
-use Rattle.nexus_serve.proofs.Gathering.{all_gathered, doors_gathered, panels_gathered, reports_gathered, some_failed, some_short, tells_all}
+use Rattle.nexus_serve.proofs.Gathering.{all_gathered, doors_gathered, means_gathered, reports_gathered, some_failed, some_short, tells_all}
 use Rattle.nexus_serve.proofs.Joining.{have_worked, of_reports, works_same}
-use Rattle.nexus_serve.proofs.Lists.{all_both, all_filter, all_left, all_right, all_unfilter, contains_unfilter}
+use Rattle.nexus_serve.proofs.Lists.{all_both, all_filter, all_left, all_right, all_unfilter, all_unmap, contains_unfilter}
 use Rattle.nexus_serve.proofs.Seeing.{own_within}
-
-all_unmap : {X Y : Type 0} (P : Y → Type 0) (f : X → Y) (xs : List X) → All P (map f xs) → All (λ x. P (f x)) xs
-all_unmap P f [] h = All-nil (λ x. P (f x))
-all_unmap P f (x ∷ xs) h = All-cons (λ x. P (f x)) x xs (All-head P (f x) (map f xs) h) (all_unmap P f xs (All-tail P (f x) (map f xs) h))
 
 same_sessions : (board : Identity Entry Head) (es : List Entry) (known : List AtomicStep) (reports : List ReportView) → sessions_of (map (met_report board es known) reports) ≡ sessions_of reports
 same_sessions board es known [] = refl
 same_sessions board es known (r ∷ rs) = ap (λ l. r.session ∷ l) (same_sessions board es known rs)
 
 -- the passes of all workers are as they were made where they were not used
-all_unused : {P : Type 0} (panel : P → PanelHistory) (board : Identity Entry Head) (first most : ℕ) (hired workers : List (WorkerValue P)) → AreDone panel board first most hired workers → All (IsUnused board) (unused_of workers)
-all_unused panel board first most [] [] stopped = All-nil (IsUnused board)
-all_unused panel board first most (j ∷ js) (w ∷ ws) (hired, stopped, others) = All-append (IsUnused board) w.passes (unused_of ws) stopped.unused (all_unused panel board (first + most) most js ws others)
-all_unused panel board first most [] (w ∷ ws) stopped = absurd stopped
-all_unused panel board first most (j ∷ js) [] stopped = absurd stopped
+all_unused : {M : Type 0} (history : M → MeansHistory) (board : Identity Entry Head) (first most : ℕ) (hired workers : List (WorkerValue M)) → AreDone history board first most hired workers → All (IsUnused board) (unused_of workers)
+all_unused history board first most [] [] stopped = All-nil (IsUnused board)
+all_unused history board first most (j ∷ js) (w ∷ ws) (hired, stopped, others) = All-append (IsUnused board) w.passes (unused_of ws) stopped.unused (all_unused history board (first + most) most js ws others)
+all_unused history board first most [] (w ∷ ws) stopped = absurd stopped
+all_unused history board first most (j ∷ js) [] stopped = absurd stopped
 
 -- a report's session is that of its pass
-all_same : {P : Type 0} (panel : P → PanelHistory) (board : Identity Entry Head) (first most : ℕ) (hired workers : List (WorkerValue P)) → AreDone panel board first most hired workers → All (λ (report : ReportView). report.pass.session ≡ report.session) (reports_of workers)
-all_same panel board first most [] [] stopped = All-nil (λ (report : ReportView). report.pass.session ≡ report.session)
-all_same panel board first most (j ∷ js) (w ∷ ws) (hired, stopped, others) = All-append (λ (report : ReportView). report.pass.session ≡ report.session) w.reports (reports_of ws) (works_same stopped.worked.works) (all_same panel board (first + most) most js ws others)
-all_same panel board first most [] (w ∷ ws) stopped = absurd stopped
-all_same panel board first most (j ∷ js) [] stopped = absurd stopped
+all_same : {M : Type 0} (history : M → MeansHistory) (board : Identity Entry Head) (first most : ℕ) (hired workers : List (WorkerValue M)) → AreDone history board first most hired workers → All (λ (report : ReportView). report.pass.session ≡ report.session) (reports_of workers)
+all_same history board first most [] [] stopped = All-nil (λ (report : ReportView). report.pass.session ≡ report.session)
+all_same history board first most (j ∷ js) (w ∷ ws) (hired, stopped, others) = All-append (λ (report : ReportView). report.pass.session ≡ report.session) w.reports (reports_of ws) (works_same stopped.worked.works) (all_same history board (first + most) most js ws others)
+all_same history board first most [] (w ∷ ws) stopped = absurd stopped
+all_same history board first most (j ∷ js) [] stopped = absurd stopped
 
 -- of a list that is a front and a rest, each of the rest has what is known of each behind the front
 all_behind : {E : Type 0} (P : E → Type 0) (low : ℕ) (whole front rest : List E) → whole ≡ front ++ rest → low ≤ length front → EachFrom low whole (λ before e. P e) → All P rest
@@ -66,9 +62,9 @@ all_behind P low whole front (e ∷ rest) is long each =
     let grown = length-append front (e ∷ []) in
     All-cons P e rest (each front e rest is long) (all_behind P low whole (front ++ e ∷ []) rest (is ∙ sym (append_assoc front (e ∷ []) rest)) (omega (arith, long, grown)) each)
 
-module _ {K P : Type 0} (panel : P → PanelHistory) (stays : ToldStaysTold) (book : BookValue K) (synced : ℕ) (served : ServedView P) (most : ℕ) (hired workers : List (WorkerValue P)) (places : ℕ)
-    (are_done : AreDone panel book.board book.board.origin.first most hired workers) (all_numbers : book.next ≡ book.board.origin.first + length workers * most)
-    (reported : IsReported book (gathered_all (nothing places) workers) served) (total : ℕ) (is_counted : All (λ (worker : WorkerValue P). worker.unrecorded ≤ total) workers) (is_failed : 0 < total → book.is_broken ≡ true) (first_is : book.board.origin.first ≡ greatest_of (entry_trees book.board.origin.opening) + 1) where
+module _ {K M : Type 0} (history : M → MeansHistory) (stays : NotedStaysNoted) (book : BookValue K) (synced : ℕ) (served : ServedView M) (most : ℕ) (hired workers : List (WorkerValue M)) (places : ℕ)
+    (are_done : AreDone history book.board book.board.origin.first most hired workers) (all_numbers : book.next ≡ book.board.origin.first + length workers * most)
+    (reported : IsReported book (gathered_all (nothing places) workers) served) (total : ℕ) (is_counted : All (λ (worker : WorkerValue M). worker.unrecorded ≤ total) workers) (is_failed : 0 < total → book.is_broken ≡ true) (first_is : book.board.origin.first ≡ greatest_of (entry_trees book.board.origin.opening) + 1) where
   abbrev board : Identity Entry Head
   board = book.board
 
@@ -108,14 +104,14 @@ module _ {K P : Type 0} (panel : P → PanelHistory) (stays : ToldStaysTold) (bo
   }
 
   seen : All (HasSeenAll es) (map (met_report board es known) reports)
-  seen = All-map (HasSeenAll es) (met_report board es known) reports (All-weaker (λ (report : ReportView). IsMetBy es report.pass × (report.pass.session ≡ report.session)) (λ (report : ReportView). HasSeenAll es (met_report board es known report)) seen_all reports (all_both (λ (report : ReportView). IsMetBy es report.pass) (λ (report : ReportView). report.pass.session ≡ report.session) reports met_by (all_same panel board board.origin.first most hired workers are_done)))
+  seen = All-map (HasSeenAll es) (met_report board es known) reports (All-weaker (λ (report : ReportView). IsMetBy es report.pass × (report.pass.session ≡ report.session)) (λ (report : ReportView). HasSeenAll es (met_report board es known report)) seen_all reports (all_both (λ (report : ReportView). IsMetBy es report.pass) (λ (report : ReportView). report.pass.session ≡ report.session) reports met_by (all_same history board board.origin.first most hired workers are_done)))
 
   -- no entry has the session of a pass that was not used
   no_entry : (pass : PassValue Entry Head) → IsMetIn book pass × IsUnused board pass → own session_of es pass.session ≡ []
   no_entry pass (is, un) = is.own_met ∙ ap (λ trail. own session_of (take (last_met trail) pass.seen) pass.session) un.trail
 
   no_entries : All (λ (pass : PassValue Entry Head). own session_of es pass.session ≡ []) unused
-  no_entries = All-weaker (λ (pass : PassValue Entry Head). IsMetIn book pass × IsUnused board pass) (λ (pass : PassValue Entry Head). own session_of es pass.session ≡ []) no_entry unused (all_both (IsMetIn book) (IsUnused board) unused (all_right (IsMetIn book) (map pass_of reports) unused met) (all_unused panel board board.origin.first most hired workers are_done))
+  no_entries = All-weaker (λ (pass : PassValue Entry Head). IsMetIn book pass × IsUnused board pass) (λ (pass : PassValue Entry Head). own session_of es pass.session ≡ []) no_entry unused (all_both (IsMetIn book) (IsUnused board) unused (all_right (IsMetIn book) (map pass_of reports) unused met) (all_unused history board board.origin.first most hired workers are_done))
 
   abbrev more : List Entry
   more = reported.numbered.begins.0
@@ -137,7 +133,7 @@ module _ {K P : Type 0} (panel : P → PanelHistory) (stays : ToldStaysTold) (bo
   in_all entry here = rw (opened) (Contains-append_right board.origin.opening more entry here)
 
   made : All (λ (entry : Entry). Contains (sessions_of (map (met_report board es known) reports)) entry.session) (drop (length board.origin.opening) es)
-  made = rw (behind, same_sessions board es known reports) (of_reports panel session_of more es board most board.origin.first hired workers are_done no_entries in_all bounds)
+  made = rw (behind, same_sessions board es known reports) (of_reports history session_of more es board most board.origin.first hired workers are_done no_entries in_all bounds)
 
   parts : All (λ (pass : PassValue Entry Head). told_of known pass.session ≡ trail_steps pass.session pass.trail) (map pass_of reports ++ unused)
   parts = subst (All (λ (pass : PassValue Entry Head). told_of known pass.session ≡ trail_steps pass.session pass.trail)) passes reported.order.own_steps
@@ -161,7 +157,7 @@ module _ {K P : Type 0} (panel : P → PanelHistory) (stays : ToldStaysTold) (bo
   unused_parts =
       All-weaker (λ (pass : PassValue Entry Head). (told_of known pass.session ≡ trail_steps pass.session pass.trail) × IsUnused board pass) (λ (pass : PassValue Entry Head). own (λ (step : AtomicStep). step.session) known pass.session ≡ []) unused_part unused
       (all_both (λ (pass : PassValue Entry Head). told_of known pass.session ≡ trail_steps pass.session pass.trail) (IsUnused board) unused
-      (all_right (λ (pass : PassValue Entry Head). told_of known pass.session ≡ trail_steps pass.session pass.trail) (map pass_of reports) unused parts) (all_unused panel board board.origin.first most hired workers are_done))
+      (all_right (λ (pass : PassValue Entry Head). told_of known pass.session ≡ trail_steps pass.session pass.trail) (map pass_of reports) unused parts) (all_unused history board board.origin.first most hired workers are_done))
 
   own_steps : All (λ (report : ReportView). told_of known report.session ≡ trail_steps report.session report.pass.trail) (map (met_report board es known) reports)
   own_steps =
@@ -171,7 +167,7 @@ module _ {K P : Type 0} (panel : P → PanelHistory) (stays : ToldStaysTold) (bo
       (all_both (λ (report : ReportView). told_of known report.pass.session ≡ trail_steps report.pass.session report.pass.trail) (λ (report : ReportView). report.pass.session ≡ report.session) reports
       (all_unmap (λ (pass : PassValue Entry Head). told_of known pass.session ≡ trail_steps pass.session pass.trail) pass_of reports
       (all_left (λ (pass : PassValue Entry Head). told_of known pass.session ≡ trail_steps pass.session pass.trail) (map pass_of reports) unused parts))
-      (all_same panel board board.origin.first most hired workers are_done)))
+      (all_same history board board.origin.first most hired workers are_done)))
 
   -- the steps of sessions are of sessions that were reported
   abbrev not_owners : AtomicStep → Bool
@@ -190,7 +186,7 @@ module _ {K P : Type 0} (panel : P → PanelHistory) (stays : ToldStaysTold) (bo
   within : All (λ (step : AtomicStep). (step.session ≡ 0) ⊎ Contains (sessions_of (map (met_report board es known) reports)) step.session) known
   within = All-weaker (λ (step : AtomicStep). not_owners step ≡ true → Contains (sessions_of reports) step.session) (λ (step : AtomicStep). (step.session ≡ 0) ⊎ Contains (sessions_of (map (met_report board es known) reports)) step.session) of_step known
       (all_unfilter not_owners (λ (step : AtomicStep). Contains (sessions_of reports) step.session) known
-      (of_reports panel (λ (step : AtomicStep). step.session) (filter not_owners known) known board most board.origin.first hired workers are_done unused_parts (λ step here. contains_unfilter not_owners known step here) in_range))
+      (of_reports history (λ (step : AtomicStep). step.session) (filter not_owners known) known board most board.origin.first hired workers are_done unused_parts (λ step here. contains_unfilter not_owners known step here) in_range))
     where
       of_step : (step : AtomicStep) → (not_owners step ≡ true → Contains (sessions_of reports) step.session) → (step.session ≡ 0) ⊎ Contains (sessions_of (map (met_report board es known) reports)) step.session
       of_step step there = dite (ℕ_discrete step.session 0) (λ zero. inl zero) (λ ne. inr (rw (same_sessions board es known reports) (there (ap not (ne_eqb step.session 0 ne)))))
@@ -222,31 +218,31 @@ module _ {K P : Type 0} (panel : P → PanelHistory) (stays : ToldStaysTold) (bo
   ends = by_ends (gathered_all (nothing places) workers).has_failed (gathered_all (nothing places) workers).lacks_room refl refl
     where
       by_ends : (has_failed lacks_room : Bool) → (gathered_all (nothing places) workers).has_failed ≡ has_failed → (gathered_all (nothing places) workers).lacks_room ≡ lacks_room → Ends
-      by_ends true lacks_room failed short = inr (inl (reported.end ∙ (λ i. end_of (failed i) (short i)), of_workers (some_failed panel board board.origin.first most (nothing places) hired workers are_done failed)))
-      by_ends false true failed short = inr (inr (reported.end ∙ (λ i. end_of (failed i) (short i)), of_workers (some_short panel board board.origin.first most (nothing places) hired workers are_done short)))
+      by_ends true lacks_room failed short = inr (inl (reported.end ∙ (λ i. end_of (failed i) (short i)), of_workers (some_failed history board board.origin.first most (nothing places) hired workers are_done failed)))
+      by_ends false true failed short = inr (inr (reported.end ∙ (λ i. end_of (failed i) (short i)), of_workers (some_short history board board.origin.first most (nothing places) hired workers are_done short)))
       by_ends false false failed short = inl (reported.end ∙ (λ i. end_of (failed i) (short i)))
 
   doors : served.doors ≡ doors_of workers
   doors = reported.doors ∙ doors_gathered (nothing places) workers
 
-  panels : served.panels ≡ panels_of workers
-  panels = reported.panels ∙ panels_gathered (nothing places) workers
+  means : served.means ≡ means_of workers
+  means = reported.means ∙ means_gathered (nothing places) workers
 
   -- the text has failed
   abbrev Failed : Type 0
   Failed = Rose book.start_faults reported.sink_now.faults
 
-  counted : All (λ (worker : WorkerValue P). 0 < worker.unrecorded → Failed) workers
-  counted = All-weaker (λ (worker : WorkerValue P). worker.unrecorded ≤ total) (λ (worker : WorkerValue P). 0 < worker.unrecorded → Failed)
+  counted : All (λ (worker : WorkerValue M). 0 < worker.unrecorded → Failed) workers
+  counted = All-weaker (λ (worker : WorkerValue M). worker.unrecorded ≤ total) (λ (worker : WorkerValue M). 0 < worker.unrecorded → Failed)
       (λ worker most some. reported.failed (is_failed (omega (arith, most, some)))) workers is_counted
 
-  worked : HaveWorked board.origin.setting (length board.origin.opening) 1 Failed served.end (greatest_of (entry_trees board.origin.opening) + 1) most (doors_of hired) (doors_of workers) (map panel (panels_of hired)) (map panel (panels_of workers)) (map (met_report board es known) reports)
+  worked : HaveWorked board.origin.setting (length board.origin.opening) 1 Failed served.end (greatest_of (entry_trees board.origin.opening) + 1) most (doors_of hired) (doors_of workers) (map history (means_of hired)) (map history (means_of workers)) (map (met_report board es known) reports)
   worked =
-      subst (λ n. HaveWorked board.origin.setting (length board.origin.opening) 1 Failed served.end n most (doors_of hired) (doors_of workers) (map panel (panels_of hired)) (map panel (panels_of workers)) (map (met_report board es known) reports)) first_is
-      (subst (λ b. HaveWorked board.origin.setting (length board.origin.opening) 1 Failed b board.origin.first most (doors_of hired) (doors_of workers) (map panel (panels_of hired)) (map panel (panels_of workers)) (map (met_report board es known) reports)) (sym reported.end)
-      (have_worked panel stays board es known Failed told most board.origin.first hired workers are_done (tells_all (nothing places) workers) counted met_by))
+      subst (λ n. HaveWorked board.origin.setting (length board.origin.opening) 1 Failed served.end n most (doors_of hired) (doors_of workers) (map history (means_of hired)) (map history (means_of workers)) (map (met_report board es known) reports)) first_is
+      (subst (λ b. HaveWorked board.origin.setting (length board.origin.opening) 1 Failed b board.origin.first most (doors_of hired) (doors_of workers) (map history (means_of hired)) (map history (means_of workers)) (map (met_report board es known) reports)) (sym reported.end)
+      (have_worked history stays board es known Failed told most board.origin.first hired workers are_done (tells_all (nothing places) workers) counted met_by))
 
-  is_served : IsServed board.origin.setting board.origin.opening es Failed most (doors_of hired) (doors_of workers) (map panel (panels_of hired)) (map panel (panels_of workers)) (map (met_report board es known) reports) served.end
+  is_served : IsServed board.origin.setting board.origin.opening es Failed most (doors_of hired) (doors_of workers) (map history (means_of hired)) (map history (means_of workers)) (map (met_report board es known) reports) served.end
   is_served = record {
     legal = reported.legal;
     begins = reported.numbered.begins;
@@ -257,12 +253,12 @@ module _ {K P : Type 0} (panel : P → PanelHistory) (stays : ToldStaysTold) (bo
     order = order;
   }
 
-  all_served : IsServed board.origin.setting board.origin.opening es Failed most (doors_of hired) served.doors (map panel (panels_of hired)) (map panel served.panels) served.reports served.end
+  all_served : IsServed board.origin.setting board.origin.opening es Failed most (doors_of hired) served.doors (map history (means_of hired)) (map history served.means) served.reports served.end
   all_served =
-      subst (λ ds. IsServed board.origin.setting board.origin.opening es Failed most (doors_of hired) ds (map panel (panels_of hired)) (map panel served.panels) served.reports served.end) (sym doors)
-      (subst (λ ps. IsServed board.origin.setting board.origin.opening es Failed most (doors_of hired) (doors_of workers) (map panel (panels_of hired)) (map panel ps) served.reports served.end) (sym panels)
-      (subst (λ rs. IsServed board.origin.setting board.origin.opening es Failed most (doors_of hired) (doors_of workers) (map panel (panels_of hired)) (map panel (panels_of workers)) rs served.end) (sym handed) is_served))
+      subst (λ ds. IsServed board.origin.setting board.origin.opening es Failed most (doors_of hired) ds (map history (means_of hired)) (map history served.means) served.reports served.end) (sym doors)
+      (subst (λ ps. IsServed board.origin.setting board.origin.opening es Failed most (doors_of hired) (doors_of workers) (map history (means_of hired)) (map history ps) served.reports served.end) (sym means)
+      (subst (λ rs. IsServed board.origin.setting board.origin.opening es Failed most (doors_of hired) (doors_of workers) (map history (means_of hired)) (map history (means_of workers)) rs served.end) (sym handed) is_served))
 
   -- what was reported is what a service hands back
-  pub finished : Serves panel most board.origin.setting board.origin.opening (record { sent = book.start; synced = synced; faults = book.start_faults }) (doors_of hired) (panels_of hired) served
+  pub finished : Serves history most board.origin.setting board.origin.opening (record { sent = book.start; synced = synced; faults = book.start_faults }) (doors_of hired) (means_of hired) served
   finished = done es reported.sink_now reported.journal reported.sink all_served reported.text reported.lasts

@@ -4,7 +4,7 @@ use Rattle.std.proofs.lemmas.List.{length-map, map-append}
 use Rattle.std.proofs.lemmas.List.Elements.{All-append, All-head, All-map, All-nil, All-tail, All-weaker}
 use Rattle.std.specs.Prelude.{All, map, ◌||◌}
 use Rattle.std.specs.declared.vec.Vec.{Vec}
-use Rattle.authority_ask.specs.PanelCalls.{PanelHistory}
+use Rattle.nexus_serve.specs.Means.{MeansHistory}
 use Rattle.policy_history.specs.declared.events.Entry.{Entry}
 use Rattle.policy_history.specs.declared.heads.Head.{Head}
 use Rattle.verdict_words.specs.declared.views.AtomicStep.{AtomicStep}
@@ -16,7 +16,7 @@ use Rattle.nexus_serve.specs.Views.{DoorView, ReportView, SessionView, joined, w
 use Rattle.nexus_serve.specs.Workers.{IsCutShort, SomeCutShort, SomeFailed}
 use Rattle.nexus_serve.specs.Inner.Gathering.{GatheredValue, gathered_all, gathered_from, joined_each, nothing, pass_of, session_of}
 use Rattle.nexus_serve.specs.Inner.Joining.{met_report, reports_of, unused_of}
-use Rattle.nexus_serve.specs.Inner.Serving.{AreDone, AreOfBoard, doors_of, panels_of}
+use Rattle.nexus_serve.specs.Inner.Serving.{AreDone, AreOfBoard, doors_of, means_of}
 use Rattle.nexus_serve.specs.Inner.Working.{IsUnused, WorkerValue, end_of}
 
 -- ---- Reports, by their parts
@@ -50,36 +50,36 @@ joined_last (s ∷ ss) (p ∷ ps) session pass same = ap (λ l. with_pass s p �
 
 -- ---- What all workers leave
 
-pub doors_gathered : {P : Type 0} (g : GatheredValue P) (workers : List (WorkerValue P)) → (gathered_all g workers).doors ≡ g.doors ++ doors_of workers
+pub doors_gathered : {M : Type 0} (g : GatheredValue M) (workers : List (WorkerValue M)) → (gathered_all g workers).doors ≡ g.doors ++ doors_of workers
 doors_gathered g [] = sym (append-nil g.doors)
 doors_gathered g (w ∷ ws) = doors_gathered (gathered_from g w) ws ∙ append_assoc g.doors (w.door ∷ []) (doors_of ws)
 
-pub panels_gathered : {P : Type 0} (g : GatheredValue P) (workers : List (WorkerValue P)) → (gathered_all g workers).panels ≡ g.panels ++ panels_of workers
-panels_gathered g [] = sym (append-nil g.panels)
-panels_gathered g (w ∷ ws) = panels_gathered (gathered_from g w) ws ∙ append_assoc g.panels (w.panel ∷ []) (panels_of ws)
+pub means_gathered : {M : Type 0} (g : GatheredValue M) (workers : List (WorkerValue M)) → (gathered_all g workers).means ≡ g.means ++ means_of workers
+means_gathered g [] = sym (append-nil g.means)
+means_gathered g (w ∷ ws) = means_gathered (gathered_from g w) ws ∙ append_assoc g.means (w.means ∷ []) (means_of ws)
 
-pub sessions_gathered : {P : Type 0} (g : GatheredValue P) (workers : List (WorkerValue P)) → (gathered_all g workers).sessions ≡ g.sessions ++ map (λ (worker : WorkerValue P). map session_of worker.reports) workers
+pub sessions_gathered : {M : Type 0} (g : GatheredValue M) (workers : List (WorkerValue M)) → (gathered_all g workers).sessions ≡ g.sessions ++ map (λ (worker : WorkerValue M). map session_of worker.reports) workers
 sessions_gathered g [] = sym (append-nil g.sessions)
 sessions_gathered g (w ∷ ws) = sessions_gathered (gathered_from g w) ws ∙ append_assoc g.sessions (map session_of w.reports ∷ []) (map (λ worker. map session_of worker.reports) ws)
 
-pub used_gathered : {P : Type 0} (g : GatheredValue P) (workers : List (WorkerValue P)) → (gathered_all g workers).used ≡ g.used ++ map (λ (worker : WorkerValue P). map pass_of worker.reports) workers
+pub used_gathered : {M : Type 0} (g : GatheredValue M) (workers : List (WorkerValue M)) → (gathered_all g workers).used ≡ g.used ++ map (λ (worker : WorkerValue M). map pass_of worker.reports) workers
 used_gathered g [] = sym (append-nil g.used)
 used_gathered g (w ∷ ws) = used_gathered (gathered_from g w) ws ∙ append_assoc g.used (map pass_of w.reports ∷ []) (map (λ worker. map pass_of worker.reports) ws)
 
-pub unused_gathered : {P : Type 0} (g : GatheredValue P) (workers : List (WorkerValue P)) → (gathered_all g workers).unused ≡ g.unused ++ map (λ (worker : WorkerValue P). worker.passes) workers
+pub unused_gathered : {M : Type 0} (g : GatheredValue M) (workers : List (WorkerValue M)) → (gathered_all g workers).unused ≡ g.unused ++ map (λ (worker : WorkerValue M). worker.passes) workers
 unused_gathered g [] = sym (append-nil g.unused)
 unused_gathered g (w ∷ ws) = unused_gathered (gathered_from g w) ws ∙ append_assoc g.unused (w.passes ∷ []) (map (λ worker. worker.passes) ws)
 
-flat_used : {P : Type 0} (workers : List (WorkerValue P)) → flat (map (λ (worker : WorkerValue P). map pass_of worker.reports) workers) ≡ map pass_of (reports_of workers)
+flat_used : {M : Type 0} (workers : List (WorkerValue M)) → flat (map (λ (worker : WorkerValue M). map pass_of worker.reports) workers) ≡ map pass_of (reports_of workers)
 flat_used [] = refl
 flat_used (w ∷ ws) = ap (λ l. map pass_of w.reports ++ l) (flat_used ws) ∙ sym (map-append pass_of w.reports (reports_of ws))
 
-flat_unused : {P : Type 0} (workers : List (WorkerValue P)) → flat (map (λ (worker : WorkerValue P). worker.passes) workers) ≡ unused_of workers
+flat_unused : {M : Type 0} (workers : List (WorkerValue M)) → flat (map (λ (worker : WorkerValue M). worker.passes) workers) ≡ unused_of workers
 flat_unused [] = refl
 flat_unused (w ∷ ws) = ap (λ l. w.passes ++ l) (flat_unused ws)
 
 -- the passes of all workers: those of the reports, and those that were not used
-pub all_gathered : {P : Type 0} (places : ℕ) (workers : List (WorkerValue P))
+pub all_gathered : {M : Type 0} (places : ℕ) (workers : List (WorkerValue M))
     → all_of (gathered_all (nothing places) workers).used (gathered_all (nothing places) workers).unused ≡ map pass_of (reports_of workers) ++ unused_of workers
 all_gathered places workers =
     ap (λ used. all_of used (gathered_all (nothing places) workers).unused) (used_gathered (nothing places) workers)
@@ -93,13 +93,13 @@ joined_met : (board : Identity Entry Head) (es : List Entry) (known : List Atomi
 joined_met board es known [] = refl
 joined_met board es known (r ∷ rs) = ap (λ xs. met_report board es known r ∷ xs) (joined_met board es known rs)
 
-each_met : {P : Type 0} (board : Identity Entry Head) (es : List Entry) (known : List AtomicStep) (workers : List (WorkerValue P))
-    → flat (joined_each (map (λ (worker : WorkerValue P). map session_of worker.reports) workers) (map (all_met board es known) (map (λ (worker : WorkerValue P). map pass_of worker.reports) workers)))
+each_met : {M : Type 0} (board : Identity Entry Head) (es : List Entry) (known : List AtomicStep) (workers : List (WorkerValue M))
+    → flat (joined_each (map (λ (worker : WorkerValue M). map session_of worker.reports) workers) (map (all_met board es known) (map (λ (worker : WorkerValue M). map pass_of worker.reports) workers)))
     ≡ map (met_report board es known) (reports_of workers)
 each_met board es known [] = refl
 each_met board es known (w ∷ ws) = (λ i. joined_met board es known w.reports i ++ each_met board es known ws i) ∙ sym (map-append (met_report board es known) w.reports (reports_of ws))
 
-pub reports_gathered : {P : Type 0} (board : Identity Entry Head) (es : List Entry) (known : List AtomicStep) (places : ℕ) (workers : List (WorkerValue P))
+pub reports_gathered : {M : Type 0} (board : Identity Entry Head) (es : List Entry) (known : List AtomicStep) (places : ℕ) (workers : List (WorkerValue M))
     → flat (joined_each (gathered_all (nothing places) workers).sessions (map (all_met board es known) (gathered_all (nothing places) workers).used)) ≡ map (met_report board es known) (reports_of workers)
 reports_gathered board es known places workers =
     ap (λ sessions. flat (joined_each sessions (map (all_met board es known) (gathered_all (nothing places) workers).used))) (sessions_gathered (nothing places) workers)
@@ -133,11 +133,11 @@ or_either : (b c : Bool) → (b || c) ≡ true → (b ≡ true) ⊎ (c ≡ true)
 or_either true c is = inl refl
 or_either false c is = inr is
 
-failed_stays : {P : Type 0} (g : GatheredValue P) (workers : List (WorkerValue P)) → g.has_failed ≡ true → (gathered_all g workers).has_failed ≡ true
+failed_stays : {M : Type 0} (g : GatheredValue M) (workers : List (WorkerValue M)) → g.has_failed ≡ true → (gathered_all g workers).has_failed ≡ true
 failed_stays g [] is = is
 failed_stays g (w ∷ ws) is = failed_stays (gathered_from g w) ws (or_true g.has_failed w.has_failed is)
 
-short_stays : {P : Type 0} (g : GatheredValue P) (workers : List (WorkerValue P)) → g.lacks_room ≡ true → (gathered_all g workers).lacks_room ≡ true
+short_stays : {M : Type 0} (g : GatheredValue M) (workers : List (WorkerValue M)) → g.lacks_room ≡ true → (gathered_all g workers).lacks_room ≡ true
 short_stays g [] is = is
 short_stays g (w ∷ ws) is = short_stays (gathered_from g w) ws (or_true g.lacks_room w.lacks_room is)
 
@@ -160,11 +160,11 @@ want_told false true false false failed short other = absurd (cc (short refl))
 want_told false false failed_too short_too failed short other = absurd (other refl)
 
 -- it is told of all where it is of one
-abbrev pub TellsAll : {P : Type 0} → ServeEnd → List (WorkerValue P) → Type 0
+abbrev pub TellsAll : {M : Type 0} → ServeEnd → List (WorkerValue M) → Type 0
 TellsAll end [] = Unit {0}
 TellsAll end (w ∷ ws) = (end_of w.has_failed w.lacks_room ≡ DoorFault → end ≡ DoorFault) × (end_of w.has_failed w.lacks_room ≢ Done → end ≢ Done) × TellsAll end ws
 
-pub tells_all : {P : Type 0} (g : GatheredValue P) (workers : List (WorkerValue P)) → TellsAll (end_of (gathered_all g workers).has_failed (gathered_all g workers).lacks_room) workers
+pub tells_all : {M : Type 0} (g : GatheredValue M) (workers : List (WorkerValue M)) → TellsAll (end_of (gathered_all g workers).has_failed (gathered_all g workers).lacks_room) workers
 tells_all g [] = tt
 tells_all g (w ∷ ws) =
     let failed : w.has_failed ≡ true → (gathered_all (gathered_from g w) ws).has_failed ≡ true = λ is. failed_stays (gathered_from g w) ws (or_last g.has_failed w.has_failed is) in
@@ -175,10 +175,10 @@ tells_all g (w ∷ ws) =
     )
 
 -- where it is told, a door has failed
-pub some_failed : {P : Type 0} (panel : P → PanelHistory) (board : Identity Entry Head) (first most : ℕ) (g : GatheredValue P) (hired workers : List (WorkerValue P)) → AreDone panel board first most hired workers
+pub some_failed : {M : Type 0} (history : M → MeansHistory) (board : Identity Entry Head) (first most : ℕ) (g : GatheredValue M) (hired workers : List (WorkerValue M)) → AreDone history board first most hired workers
     → (gathered_all g workers).has_failed ≡ true → (g.has_failed ≡ true) ⊎ SomeFailed (doors_of hired) (doors_of workers)
-some_failed panel board first most g [] [] done is = inl is
-some_failed panel board first most g (j ∷ js) (w ∷ ws) done is = of_rest (some_failed panel board (first + most) most (gathered_from g w) js ws done.2 is)
+some_failed history board first most g [] [] done is = inl is
+some_failed history board first most g (j ∷ js) (w ∷ ws) done is = of_rest (some_failed history board (first + most) most (gathered_from g w) js ws done.2 is)
   where
     of_rest : ((g.has_failed || w.has_failed) ≡ true) ⊎ SomeFailed (doors_of js) (doors_of ws) → (g.has_failed ≡ true) ⊎ SomeFailed (doors_of (j ∷ js)) (doors_of (w ∷ ws))
     of_rest (inr later) = inr (inr later)
@@ -187,14 +187,14 @@ some_failed panel board first most g (j ∷ js) (w ∷ ws) done is = of_rest (so
         of_here : (g.has_failed ≡ true) ⊎ (w.has_failed ≡ true) → (g.has_failed ≡ true) ⊎ SomeFailed (doors_of (j ∷ js)) (doors_of (w ∷ ws))
         of_here (inl before) = inl before
         of_here (inr now) = inr (inl (done.1.fault now))
-some_failed panel board first most g [] (w ∷ ws) done is = absurd done
-some_failed panel board first most g (j ∷ js) [] done is = absurd done
+some_failed history board first most g [] (w ∷ ws) done is = absurd done
+some_failed history board first most g (j ∷ js) [] done is = absurd done
 
 -- where it is told that there was no memory, a worker has stopped for that
-pub some_short : {P : Type 0} (panel : P → PanelHistory) (board : Identity Entry Head) (first most : ℕ) (g : GatheredValue P) (hired workers : List (WorkerValue P)) → AreDone panel board first most hired workers
+pub some_short : {M : Type 0} (history : M → MeansHistory) (board : Identity Entry Head) (first most : ℕ) (g : GatheredValue M) (hired workers : List (WorkerValue M)) → AreDone history board first most hired workers
     → (gathered_all g workers).lacks_room ≡ true → (g.lacks_room ≡ true) ⊎ SomeCutShort most (doors_of hired) (doors_of workers)
-some_short panel board first most g [] [] done is = inl is
-some_short panel board first most g (j ∷ js) (w ∷ ws) done is = of_rest (some_short panel board (first + most) most (gathered_from g w) js ws done.2 is)
+some_short history board first most g [] [] done is = inl is
+some_short history board first most g (j ∷ js) (w ∷ ws) done is = of_rest (some_short history board (first + most) most (gathered_from g w) js ws done.2 is)
   where
     of_rest : ((g.lacks_room || w.lacks_room) ≡ true) ⊎ SomeCutShort most (doors_of js) (doors_of ws) → (g.lacks_room ≡ true) ⊎ SomeCutShort most (doors_of (j ∷ js)) (doors_of (w ∷ ws))
     of_rest (inr later) = inr (inr later)
@@ -203,16 +203,16 @@ some_short panel board first most g (j ∷ js) (w ∷ ws) done is = of_rest (som
         of_here : (g.lacks_room ≡ true) ⊎ (w.lacks_room ≡ true) → (g.lacks_room ≡ true) ⊎ SomeCutShort most (doors_of (j ∷ js)) (doors_of (w ∷ ws))
         of_here (inl before) = inl before
         of_here (inr now) = inr (inl (subst (λ n. IsCutShort n j.door w.door) done.0.count (done.1.short now)))
-some_short panel board first most g [] (w ∷ ws) done is = absurd done
-some_short panel board first most g (j ∷ js) [] done is = absurd done
+some_short history board first most g [] (w ∷ ws) done is = absurd done
+some_short history board first most g (j ∷ js) [] done is = absurd done
 
 -- ---- The parts
 
 -- what was gathered is told by its parts
-pub gathered_same : {P : Type 0} {doors doors_too : List DoorView} {panels panels_too : List P} {sessions sessions_too : List (List SessionView)} {used used_too unused unused_too : List (List (PassValue Entry Head))}
-    {b b_too c c_too : Bool} {places places_too : ℕ} → doors ≡ doors_too → panels ≡ panels_too → sessions ≡ sessions_too → used ≡ used_too → unused ≡ unused_too → b ≡ b_too → c ≡ c_too → places ≡ places_too
-    → ◌≡◌ {A = GatheredValue P} (record { doors = doors; panels = panels; sessions = sessions; used = used; unused = unused; has_failed = b; lacks_room = c; places = places })
-    (record { doors = doors_too; panels = panels_too; sessions = sessions_too; used = used_too; unused = unused_too; has_failed = b_too; lacks_room = c_too; places = places_too })
+pub gathered_same : {M : Type 0} {doors doors_too : List DoorView} {means means_too : List M} {sessions sessions_too : List (List SessionView)} {used used_too unused unused_too : List (List (PassValue Entry Head))}
+    {b b_too c c_too : Bool} {places places_too : ℕ} → doors ≡ doors_too → means ≡ means_too → sessions ≡ sessions_too → used ≡ used_too → unused ≡ unused_too → b ≡ b_too → c ≡ c_too → places ≡ places_too
+    → ◌≡◌ {A = GatheredValue M} (record { doors = doors; means = means; sessions = sessions; used = used; unused = unused; has_failed = b; lacks_room = c; places = places })
+    (record { doors = doors_too; means = means_too; sessions = sessions_too; used = used_too; unused = unused_too; has_failed = b_too; lacks_room = c_too; places = places_too })
 gathered_same d p s u n f l m = rw (d, p, s, u, n, f, l, m) refl
 
 -- a pass of this board
@@ -220,20 +220,20 @@ abbrev pub IsOfBoard : Identity Entry Head → PassValue Entry Head → Type 0
 IsOfBoard board pass = pass.board ≡ board
 
 -- all passes that were gathered are of the board
-module _ {P : Type 0} (board : Identity Entry Head) where
-  used_of_board : (workers : List (WorkerValue P)) → All (AreOfBoard board) workers → All (λ (report : ReportView). report.pass.board ≡ board) (reports_of workers)
+module _ {M : Type 0} (board : Identity Entry Head) where
+  used_of_board : (workers : List (WorkerValue M)) → All (AreOfBoard board) workers → All (λ (report : ReportView). report.pass.board ≡ board) (reports_of workers)
   used_of_board [] all = All-nil (λ (report : ReportView). report.pass.board ≡ board)
   used_of_board (w ∷ ws) all =
       let here = All-head (AreOfBoard board) w ws all in
       All-append (λ (report : ReportView). report.pass.board ≡ board) w.reports (reports_of ws) here.used (used_of_board ws (All-tail (AreOfBoard board) w ws all))
 
-  unused_of_board : (workers : List (WorkerValue P)) → All (AreOfBoard board) workers → All (IsOfBoard board) (unused_of workers)
+  unused_of_board : (workers : List (WorkerValue M)) → All (AreOfBoard board) workers → All (IsOfBoard board) (unused_of workers)
   unused_of_board [] all = All-nil (IsOfBoard board)
   unused_of_board (w ∷ ws) all =
       let here = All-head (AreOfBoard board) w ws all in
       All-append (IsOfBoard board) w.passes (unused_of ws) (All-weaker (IsUnused board) (IsOfBoard board) (λ pass un. un.board_is) w.passes here.unused) (unused_of_board ws (All-tail (AreOfBoard board) w ws all))
 
-  pub all_of_board : (places : ℕ) (workers : List (WorkerValue P)) → All (AreOfBoard board) workers → All (IsOfBoard board) (all_of (gathered_all (nothing places) workers).used (gathered_all (nothing places) workers).unused)
+  pub all_of_board : (places : ℕ) (workers : List (WorkerValue M)) → All (AreOfBoard board) workers → All (IsOfBoard board) (all_of (gathered_all (nothing places) workers).used (gathered_all (nothing places) workers).unused)
   all_of_board places workers all =
       subst (All (IsOfBoard board)) (sym (all_gathered places workers))
       (All-append (IsOfBoard board) (map pass_of (reports_of workers)) (unused_of workers) (All-map (IsOfBoard board) pass_of (reports_of workers) (used_of_board workers all)) (unused_of_board workers all))

@@ -4,7 +4,7 @@ use Rattle.std.proofs.Math.Seq.{take-append_seam}
 use Rattle.std.proofs.lemmas.List.{map-append, length-map}
 use Rattle.nexus_serve.proofs.Lists.{all_left, all_last}
 use Rattle.std.specs.Prelude.{All, map}
-use Rattle.authority_ask.specs.PanelCalls.{PanelHistory}
+use Rattle.nexus_serve.specs.Means.{MeansHistory}
 use Rattle.policy_history.specs.declared.events.Entry.{Entry}
 use Rattle.policy_history.specs.declared.heads.Head.{Head}
 use Rattle.policy_history.specs.Values.{entry_trees}
@@ -12,7 +12,10 @@ use Rattle.verdict_words.specs.declared.views.AtomicStep.{AtomicStep}
 use Rattle.verdict_words.specs.Values.{Identity}
 use Rattle.verdict_words.specs.declared.views.Item.{Item}
 use Rattle.verdict_words.specs.declared.views.Item.TheVariants.{Met}
-use Rattle.session_core.specs.ToldLaws.{ToldStaysTold}
+use Rattle.authority_ask.specs.PanelCalls.{asked_since}
+use Rattle.policy_history.specs.Events.{EntryTree}
+use Rattle.session_core.specs.Records.{IsToldAndNoted}
+use Rattle.session_core.specs.ToldLaws.{NotedStaysNoted}
 use Rattle.nexus_serve.specs.declared.closing.ServeEnd.{ServeEnd}
 use Rattle.nexus_serve.specs.declared.closing.ServeEnd.TheVariants.{Done, DoorFault}
 use Rattle.nexus_serve.specs.Views.{DoorView, LinkView, ReportView}
@@ -30,15 +33,19 @@ but_one trail item =
     let short : length (trail ++ item ∷ []) - 1 ≡ length trail = omega (arith, long) in
     ap (λ n. take n (trail ++ item ∷ [])) short ∙ take-append_seam trail (item ∷ [])
 
-module _ (stays : ToldStaysTold) (board : Identity Entry Head) (es : List Entry) (known : List AtomicStep) (h : Head) (low : ℕ) (Failed : Type 0) where
+module _ (stays : NotedStaysNoted) (board : Identity Entry Head) (es : List Entry) (known : List AtomicStep) (h : Head) (low : ℕ) (Failed : Type 0) where
   -- a session, once its pass was met again
-  heard_met : (report : ReportView) (panel panel_now : PanelHistory) → IsMetBy es report.pass → IsHeard h low 0 Failed report panel panel_now → IsHeard h low 1 Failed (met_report board es known report) panel panel_now
-  heard_met report panel panel_now met heard =
+  heard_met : (report : ReportView) (means means_now : MeansHistory) → IsMetBy es report.pass → IsHeard h low 0 Failed report means means_now → IsHeard h low 1 Failed (met_report board es known report) means means_now
+  heard_met report means means_now met heard =
       let served = heard.served in
       let trail = report.pass.trail in
       let more = met.seen.0 in
       let trees : entry_trees es ≡ entry_trees report.pass.seen ++ entry_trees more = ap entry_trees met.seen.1 ∙ map-append _ report.pass.seen more in
-      let grown = stays h (entry_trees report.pass.seen) (entry_trees more) report.session low served.requests served.replies _ _ served.last served.told in
+      let last = trail ++ Met (length es) ∷ [] in
+      let asks = asked_since means.panel means_now.panel in
+      let Both = λ (seen : List EntryTree) (steps : List Item). IsToldAndNoted h seen report.session low served.requests served.replies asks steps served.last means.kept means_now.kept in
+      let grown : Both (entry_trees report.pass.seen ++ entry_trees more) (take (length trail - 0) trail) = stays h (entry_trees report.pass.seen) (entry_trees more) report.session low served.requests served.replies asks _ served.last means.kept means_now.kept (served.told, served.noted) in
+      let whole : Both (entry_trees es) (take (length last - 1) last) = subst (λ seen. Both seen (take (length last - 1) last)) (sym trees) (subst (Both (entry_trees report.pass.seen ++ entry_trees more)) (all_of trail ∙ sym (but_one trail (Met (length es)))) grown) in
       record {
         asked = heard.asked;
         served = record {
@@ -46,7 +53,8 @@ module _ (stays : ToldStaysTold) (board : Identity Entry Head) (es : List Entry)
           replies = served.replies;
           last = served.last;
           ended = served.ended;
-          told = rw (but_one trail (Met (length es)), trees, ← all_of trail) grown;
+          told = whole.0;
+          noted = whole.1;
           who_is = served.who_is;
         };
         recorded = heard.recorded;
@@ -56,25 +64,25 @@ module _ (stays : ToldStaysTold) (board : Identity Entry Head) (es : List Entry)
   from_met report link from = record { bytes = from.bytes; place = from.place; toward = from.toward; over = from.over; closed = from.closed; admitted = from.admitted; faults = from.faults }
 
   -- all sessions of a worker, once their passes were met again
-  works_met : (first : ℕ) (door : DoorView) (panel : PanelHistory) (reports : List ReportView) (door_now : DoorView) (panel_now : PanelHistory)
-      → Works h low 0 Failed first door panel reports door_now panel_now → All (λ (report : ReportView). IsMetBy es report.pass) reports
-      → Works h low 1 Failed first door panel (map (met_report board es known) reports) door_now panel_now
-  works_met first door panel _ _ _ nobody met = nobody
-  works_met first door panel _ _ _ (next {reports} {door_then} {panel_then} report link door_now panel_now works answered from (number, same) heard) met =
+  works_met : (first : ℕ) (door : DoorView) (means : MeansHistory) (reports : List ReportView) (door_now : DoorView) (means_now : MeansHistory)
+      → Works h low 0 Failed first door means reports door_now means_now → All (λ (report : ReportView). IsMetBy es report.pass) reports
+      → Works h low 1 Failed first door means (map (met_report board es known) reports) door_now means_now
+  works_met first door means _ _ _ nobody met = nobody
+  works_met first door means _ _ _ (next {reports} {door_then} {means_then} report link door_now means_now works answered from (number, same) heard) met =
       let before = all_left (λ (report : ReportView). IsMetBy es report.pass) reports (report ∷ []) met in
       let last = all_last (λ (report : ReportView). IsMetBy es report.pass) reports report met in
       let place : report.session ≡ first + length (map (met_report board es known) reports) = number ∙ ap (λ n. first + n) (sym (length-map reports (met_report board es known))) in
       rw (map-append (met_report board es known) reports (report ∷ []))
-      (next (met_report board es known report) link door_now panel_now (works_met first door panel reports door_then panel_then works before) answered (from_met report link from) (place, same)
-      (heard_met report panel_then panel_now last heard))
+      (next (met_report board es known report) link door_now means_now (works_met first door means reports door_then means_then works before) answered (from_met report link from) (place, same)
+      (heard_met report means_then means_now last heard))
 
   -- A worker that has stopped, once the passes were met again. How it ended may be told of more workers than of it
-  pub worked_met : (own end : ServeEnd) (first most : ℕ) (door door_now : DoorView) (panel panel_now : PanelHistory) (reports : List ReportView)
-      → (own ≡ DoorFault → end ≡ DoorFault) → (own ≢ Done → end ≢ Done) → HasWorked h low 0 Failed own first most door door_now panel panel_now reports
-      → All (λ (report : ReportView). IsMetBy es report.pass) reports → HasWorked h low 1 Failed end first most door door_now panel panel_now (map (met_report board es known) reports)
-  worked_met own end first most door door_now panel panel_now reports fault short worked met = record {
+  pub worked_met : (own end : ServeEnd) (first most : ℕ) (door door_now : DoorView) (means means_now : MeansHistory) (reports : List ReportView)
+      → (own ≡ DoorFault → end ≡ DoorFault) → (own ≢ Done → end ≢ Done) → HasWorked h low 0 Failed own first most door door_now means means_now reports
+      → All (λ (report : ReportView). IsMetBy es report.pass) reports → HasWorked h low 1 Failed end first most door door_now means means_now (map (met_report board es known) reports)
+  worked_met own end first most door door_now means means_now reports fault short worked met = record {
     door_then = worked.door_then;
-    works = works_met first door panel reports worked.door_then panel_now worked.works met;
+    works = works_met first door means reports worked.door_then means_now worked.works met;
     stops = stops_met worked.stops;
   }
     where

@@ -3,6 +3,7 @@ mod Working
 mod Numbering
 mod Seating
 mod Readiness
+mod Recorders
 mod Lists
 mod Growing
 mod Gathering

@@ -2,7 +2,7 @@
 use Rattle.std.proofs.Common.{◌≡◌, Bool, true, false, List, [], ◌∷◌, ◌++◌, length, cond, filter, refl, sym, ◌∙◌, subst}
 use Rattle.std.proofs.Math.Seq.{take-append_seam}
 use Rattle.std.proofs.lemmas.List.Elements.{All-cons, All-contains, All-contains_itself, All-head, All-nil, All-tail, All-take, All-weaker}
-use Rattle.std.specs.Prelude.{All, Contains}
+use Rattle.std.specs.Prelude.{All, Contains, map}
 
 module _ {X : Type 0} (P : X → Type 0) where
   -- what holds of a list holds of its front
@@ -49,3 +49,8 @@ module _ {X : Type 0} (f : X → Bool) (P : X → Type 0) where
 pub contains_unfilter : {X : Type 0} (f : X → Bool) (xs : List X) (x : X) → Contains (filter f xs) x → Contains xs x
 contains_unfilter f xs x here =
     All-contains (Contains xs) (filter f xs) x (all_filter f (Contains xs) xs (All-weaker (Contains xs) (λ y. f y ≡ true → Contains xs y) (λ y h kept. h) xs (All-contains_itself xs))) here
+
+-- what holds of each image holds so of each
+pub all_unmap : {X Y : Type 0} (P : Y → Type 0) (f : X → Y) (xs : List X) → All P (map f xs) → All (λ x. P (f x)) xs
+all_unmap P f [] h = All-nil (λ x. P (f x))
+all_unmap P f (x ∷ xs) h = All-cons (λ x. P (f x)) x xs (All-head P (f x) (map f xs) h) (all_unmap P f xs (All-tail P (f x) (map f xs) h))

@@ -4,7 +4,7 @@ use Rattle.std.proofs.Math.Nat.{mul-le-mul_right, suc-mul}
 use Rattle.std.proofs.lemmas.List.Elements.{All-cons, All-head, All-nil, All-tail}
 use Rattle.std.specs.Prelude.{All, slice_index_or}
 use Rattle.policy_history.specs.declared.events.Entry.{Entry}
-use Rattle.authority_ask.specs.PanelCalls.{PanelHistory}
+use Rattle.nexus_serve.specs.Means.{MeansHistory}
 use Rattle.policy_history.specs.declared.heads.Head.{Head}
 use Rattle.verdict_words.specs.declared.views.AtomicStep.{AtomicStep}
 use Rattle.verdict_words.specs.Values.{Identity, PassValue, enrolled}
@@ -67,31 +67,31 @@ room_for_one first k n most bound all fewer =
     omega (arith, all, next, within)
 
 -- each of the hired was hired from its own first session on
-pub each_hired : {P : Type 0} (board : Identity Entry Head) (first most : ℕ) (workers : List (WorkerValue P)) → AreHired board first most workers
-    → All (λ (worker : WorkerValue P). IsHired board worker.first (length worker.passes) worker) workers
+pub each_hired : {M : Type 0} (board : Identity Entry Head) (first most : ℕ) (workers : List (WorkerValue M)) → AreHired board first most workers
+    → All (λ (worker : WorkerValue M). IsHired board worker.first (length worker.passes) worker) workers
 each_hired board first most [] hired = All-nil (λ worker. IsHired board worker.first (length worker.passes) worker)
 each_hired board first most (w ∷ ws) hired =
     let here : IsHired board w.first (length w.passes) w = subst (λ n. IsHired board n (length w.passes) w) (sym hired.0.first_is) (subst (λ n. IsHired board first n w) (sym hired.0.count) hired.0) in
     All-cons (λ worker. IsHired board worker.first (length worker.passes) worker) w ws here (each_hired board (first + most) most ws hired.1)
 
 -- the hired are done where each of them is
-pub all_done : {P : Type 0} (panel : P → PanelHistory) (board : Identity Entry Head) (first most : ℕ) (hired workers : List (WorkerValue P)) → AreHired board first most hired → length workers ≡ length hired
-    → ((i : ℕ) (d : WorkerValue P) → i < length hired → IsDone panel board (slice_index_or workers i d).unrecorded (slice_index_or hired i d) (slice_index_or workers i d)) → AreDone panel board first most hired workers
-all_done panel board first most [] [] are long each = tt
-all_done panel board first most (j ∷ js) (w ∷ ws) are long each =
-    (are.0, each 0 j (omega arith), all_done panel board (first + most) most js ws are.1 (cc long) (λ i d below. each (suc i) d (omega (arith, below))))
-all_done panel board first most [] (w ∷ ws) are long each = absurd (cc long)
-all_done panel board first most (j ∷ js) [] are long each = absurd (cc long)
+pub all_done : {M : Type 0} (history : M → MeansHistory) (board : Identity Entry Head) (first most : ℕ) (hired workers : List (WorkerValue M)) → AreHired board first most hired → length workers ≡ length hired
+    → ((i : ℕ) (d : WorkerValue M) → i < length hired → IsDone history board (slice_index_or workers i d).unrecorded (slice_index_or hired i d) (slice_index_or workers i d)) → AreDone history board first most hired workers
+all_done history board first most [] [] are long each = tt
+all_done history board first most (j ∷ js) (w ∷ ws) are long each =
+    (are.0, each 0 j (omega arith), all_done history board (first + most) most js ws are.1 (cc long) (λ i d below. each (suc i) d (omega (arith, below))))
+all_done history board first most [] (w ∷ ws) are long each = absurd (cc long)
+all_done history board first most (j ∷ js) [] are long each = absurd (cc long)
 
 -- all passes of the done are of the board
-pub done_of_board : {P : Type 0} (panel : P → PanelHistory) (board : Identity Entry Head) (hired workers : List (WorkerValue P)) → length workers ≡ length hired
-    → ((i : ℕ) (d : WorkerValue P) → i < length hired → IsDone panel board (slice_index_or workers i d).unrecorded (slice_index_or hired i d) (slice_index_or workers i d)) → All (AreOfBoard board) workers
-done_of_board panel board [] [] long each = All-nil (AreOfBoard board)
-done_of_board panel board (j ∷ js) (w ∷ ws) long each =
+pub done_of_board : {M : Type 0} (history : M → MeansHistory) (board : Identity Entry Head) (hired workers : List (WorkerValue M)) → length workers ≡ length hired
+    → ((i : ℕ) (d : WorkerValue M) → i < length hired → IsDone history board (slice_index_or workers i d).unrecorded (slice_index_or hired i d) (slice_index_or workers i d)) → All (AreOfBoard board) workers
+done_of_board history board [] [] long each = All-nil (AreOfBoard board)
+done_of_board history board (j ∷ js) (w ∷ ws) long each =
     let here = each 0 j (omega arith) in
-    All-cons (AreOfBoard board) w ws (record { used = here.used; unused = here.unused }) (done_of_board panel board js ws (cc long) (λ i d below. each (suc i) d (omega (arith, below))))
-done_of_board panel board [] (w ∷ ws) long each = absurd (cc long)
-done_of_board panel board (j ∷ js) [] long each = absurd (cc long)
+    All-cons (AreOfBoard board) w ws (record { used = here.used; unused = here.unused }) (done_of_board history board js ws (cc long) (λ i d below. each (suc i) d (omega (arith, below))))
+done_of_board history board [] (w ∷ ws) long each = absurd (cc long)
+done_of_board history board (j ∷ js) [] long each = absurd (cc long)
 
 -- one desk more
 pub laid_last : (board : Identity Entry Head) (first most : ℕ) (desks : List DeskValue) (desk : DeskValue) → AreLaid board first most desks

@@ -1,4 +1,5 @@
 pub mod Views
+pub mod Means
 pub mod Workers
 pub mod Services
 pub mod TrueReports

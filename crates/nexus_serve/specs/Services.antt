@@ -1,6 +1,6 @@
 -- What a service leaves: its journal, the reports of its sessions, and the text that it wrote.
 use Rattle.std.specs.Prelude.{◌≡◌, ◌+◌, ◌⊎◌, ℕ, List, [], ◌∷◌, ◌++◌, length, map, take, drop, All, Contains, Bool, true, false, Option, Some, None, codes}
-use Rattle.authority_ask.specs.PanelCalls.{PanelHistory}
+use Rattle.nexus_serve.specs.Means.{MeansHistory}
 use Rattle.nx_io.specs.Streams.{Rose, Sends, SendsPart}
 use Rattle.policy_history.specs.declared.events.Entry.{Entry}
 use Rattle.policy_history.specs.declared.heads.Head.{Head}
@@ -28,12 +28,12 @@ pub record SinkView : Type 0 where
   pub faults : ℕ
 
 -- what a service hands back
-pub record ServedView (P : Type 0) : Type 0 where
+pub record ServedView (M : Type 0) : Type 0 where
   pub journal : Option History
   pub sink : Option SinkView
   pub reports : List ReportView
   pub doors : List DoorView
-  pub panels : List P
+  pub means : List M
   pub written : Bool
   pub end : ServeEnd
 
@@ -70,10 +70,10 @@ pub record HaveOneOrder (opening es : List Entry) (reports : List ReportView) : 
 -- What workers leave behind: the journal is legal and begins with the entries that were there; the workers have worked, in sessions that are
 -- numbered behind the greatest session before; each further entry was made in one of these; and each session was told over the one journal, and that
 -- a change was not recorded only where `Failed` holds.
-pub record IsServed (h : Head) (opening es : List Entry) (Failed : Type 0) (sessions : ℕ) (doors doors_now : List DoorView) (panels panels_now : List PanelHistory) (reports : List ReportView) (end : ServeEnd) : Type 0 where
+pub record IsServed (h : Head) (opening es : List Entry) (Failed : Type 0) (sessions : ℕ) (doors doors_now : List DoorView) (means means_now : List MeansHistory) (reports : List ReportView) (end : ServeEnd) : Type 0 where
   pub legal : IsLegal h (entry_trees es)
   pub begins : IsPrefix opening es
-  pub worked : HaveWorked h (length opening) 1 Failed end (greatest_of (entry_trees opening) + 1) sessions doors doors_now panels panels_now reports
+  pub worked : HaveWorked h (length opening) 1 Failed end (greatest_of (entry_trees opening) + 1) sessions doors doors_now means means_now reports
   pub ends : (end ≡ Done) ⊎ ((end ≡ DoorFault) × SomeFailed doors doors_now) ⊎ ((end ≡ NoRoom) × SomeCutShort sessions doors doors_now)
   pub seen : All (HasSeenAll es) reports
   pub made : All (λ (entry : Entry). Contains (sessions_of reports) entry.session) (drop (length opening) es)
@@ -87,15 +87,15 @@ pub data IsTextSent (h : Head) (es : List EntryTree) (written : Bool) (start : L
       → Rose start_faults sink_now.faults → IsTextSent h es written start start_faults sink_now
   end_cut : written ≡ false → SendsFront (start ++ front h es) sink_now.sent (ended (codes "end")) → Rose start_faults sink_now.faults → IsTextSent h es written start start_faults sink_now
 
--- `Serves panel sessions h opening sink doors panels served`: a service of so many sessions for each worker, over the journal with this head and these
--- entries, this sink, and these doors and panels, hands this back. It was served, each change that was made lasts, and a change was told not to be recorded only where the sink failed; or the front of the text could not be sent, so nobody was served; or there was no memory, and then nobody was
+-- `Serves history sessions h opening sink doors means served`: a service of so many sessions for each worker, over the journal with this head and these
+-- entries, this sink, and these doors and means, hands this back. It was served, each change that was made lasts, and a change was told not to be recorded only where the sink failed; or the front of the text could not be sent, so nobody was served; or there was no memory, and then nobody was
 -- served, nothing was written, and all is handed back as it was handed in.
-pub data Serves {P : Type 0} (panel : P → PanelHistory) (sessions : ℕ) (h : Head) (opening : List Entry) (sink : SinkView) (doors : List DoorView) (panels : List P) (served : ServedView P) : Type 0 where
+pub data Serves {M : Type 0} (history : M → MeansHistory) (sessions : ℕ) (h : Head) (opening : List Entry) (sink : SinkView) (doors : List DoorView) (means : List M) (served : ServedView M) : Type 0 where
   done : (es : List Entry) (sink_now : SinkView) → IsJournal served.journal h es → served.sink ≡ Some sink_now
-      → IsServed h opening es (Rose sink.faults sink_now.faults) sessions doors served.doors (map panel panels) (map panel served.panels) served.reports served.end
-      → IsTextSent h (entry_trees es) served.written sink.sent sink.faults sink_now → AreLasting h opening es sink.sent sink_now.synced → Serves panel sessions h opening sink doors panels served
+      → IsServed h opening es (Rose sink.faults sink_now.faults) sessions doors served.doors (map history means) (map history served.means) served.reports served.end
+      → IsTextSent h (entry_trees es) served.written sink.sent sink.faults sink_now → AreLasting h opening es sink.sent sink_now.synced → Serves history sessions h opening sink doors means served
   unopened : (sink_now : SinkView) → IsJournal served.journal h opening → served.sink ≡ Some sink_now
       → SendsPart sink.sent sink_now.sent (front h (entry_trees opening)) → Rose sink.faults sink_now.faults
-      → served.reports ≡ [] → served.doors ≡ doors → served.panels ≡ panels → served.written ≡ false → served.end ≡ Done → Serves panel sessions h opening sink doors panels served
-  no_memory : IsJournal served.journal h opening → served.sink ≡ Some sink → served.reports ≡ [] → served.doors ≡ doors → served.panels ≡ panels
-      → served.written ≡ false → served.end ≡ Memory → Serves panel sessions h opening sink doors panels served
+      → served.reports ≡ [] → served.doors ≡ doors → served.means ≡ means → served.written ≡ false → served.end ≡ Done → Serves history sessions h opening sink doors means served
+  no_memory : IsJournal served.journal h opening → served.sink ≡ Some sink → served.reports ≡ [] → served.doors ≡ doors → served.means ≡ means
+      → served.written ≡ false → served.end ≡ Memory → Serves history sessions h opening sink doors means served

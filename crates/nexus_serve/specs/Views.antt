@@ -1,4 +1,4 @@
--- What doors, links and reports tell, as plain values.
+-- What doors, links, reports and recorders tell, as plain values.
 use Rattle.std.specs.Prelude.{ℕ, List, [], ◌∷◌, Bool, Option, map, option_map}
 use Rattle.nx_io.specs.DoorCalls.{DoorCall, DoorOrigin}
 use Rattle.nx_io.specs.declared.doors.Next.{Next}
@@ -96,6 +96,17 @@ module _ {L D : Type 0} (view : L → LinkView) (links : D → Option (List L)) 
     origin = origin door;
     calls = calls door;
   }
+
+-- what a recorder tells: what it was sent itself, how much of that a sync has brought to where it lasts, how often it has failed, and how often
+-- it was asked for a share
+pub record RecorderView : Type 0 where
+  pub sent : List ℕ
+  pub synced : ℕ
+  pub faults : ℕ
+  pub shares : ℕ
+
+abbrev pub recorder_view : {C : Type 0} → (C → List ℕ) → (C → ℕ) → (C → ℕ) → (C → ℕ) → C → RecorderView
+recorder_view sent synced faults shares recorder = record { sent = sent recorder; synced = synced recorder; faults = faults recorder; shares = shares recorder }
 
 -- what a door answered, the link by what it tells
 abbrev pub next_view : {L : Type 0} → (L → LinkView) → Next L → Next LinkView

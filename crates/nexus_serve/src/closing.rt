@@ -5,13 +5,16 @@ ghost use Rattle.policy_history.specs.Values.{entry_trees, greatest_of};
 ghost use Rattle.policy_book.specs.Books.{AreLasting, IsLegalBook, IsNumbered, head_of, trees_of};
 ghost use Rattle.verdict_words.specs.Settling.{all_of, flat};
 ghost use Rattle.nexus_serve.specs.Views.{door_view, link_view};
+ghost use Rattle.nexus_serve.specs.Means.{means_history};
+ghost use Rattle.nexus_serve.specs.declared.means.Means.{Means};
 ghost use Rattle.nexus_serve.specs.Services.{IsJournal, IsTextSent, Serves};
 ghost use Rattle.nexus_serve.specs.Inner.Gathering.{IsRoomFor};
 ghost use Rattle.nexus_serve.specs.Inner.Reporting.{IsClosed, IsEnded, IsHandedBack, IsReported};
-ghost use Rattle.nexus_serve.specs.Inner.Serving.{AreDone, AreOfBoard, doors_of, panels_of};
+ghost use Rattle.nexus_serve.specs.Inner.Serving.{AreDone, AreOfBoard, doors_of, means_of};
 ghost use Rattle.nexus_serve.specs.Inner.Working.{WorkerValue, end_of};
 
 use crate::gathered::{Gathered, with_passes};
+use crate::means::Means;
 use crate::reporting::Reports;
 use crate::worker::Worker;
 use authority_ask::Panel;
@@ -38,19 +41,19 @@ pub enum ServeEnd {
 
 /// What a service leaves.
 #[derive(Drop)]
-pub struct Served<D: Door, P: Panel, K: Sink> {
+pub struct Served<D: Door, P: Panel, C: Sink, K: Sink> {
     pub journal: Option<Journal>,
     pub sink: Option<K>,
     /// The reports of all sessions, a list for each worker.
     pub reports: Vec<Reports<D::Link>>,
     pub doors: Vec<D>,
-    pub panels: Vec<P>,
+    pub means: Vec<Means<P, C>>,
     /// Whether the whole policy text was written, so that it lasts.
     pub written: bool,
     pub end: ServeEnd,
 }
 
-impl<D: Door, P: Panel, K: Sink> Model for Served<D, P, K> {
+impl<D: Door, P: Panel, C: Sink, K: Sink> Model for Served<D, P, C, K> {
     ghost use Rattle.std.specs.Prelude.{map, option_map};
     ghost use Rattle.std.specs.Coded.{codes};
     ghost use Rattle.nal_term.specs.contracts.terms.Term as t;
@@ -58,8 +61,9 @@ impl<D: Door, P: Panel, K: Sink> Model for Served<D, P, K> {
     ghost use Rattle.verdict_words.specs.Settling.{flat};
     ghost use Rattle.nexus_serve.specs.Views.{door_view, link_view};
     ghost use Rattle.nexus_serve.specs.Services.{ServedView};
+    ghost use Rattle.nexus_serve.specs.declared.means.Means.{Means};
 
-    ghost Value = { ServedView P };
+    ghost Value = { ServedView (Means P C) };
 
     ghost coded = { Prim.hlevel (codes, t.the_row.coded, f.the_row.coded) };
 
@@ -69,7 +73,7 @@ impl<D: Door, P: Panel, K: Sink> Model for Served<D, P, K> {
       reports = flat s.reports.items;
       doors = map (door_view (link_view D.Link.left D.Link.taken D.Link.sent D.Link.over D.Link.closed D.Link.admitted D.Link.place
           D.Link.toward D.Link.faults) D.links D.origin D.calls) s.doors.items;
-      panels = s.panels.items;
+      means = s.means.items;
       written = s.written;
       end = s.end;
     } };
@@ -121,19 +125,19 @@ fn end_unless<K: Sink + Drop>(is_broken: bool, sink: K) -> (K, bool)
 }
 
 /// Hands back what was gathered, with the journal of the book, in which all passes were met.
-fn close<D: Door + Drop, P: Panel + Drop, K: Sink + Drop>(
+fn close<D: Door + Drop, P: Panel + Drop, C: Sink + Drop, K: Sink + Drop>(
     book: Book<K>,
     doors: Vec<D>,
-    panels: Vec<P>,
+    means: Vec<Means<P, C>>,
     reports: Vec<Reports<D::Link>>,
     end: ServeEnd,
-) -> Served<D, P, K>
+) -> Served<D, P, C, K>
 where
     D::Link: Drop,
     requires opened { book.is_open ≡ true }
     ensures closed { IsClosed book (map (door_view (link_view D.Link.left D.Link.taken D.Link.sent D.Link.over
         D.Link.closed D.Link.admitted D.Link.place D.Link.toward D.Link.faults) D.links D.origin D.calls)
-        doors.items) panels.items (flat reports.items) end result }
+        doors.items) means.items (flat reports.items) end result }
 {
     let (journal, sink, written) = write_end(book);
     Served {
@@ -141,7 +145,7 @@ where
         sink: Some(sink),
         reports,
         doors,
-        panels,
+        means,
         written,
         end,
     }
@@ -161,11 +165,11 @@ fn end_of(has_failed: bool, lacks_room: bool) -> ServeEnd
 }
 
 /// Lets all passes be met once more, and hands back what was gathered.
-fn report<D: Door + Drop, P: Panel + Drop, K: Sink + Drop>(
+fn report<D: Door + Drop, P: Panel + Drop, C: Sink + Drop, K: Sink + Drop>(
     board: &Board<NalMatter>,
     book: Book<K>,
-    gathered: Gathered<D, P>,
-) -> Served<D, P, K>
+    gathered: Gathered<D, P, C>,
+) -> Served<D, P, C, K>
 where
     D::Link: Drop,
     requires opened { book.is_open ≡ true }
@@ -175,7 +179,7 @@ where
 {
     let Gathered {
         doors,
-        panels,
+        means,
         sessions,
         used,
         unused,
@@ -186,17 +190,17 @@ where
     let mut book = book;
     let passes = book.settle(board, used, unused);
     let reports = with_passes(sessions, passes, reports);
-    close(book, doors, panels, reports, end_of(has_failed, lacks_room))
+    close(book, doors, means, reports, end_of(has_failed, lacks_room))
 }
 
 /// Gathers what the workers left, and hands it back. Where changes were not recorded, the book is broken.
-pub fn finish<D: Door + Drop, P: Panel + Drop, K: Sink + Drop, T: Ledger>(
+pub fn finish<D: Door + Drop, P: Panel + Drop, C: Sink + Drop, K: Sink + Drop, T: Ledger>(
     board: &Board<NalMatter>,
     book: Book<K>,
     total: &Total<T>,
-    workers: Vec<Worker<D, P, T>>,
-    room: Gathered<D, P>,
-) -> Served<D, P, K>
+    workers: Vec<Worker<D, P, C, T>>,
+    room: Gathered<D, P, C>,
+) -> Served<D, P, C, K>
 where
     D::Link: Drop,
     requires failed { 0 < total.now.amount → book.is_broken ≡ true }
@@ -205,26 +209,26 @@ where
     requires first { board.now.origin.first ≡ greatest_of (entry_trees board.now.origin.opening) + 1 }
     requires room { IsRoomFor workers.items room }
     requires used { All (λ worker. AreOfBoard board.now worker) workers.items }
-    ensures served { (most synced : ℕ) (hired : List (WorkerValue P))
-        → AreDone P.history board.now board.now.origin.first most hired workers.items
+    ensures served { (most synced : ℕ) (hired : List (WorkerValue (Means P C)))
+        → AreDone (means_history P.history) board.now board.now.origin.first most hired workers.items
         → book.next ≡ board.now.origin.first + length workers.items * most
-        → Serves P.history most board.now.origin.setting board.now.origin.opening (record {
+        → Serves (means_history P.history) most board.now.origin.setting board.now.origin.opening (record {
           sent = book.start;
           synced = synced;
           faults = book.start_faults;
-        }) (doors_of hired) (panels_of hired) result }
+        }) (doors_of hired) (means_of hired) result }
 {
     what_was_told_stays_told();
     report(board, book, room.gather(workers, total))
 }
 
 /// Hands everything back where the front of the policy text could not be sent.
-pub fn unopened<D: Door + Drop, P: Panel + Drop, K: Sink + Drop>(
+pub fn unopened<D: Door + Drop, P: Panel + Drop, C: Sink + Drop, K: Sink + Drop>(
     alloc: Global,
     book: Book<K>,
     doors: Vec<D>,
-    panels: Vec<P>,
-) -> Served<D, P, K>
+    means: Vec<Means<P, C>>,
+) -> Served<D, P, C, K>
 where
     D::Link: Drop,
     ensures journal { IsJournal result.journal (head_of book) book.entries }
@@ -236,7 +240,7 @@ where
     }) }
     ensures back { IsHandedBack (map (door_view (link_view D.Link.left D.Link.taken D.Link.sent D.Link.over
         D.Link.closed D.Link.admitted D.Link.place D.Link.toward D.Link.faults) D.links D.origin D.calls)
-        doors.items) panels.items result }
+        doors.items) means.items result }
     ensures end { result.end ≡ ServeEnd.Done }
 {
     let (journal, sink) = book.into_parts();
@@ -245,27 +249,27 @@ where
         sink: Some(sink),
         reports: Vec::new(alloc),
         doors,
-        panels,
+        means,
         written: false,
         end: ServeEnd::Done,
     }
 }
 
 /// Hands everything back where there was no memory to begin with.
-pub fn unserved<D: Door + Drop, P: Panel + Drop, K: Sink + Drop>(
+pub fn unserved<D: Door + Drop, P: Panel + Drop, C: Sink + Drop, K: Sink + Drop>(
     alloc: Global,
     journal: Journal,
     sink: K,
     doors: Vec<D>,
-    panels: Vec<P>,
-) -> Served<D, P, K>
+    means: Vec<Means<P, C>>,
+) -> Served<D, P, C, K>
 where
     D::Link: Drop,
     ensures journal { IsJournal result.journal journal.head journal.entries }
     ensures sink { result.sink ≡ Some (record { sent = K.sent sink; synced = K.synced sink; faults = K.faults sink }) }
     ensures back { IsHandedBack (map (door_view (link_view D.Link.left D.Link.taken D.Link.sent D.Link.over
         D.Link.closed D.Link.admitted D.Link.place D.Link.toward D.Link.faults) D.links D.origin D.calls)
-        doors.items) panels.items result }
+        doors.items) means.items result }
     ensures end { result.end ≡ ServeEnd.Memory }
 {
     Served {
@@ -273,7 +277,7 @@ where
         sink: Some(sink),
         reports: Vec::new(alloc),
         doors,
-        panels,
+        means,
         written: false,
         end: ServeEnd::Memory,
     }

@@ -1,14 +1,15 @@
-//! What the workers leave: their doors and panels, what is reported of their sessions, and the passes that they have not used.
+//! What the workers leave: their doors and means, what is reported of their sessions, and the passes that they have not used.
 ghost use Rattle.std.specs.Prelude.{◌≡◌, ◌≤◌, [], length, map, All, IfOk};
 ghost use Rattle.std.specs.Vec.{vec_capacity};
 ghost use Rattle.verdict_words.specs.Settling.{items_of};
 ghost use Rattle.nexus_serve.specs.Views.{link_view, session_view};
 ghost use Rattle.nexus_serve.specs.Inner.Gathering.{gathered_all, gathered_from, joined_each, nothing};
 
+use crate::means::Means;
 use crate::reporting::{Reports, ServedSession};
 use crate::worker::Worker;
 use authority_ask::Panel;
-use nx_io::{Door, Link};
+use nx_io::{Door, Link, Sink};
 use policy_book::NalMatter;
 use std::alloc::{AllocError, Global};
 use std::collections::VecDeque;
@@ -19,9 +20,9 @@ use verdict_words::{Pass, Roll};
 /// What the workers leave, a place for each in every list. The memory for these places is taken before the workers begin, so no want
 /// of memory can lose what they leave.
 #[derive(Drop)]
-pub struct Gathered<D: Door, P: Panel> {
+pub struct Gathered<D: Door, P: Panel, C: Sink> {
     pub doors: Vec<D>,
-    pub panels: Vec<P>,
+    pub means: Vec<Means<P, C>>,
     pub sessions: Vec<Vec<ServedSession<D::Link>>>,
     pub used: Vec<Vec<Pass<NalMatter>>>,
     pub unused: Vec<Roll<NalMatter>>,
@@ -30,7 +31,7 @@ pub struct Gathered<D: Door, P: Panel> {
     pub lacks_room: bool,
 }
 
-impl<D: Door, P: Panel> Model for Gathered<D, P> {
+impl<D: Door, P: Panel, C: Sink> Model for Gathered<D, P, C> {
     ghost use Rattle.std.specs.Prelude.{◌≡◌, ◌≤◌, ◌-◌, [], length, map};
     ghost use Rattle.std.specs.Vec.{vec_capacity, vec_len};
     ghost use Rattle.std.specs.Coded.{codes};
@@ -39,15 +40,16 @@ impl<D: Door, P: Panel> Model for Gathered<D, P> {
     ghost use Rattle.verdict_words.specs.Settling.{items_of};
     ghost use Rattle.nexus_serve.specs.Views.{door_view, link_view, session_view};
     ghost use Rattle.nexus_serve.specs.Inner.Gathering.{GatheredValue};
+    ghost use Rattle.nexus_serve.specs.declared.means.Means.{Means};
 
-    ghost Value = { GatheredValue P };
+    ghost Value = { GatheredValue (Means P C) };
 
     ghost coded = { Prim.hlevel (codes, t.the_row.coded, f.the_row.coded) };
 
     ghost view = { λ g. record {
       doors = map (door_view (link_view D.Link.left D.Link.taken D.Link.sent D.Link.over D.Link.closed D.Link.admitted D.Link.place
           D.Link.toward D.Link.faults) D.links D.origin D.calls) g.doors.items;
-      panels = g.panels.items;
+      means = g.means.items;
       sessions = map (λ mine. map (session_view (link_view D.Link.left D.Link.taken D.Link.sent D.Link.over D.Link.closed
           D.Link.admitted D.Link.place D.Link.toward D.Link.faults)) mine.items) g.sessions.items;
       used = items_of g.used.items;
@@ -58,7 +60,7 @@ impl<D: Door, P: Panel> Model for Gathered<D, P> {
     } };
 
     ghost invariant = { λ g. (g.reports.items ≡ [])
-        × (vec_len g.panels ≡ vec_len g.doors) × (vec_capacity g.doors ≤ vec_capacity g.panels)
+        × (vec_len g.means ≡ vec_len g.doors) × (vec_capacity g.doors ≤ vec_capacity g.means)
         × (vec_len g.sessions ≡ vec_len g.doors) × (vec_capacity g.doors ≤ vec_capacity g.sessions)
         × (vec_len g.used ≡ vec_len g.doors) × (vec_capacity g.doors ≤ vec_capacity g.used)
         × (vec_len g.unused ≡ vec_len g.doors) × (vec_capacity g.doors ≤ vec_capacity g.unused)
@@ -66,17 +68,17 @@ impl<D: Door, P: Panel> Model for Gathered<D, P> {
         × (map (λ mine. length mine.items) g.sessions.items ≡ map (λ mine. length mine.items) g.used.items) };
 }
 
-impl<D: Door + Drop, P: Panel + Drop> Gathered<D, P>
+impl<D: Door + Drop, P: Panel + Drop, C: Sink + Drop> Gathered<D, P, C>
 where
     D::Link: Drop,
 {
     /// Nothing yet, with room for so many workers.
-    pub fn with_room(alloc: Global, workers: usize) -> Result<Gathered<D, P>, AllocError>
+    pub fn with_room(alloc: Global, workers: usize) -> Result<Gathered<D, P, C>, AllocError>
         ensures { IfOk result (λ g. g ≡ nothing workers) }
     {
         Ok(Gathered {
             doors: Vec::with_capacity(alloc, workers)?,
-            panels: Vec::with_capacity(alloc, workers)?,
+            means: Vec::with_capacity(alloc, workers)?,
             sessions: Vec::with_capacity(alloc, workers)?,
             used: Vec::with_capacity(alloc, workers)?,
             unused: Vec::with_capacity(alloc, workers)?,
@@ -90,9 +92,9 @@ where
     /// no memory.
     pub fn gather<T: Ledger>(
         self,
-        workers: Vec<Worker<D, P, T>>,
+        workers: Vec<Worker<D, P, C, T>>,
         total: &Total<T>,
-    ) -> Gathered<D, P>
+    ) -> Gathered<D, P, C>
         requires places { length workers.items ≤ self.places }
         ensures gathered { result ≡ gathered_all self workers.items }
         ensures counted { All (λ worker. worker.unrecorded ≤ total.now.amount) workers.items }
@@ -106,14 +108,14 @@ where
     }
 
     /// Takes in what a worker leaves.
-    fn take_in<T: Ledger>(&mut self, worker: Worker<D, P, T>, total: &Total<T>)
+    fn take_in<T: Ledger>(&mut self, worker: Worker<D, P, C, T>, total: &Total<T>)
         requires place { 1 ≤ self.old.places }
         ensures gathered { self.new ≡ gathered_from self.old worker }
         ensures counted { worker.unrecorded ≤ total.now.amount }
     {
         let Worker {
             door,
-            panel,
+            means,
             roll,
             sessions,
             used,
@@ -125,7 +127,7 @@ where
         let mut mark = mark;
         total.audit(&mut mark);
         self.doors.push_reserved(door);
-        self.panels.push_reserved(panel);
+        self.means.push_reserved(means);
         self.sessions.push_reserved(sessions);
         self.used.push_reserved(used);
         self.unused.push_reserved(roll);

@@ -1,10 +1,11 @@
-//! How workers are hired: desks with the rolls of their sessions are laid, which may want memory, before doors and panels are put to
+//! How workers are hired: desks with the rolls of their sessions are laid, which may want memory, before doors and means are put to
 //! them, which wants none.
 ghost use Rattle.std.specs.Prelude.{◌≡◌, ◌≢◌, ◌<◌, ◌≤◌, ◌+◌, ◌*◌, ◌-◌, ◌^◌, [], length, map, All, IfOk, OnOk};
 ghost use Rattle.std.specs.Vec.{vec_capacity};
 ghost use Rattle.nexus_serve.specs.Views.{door_view, link_view};
 ghost use Rattle.nexus_serve.specs.Inner.Desks.{AreLaid, IsLaid, seated, seated_at};
 
+use crate::means::Means;
 use crate::worker::Worker;
 use authority_ask::Panel;
 use nx_io::{Door, Sink};
@@ -94,20 +95,20 @@ pub fn lay_desks<K: Sink, T: Ledger>(
 }
 
 /// A worker at this desk. It takes no memory.
-fn seat_one<D: Door, P: Panel, T: Ledger>(
+fn seat_one<D: Door, P: Panel, C: Sink, T: Ledger>(
     alloc: Global,
     desk: Desk<T>,
     door: D,
-    panel: P,
-) -> Worker<D, P, T>
+    means: Means<P, C>,
+) -> Worker<D, P, C, T>
     ensures { result ≡ seated_at desk (door_view (link_view D.Link.left D.Link.taken D.Link.sent D.Link.over
-        D.Link.closed D.Link.admitted D.Link.place D.Link.toward D.Link.faults) D.links D.origin D.calls door) panel }
+        D.Link.closed D.Link.admitted D.Link.place D.Link.toward D.Link.faults) D.links D.origin D.calls door) means }
 {
     let Desk { first, roll, mark } = desk;
     Worker {
         first,
         door,
-        panel,
+        means,
         roll,
         sessions: Vec::new(alloc),
         used: Vec::new(alloc),
@@ -117,36 +118,36 @@ fn seat_one<D: Door, P: Panel, T: Ledger>(
     }
 }
 
-/// A worker for each desk, with the door and the panel of its place, in a list that has room for all. It takes no memory.
-pub fn seat<D: Door + Drop, P: Panel + Drop, T: Ledger>(
+/// A worker for each desk, with the door and the means of its place, in a list that has room for all. It takes no memory.
+pub fn seat<D: Door + Drop, P: Panel + Drop, C: Sink + Drop, T: Ledger>(
     alloc: Global,
     desks: Vec<Desk<T>>,
     doors: Vec<D>,
-    panels: Vec<P>,
-    workers: Vec<Worker<D, P, T>>,
-) -> Vec<Worker<D, P, T>>
+    means: Vec<Means<P, C>>,
+    workers: Vec<Worker<D, P, C, T>>,
+) -> Vec<Worker<D, P, C, T>>
 where
     D::Link: Drop,
     requires doors { length doors.items ≡ length desks.items }
-    requires panels { length panels.items ≡ length desks.items }
+    requires means { length means.items ≡ length desks.items }
     requires none { workers.items ≡ [] }
     requires room { length desks.items ≤ vec_capacity workers }
     ensures { result.items ≡ seated desks.items (map (door_view (link_view D.Link.left D.Link.taken D.Link.sent
         D.Link.over D.Link.closed D.Link.admitted D.Link.place D.Link.toward D.Link.faults) D.links D.origin D.calls)
-        doors.items) panels.items }
+        doors.items) means.items }
 {
     let mut workers = workers;
     let mut desks = VecDeque::from(desks);
     let mut doors = VecDeque::from(doors);
-    let mut panels = VecDeque::from(panels);
+    let mut means = VecDeque::from(means);
     while let Some(desk) = desks.pop_front() {
         let Some(door) = doors.pop_front() else {
             unreachable!()
         };
-        let Some(panel) = panels.pop_front() else {
+        let Some(own) = means.pop_front() else {
             unreachable!()
         };
-        workers.push_reserved(seat_one(alloc, desk, door, panel));
+        workers.push_reserved(seat_one(alloc, desk, door, own));
     }
     workers
 }

@@ -6,6 +6,7 @@ ghost use Rattle.policy_history.specs.Values.{entry_trees, greatest_of};
 ghost use Rattle.policy_history.specs.declared.events.Entry.{Entry};
 ghost use Rattle.policy_book.specs.Books.{new_book};
 ghost use Rattle.nexus_serve.specs.Views.{door_view, link_view};
+ghost use Rattle.nexus_serve.specs.Means.{means_history};
 ghost use Rattle.nexus_serve.specs.Services.{IsJournal, Serves};
 ghost use Rattle.nexus_serve.specs.TrueReports.{AreTrue};
 ghost use Rattle.nexus_serve.specs.Inner.Desks.{AreLaid};
@@ -14,6 +15,7 @@ ghost use Rattle.nexus_serve.specs.Inner.Gathering.{nothing};
 use crate::closing::{Served, unopened, unserved};
 use crate::gathered::Gathered;
 use crate::hiring::{Desk, lay_desks, seat};
+use crate::means::Means;
 use crate::threads::serve_hired;
 use crate::worker::Worker;
 use authority_ask::Panel;
@@ -40,11 +42,11 @@ struct Shift {
 /// What a service wants of memory, taken before it begins: the policy text, a desk for each worker, a list with room for all
 /// workers, and a place for what each of them leaves. The ledger counts nothing yet, and each desk has a share of it.
 #[derive(Drop)]
-struct Prepared<D: Door, P: Panel, T: Ledger> {
+struct Prepared<D: Door, P: Panel, C: Sink, T: Ledger> {
     text: Bytes,
     desks: Vec<Desk<T>>,
-    workers: Vec<Worker<D, P, T>>,
-    room: Gathered<D, P>,
+    workers: Vec<Worker<D, P, C, T>>,
+    room: Gathered<D, P, C>,
     tickets: ledger::Book<T>,
 }
 
@@ -56,21 +58,22 @@ fn front_of(text: &[u8]) -> &[u8]
 }
 
 /// Opens the book and serves. It takes no memory but what sessions want.
-fn serve_book<D, P, K, G, T, R>(
+fn serve_book<D, P, C, K, G, T, R>(
     rt: &R,
     alloc: Global,
     board: &Board<NalMatter>,
     book: Book<K>,
     doors: Vec<D>,
-    panels: Vec<P>,
+    means: Vec<Means<P, C>>,
     gate: &G,
     sessions: u64,
-    prepared: Prepared<D, P, T>,
-) -> Served<D, P, K>
+    prepared: Prepared<D, P, C, T>,
+) -> Served<D, P, C, K>
 where
     D: Door + Send + Drop,
     D::Link: Link + Send + Drop,
     P: Panel + Send + Drop,
+    C: Sink + Send + Drop,
     K: Sink + Send + Drop,
     G: Gate + Sync,
     T: Ledger + Send + Sync,
@@ -78,21 +81,22 @@ where
     requires made { book ≡ record (new_book K.sent K.faults board.now book.sink)
         { next = board.now.origin.first + length doors.items * sessions } }
     requires first { board.now.origin.first ≡ greatest_of (entry_trees board.now.origin.opening) + 1 }
-    requires pairs { length panels.items ≡ length doors.items }
+    requires pairs { length means.items ≡ length doors.items }
     requires text { prepared.text ≡ policy_text board.now.origin.setting (entry_trees board.now.origin.opening) }
     requires desks { AreLaid board.now board.now.origin.first sessions prepared.desks.items
         × (length prepared.desks.items ≡ length doors.items) }
     requires workers { (prepared.workers.items ≡ []) × (length doors.items ≤ vec_capacity prepared.workers) }
     requires room { prepared.room ≡ nothing (length doors.items) }
     requires tickets { prepared.tickets.total ≡ 0 }
-    ensures served { Serves P.history sessions board.now.origin.setting board.now.origin.opening (record {
-      sent =
-          K.sent book.sink;
-      synced = K.synced book.sink;
-      faults = K.faults book.sink;
-    })
+    ensures served { Serves (means_history P.history) sessions board.now.origin.setting
+        board.now.origin.opening (record {
+          sent =
+              K.sent book.sink;
+          synced = K.synced book.sink;
+          faults = K.faults book.sink;
+        })
         (map (door_view (link_view D.Link.left D.Link.taken D.Link.sent D.Link.over D.Link.closed D.Link.admitted
-        D.Link.place D.Link.toward D.Link.faults) D.links D.origin D.calls) doors.items) panels.items result }
+        D.Link.place D.Link.toward D.Link.faults) D.links D.origin D.calls) doors.items) means.items result }
 {
     let Prepared {
         text,
@@ -104,7 +108,7 @@ where
     let mut book = book;
     match book.open(front_of(text.as_slice())) {
         Reach::Ready => {
-            let workers = seat(alloc, desks, doors, panels, workers);
+            let workers = seat(alloc, desks, doors, means, workers);
             serve_hired(rt, alloc, board, book, tickets, workers, gate, room)
         }
         Reach::Failed => {
@@ -112,119 +116,121 @@ where
             drop(workers);
             drop(room);
             drop(tickets);
-            unopened(alloc, book, doors, panels)
+            unopened(alloc, book, doors, means)
         }
     }
 }
 
-/// Serves the links of the doors, each door by a worker of its own with the panel of its place, so many sessions a worker at
+/// Serves the links of the doors, each door by a worker of its own with the means of its place, so many sessions a worker at
 /// most, and writes the policy text to the sink as the journal grows.
 ///
 /// The sessions are numbered behind the greatest number of the journal: the first worker has the first so many numbers, and so
 /// on. A worker stops early where its door has no more links or fails, or where there is no memory for the report of one more
 /// session, which is taken before the door is asked for its link; this ends no other worker. When all have stopped, the journal, the
-/// sink, the doors, the panels, and the reports of all sessions are handed back. `docs/LOGIC.md`, "The service", says what was then
+/// sink, the doors, the means, and the reports of all sessions are handed back. `docs/LOGIC.md`, "The service", says what was then
 /// promised to each session; `docs/ARCHITECTURE.md`, "Workers", how it is done. A change is told not to be recorded only where a
 /// write or a sync of the policy text has failed. The end is `DoorFault` where a door has failed, else `NoRoom` where a worker had no
 /// memory for one more session.
 ///
 /// All memory but what sessions want is taken before the first byte is sent, and does not grow with the number of sessions. At want of
-/// it the end is `Memory`: nobody was served, nothing was written, and the journal, the sink, the doors and the panels are handed back
+/// it the end is `Memory`: nobody was served, nothing was written, and the journal, the sink, the doors and the means are handed back
 /// as they were handed in.
-pub fn serve<D, P, K, G, R>(
+pub fn serve<D, P, C, K, G, R>(
     rt: &R,
     alloc: Global,
     journal: Journal,
     sink: K,
     doors: Vec<D>,
-    panels: Vec<P>,
+    means: Vec<Means<P, C>>,
     gate: &G,
     sessions: u64,
-) -> Served<D, P, K>
+) -> Served<D, P, C, K>
 where
     D: Door + Send + Drop,
     D::Link: Link + Send + Drop,
     P: Panel + Send + Drop,
+    C: Sink + Send + Drop,
     K: Sink + Send + Drop,
     G: Gate + Sync,
     R: Net<Listener = TcpListener, Stream = TcpStream> + Clock + Wait + Threads + Sync,
-    requires pairs { length panels.items ≡ length doors.items }
+    requires pairs { length means.items ≡ length doors.items }
     requires workers { (1 ≤ length doors.items) × (length doors.items ≤ 1024) }
     requires sessions { (1 ≤ sessions) × (sessions ≤ 65536) }
     requires numbers { greatest_of (entry_trees journal.entries) + length doors.items * sessions ≤ 2 ^ 64 - 2 }
-    ensures served { Serves P.history sessions journal.head journal.entries (record {
+    ensures served { Serves (means_history P.history) sessions journal.head journal.entries (record {
       sent = K.sent sink;
       synced =
           K.synced sink;
       faults = K.faults sink;
     })
         (map (door_view (link_view D.Link.left D.Link.taken D.Link.sent D.Link.over D.Link.closed D.Link.admitted
-        D.Link.place D.Link.toward D.Link.faults) D.links D.origin D.calls) doors.items) panels.items result }
+        D.Link.place D.Link.toward D.Link.faults) D.links D.origin D.calls) doors.items) means.items result }
     ensures earned { (es : List Entry) → IsJournal result.journal journal.head es
         → AreTrue journal.head (entry_trees es) (length journal.entries) result.reports }
 {
     let blank = Blank::new(doors.len() as u64);
     let shift = Shift { sessions, blank };
-    serve_counted::<D, P, K, G, Brand, R>(rt, alloc, journal, sink, doors, panels, gate, shift)
+    serve_counted::<D, P, C, K, G, Brand, R>(rt, alloc, journal, sink, doors, means, gate, shift)
 }
 
 /// As `serve`, with a ledger that counts the changes that were not recorded.
-fn serve_counted<D, P, K, G, T, R>(
+fn serve_counted<D, P, C, K, G, T, R>(
     rt: &R,
     alloc: Global,
     journal: Journal,
     sink: K,
     doors: Vec<D>,
-    panels: Vec<P>,
+    means: Vec<Means<P, C>>,
     gate: &G,
     shift: Shift,
-) -> Served<D, P, K>
+) -> Served<D, P, C, K>
 where
     D: Door + Send + Drop,
     D::Link: Link + Send + Drop,
     P: Panel + Send + Drop,
+    C: Sink + Send + Drop,
     K: Sink + Send + Drop,
     G: Gate + Sync,
     T: Ledger + Send + Sync,
     R: Net<Listener = TcpListener, Stream = TcpStream> + Clock + Wait + Threads + Sync,
-    requires pairs { length panels.items ≡ length doors.items }
+    requires pairs { length means.items ≡ length doors.items }
     requires workers { (1 ≤ length doors.items) × (length doors.items ≤ 1024) }
     requires sessions { (1 ≤ shift.sessions) × (shift.sessions ≤ 65536) }
     requires numbers { greatest_of (entry_trees journal.entries) + length doors.items * shift.sessions ≤ 2 ^ 64 - 2 }
     requires blank { (shift.blank.name ≡ T.name) × (shift.blank.parts ≡ T.parts)
         × (length doors.items ≤ shift.blank.parts) }
-    ensures served { Serves P.history shift.sessions journal.head journal.entries
+    ensures served { Serves (means_history P.history) shift.sessions journal.head journal.entries
         (record { sent = K.sent sink; synced = K.synced sink; faults = K.faults sink })
         (map (door_view (link_view D.Link.left D.Link.taken D.Link.sent D.Link.over D.Link.closed D.Link.admitted
         D.Link.place
-        D.Link.toward D.Link.faults) D.links D.origin D.calls) doors.items) panels.items result }
+        D.Link.toward D.Link.faults) D.links D.origin D.calls) doors.items) means.items result }
     ensures earned { (es : List Entry) → IsJournal result.journal journal.head es
         → AreTrue journal.head (entry_trees es) (length journal.entries) result.reports }
 {
     let Shift { sessions, blank } = shift;
     let first = journal.greatest_session() + 1;
     let Ok(text) = print_policy(alloc, &journal) else {
-        return unserved(alloc, journal, sink, doors, panels);
+        return unserved(alloc, journal, sink, doors, means);
     };
     match Book::make(alloc, journal, sink) {
         Ok((board, book)) => {
             let mut book = book;
             let workers = doors.len();
-            match prepare::<D, P, K, T>(
+            match prepare::<D, P, C, K, T>(
                 alloc, &board, &mut book, text, workers, first, sessions, blank,
             ) {
                 Ok(prepared) => serve_book(
-                    rt, alloc, &board, book, doors, panels, gate, sessions, prepared,
+                    rt, alloc, &board, book, doors, means, gate, sessions, prepared,
                 ),
                 Err(AllocError) => {
                     let (journal, sink) = book.into_parts();
-                    unserved(alloc, journal, sink, doors, panels)
+                    unserved(alloc, journal, sink, doors, means)
                 }
             }
         }
         Err((journal, sink, AllocError)) => {
             drop(text);
-            unserved(alloc, journal, sink, doors, panels)
+            unserved(alloc, journal, sink, doors, means)
         }
     }
 }
@@ -232,7 +238,7 @@ where
 /// Takes the memory that a service wants, beside that for the policy text, before the book is open: desks for so many workers,
 /// which have the rolls of the book's next passes, a list for the workers, and a place for what each of them leaves. The blank ledger
 /// is opened.
-fn prepare<D: Door + Drop, P: Panel + Drop, K: Sink, T: Ledger>(
+fn prepare<D: Door + Drop, P: Panel + Drop, C: Sink + Drop, K: Sink, T: Ledger>(
     alloc: Global,
     board: &Board<NalMatter>,
     book: &mut Book<K>,
@@ -241,7 +247,7 @@ fn prepare<D: Door + Drop, P: Panel + Drop, K: Sink, T: Ledger>(
     first: u64,
     sessions: u64,
     blank: Blank,
-) -> Result<Prepared<D, P, T>, AllocError>
+) -> Result<Prepared<D, P, C, T>, AllocError>
 where
     D::Link: Drop,
     requires blank { (blank.name ≡ T.name) × (blank.parts ≡ T.parts) × (workers ≤ blank.parts) }

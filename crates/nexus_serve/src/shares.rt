@@ -1,16 +1,20 @@
-//! What is made ready for workers: the authorities are reached, an address is listened at, and doors and panels are shared.
-ghost use Rattle.std.specs.Prelude.{◌≡◌, ◌≢◌, ◌≤◌, ◌+◌, ◌++◌, List, ℕ, [], length, map, All, IfErr, IfOk};
+//! What is made ready for workers: the authorities are reached, an address is listened at, and doors, panels and recorders are
+//! shared.
+ghost use Rattle.std.specs.Prelude.{◌≡◌, ◌≢◌, ◌≤◌, ◌+◌, ◌++◌, List, ℕ, [], length, map, option_map, replicate, All, IfErr, IfOk, Some};
 ghost use Rattle.std.specs.Vec.{vec_capacity, vec_len};
 ghost use Rattle.nx_io.specs.DoorCalls.{DoorCall};
 ghost use Rattle.authority_ask.specs.PanelCalls.{PanelCall};
-ghost use Rattle.nexus_serve.specs.Inner.Sharing.{IsMade, IsShareOf, ReadiesDoor, SharesDoor, SharesPanel};
-ghost use Rattle.nexus_serve.specs.Hosting.{HasCalledPanel, IsPanelShare};
-ghost use Rattle.nexus_serve.specs.Views.{door_view, link_view};
+ghost use Rattle.session_core.specs.Records.{unwanted};
+ghost use Rattle.nexus_serve.specs.Inner.Sharing.{IsMade, IsShareOf, ReadiesDoor, SharesDoor, SharesPanel, SharesRecorder};
+ghost use Rattle.nexus_serve.specs.Hosting.{HasCalledPanel, HaveShares, IsPanelShare, kept_of};
+ghost use Rattle.nexus_serve.specs.Views.{door_view, link_view, recorder_view};
 
+use crate::means::Means;
+use crate::outside::Outside;
 use authority_ask::Panel;
-use nx_io::{Door, Reach, Shared};
+use nx_io::{Door, Reach, Recorder, Shared, Sink};
 use policy_history::Head;
-use session_core::reach_all;
+use session_core::{RecordKeeper, reach_all};
 use std::fs::Files;
 use std::net::{Net, TcpListener, TcpStream};
 use std::rt::Clock;
@@ -20,26 +24,28 @@ use std::rt::Clock;
 pub enum Unready {
     /// An authority could not be reached, or the panel not be shared.
     Panel,
+    /// The recorder could not be shared.
+    Records,
     /// The door could not listen, or not be shared.
     Door,
     /// There was no memory.
     Memory,
 }
 
-/// Makes room for the shares of a door and of a panel.
-fn make_room<D: Drop, P: Drop>(
+/// Makes room for the shares of a door, and for the means of workers.
+fn make_room<D: Drop, M: Drop>(
     doors: &mut Vec<D>,
-    panels: &mut Vec<P>,
+    means: &mut Vec<M>,
     count: u64,
 ) -> Result<(), Unready>
     requires few { count ≤ 1024 }
-    ensures items { (doors.new.items ≡ doors.old.items) × (panels.new.items ≡ panels.old.items) }
+    ensures items { (doors.new.items ≡ doors.old.items) × (means.new.items ≡ means.old.items) }
     ensures room { IfOk result (λ _. (vec_len doors.new + count ≤ vec_capacity doors.new)
-        × (vec_len panels.new + count ≤ vec_capacity panels.new)) }
+        × (vec_len means.new + count ≤ vec_capacity means.new)) }
     ensures memory { IfErr result (λ e. e ≡ Unready.Memory) }
 {
     match doors.try_reserve(count as usize) {
-        Ok(()) => match panels.try_reserve(count as usize) {
+        Ok(()) => match means.try_reserve(count as usize) {
             Ok(()) => Ok(()),
             Err(_) => Err(Unready::Memory),
         },
@@ -69,22 +75,70 @@ where
     Ok(())
 }
 
-/// Makes so many shares of a panel, for which the list has room.
-fn share_panel<P: Panel + Drop>(
+/// Makes so many shares of a panel, each in the means of a worker, for which the list has room. Nobody keeps records there.
+fn share_panel<P: Panel + Drop, C: Sink + Drop>(
     panel: &mut P,
     count: u64,
-    shares: &mut Vec<P>,
+    means: &mut Vec<Means<P, C>>,
 ) -> Result<(), Unready>
-    requires none { shares.old.items ≡ [] }
-    requires room { count ≤ vec_capacity shares.old }
-    ensures shared { All (λ share. IsPanelShare (P.history panel.new) (P.history share)) shares.new.items }
+    requires none { means.old.items ≡ [] }
+    requires room { count ≤ vec_capacity means.old }
+    ensures shared { All (λ own. IsPanelShare (P.history panel.new) (P.history own.panel)) means.new.items }
     ensures calls { (more : List PanelCall) × HasCalledPanel more (P.history panel.old) (P.history panel.new)
-        × SharesPanel result count (length shares.new.items) more }
+        × SharesPanel result count (length means.new.items) more }
+    ensures keepers { kept_of means.new.items ≡ replicate (length means.new.items) unwanted }
 {
     for _ in 0..count {
         match panel.share() {
-            Shared::Made(share) => shares.push_reserved(share),
+            Shared::Made(share) => means.push_reserved(Means {
+                panel: share,
+                records: RecordKeeper::nobody(),
+            }),
             Shared::Failed => return Err(Unready::Panel),
+            Shared::NoMemory => return Err(Unready::Memory),
+        }
+    }
+    Ok(())
+}
+
+/// Makes a share of a recorder for each of these means, in their order, where there is one: it keeps the records there.
+fn share_recorder<P: Panel + Drop, C: Recorder + Drop>(
+    recorder: &mut Option<C>,
+    means: &mut Vec<Means<P, C>>,
+) -> Result<(), Unready>
+    requires nobody { kept_of means.old.items ≡ replicate (length means.old.items) unwanted }
+    ensures panels { map (λ own. own.panel) means.new.items ≡ map (λ own. own.panel) means.old.items }
+    ensures lent { (lent : ℕ)
+        × HaveShares lent (option_map (recorder_view C.sent C.synced C.faults C.shares) recorder.old)
+        (kept_of means.new.items)
+        × SharesRecorder result (length means.old.items) lent
+        (option_map (recorder_view C.sent C.synced C.faults C.shares) recorder.old)
+        (option_map (recorder_view C.sent C.synced C.faults C.shares) recorder.new) }
+{
+    match recorder {
+        Some(recorder) => lend_shares(recorder, means),
+        None => Ok(()),
+    }
+}
+
+/// The same of a recorder that is there.
+fn lend_shares<P: Panel + Drop, C: Recorder + Drop>(
+    recorder: &mut C,
+    means: &mut Vec<Means<P, C>>,
+) -> Result<(), Unready>
+    requires nobody { kept_of means.old.items ≡ replicate (length means.old.items) unwanted }
+    ensures panels { map (λ own. own.panel) means.new.items ≡ map (λ own. own.panel) means.old.items }
+    ensures lent { (lent : ℕ)
+        × HaveShares lent (Some (recorder_view C.sent C.synced C.faults C.shares recorder.old))
+        (kept_of means.new.items)
+        × SharesRecorder result (length means.old.items) lent
+        (Some (recorder_view C.sent C.synced C.faults C.shares recorder.old))
+        (Some (recorder_view C.sent C.synced C.faults C.shares recorder.new)) }
+{
+    for place in 0..means.len() {
+        match recorder.share() {
+            Shared::Made(share) => means[place].records = RecordKeeper::over(share),
+            Shared::Failed => return Err(Unready::Records),
             Shared::NoMemory => return Err(Unready::Memory),
         }
     }
@@ -120,26 +174,26 @@ where
     }
 }
 
-/// Reaches the authorities of a head, shares the panel, listens at an address with this patience, and shares the door, in this order. The shares that were
-/// made are in the lists, whatever comes.
+/// Reaches the authorities of a head, shares the panel, and the recorder where there is one, listens at an address with this
+/// patience, and shares the door, in this order. The shares that were made are in the lists, whatever comes.
 pub fn make_ready<
     D: Door + Drop,
     P: Panel + Drop,
+    C: Recorder + Drop,
     R: Net<Listener = TcpListener, Stream = TcpStream> + Clock + Files,
 >(
     rt: &R,
     head: &Head,
     address: &[u8],
-    workers: u64,
-    door: &mut D,
-    doors: &mut Vec<D>,
-    panel: &mut P,
-    panels: &mut Vec<P>,
     patience: u64,
+    workers: u64,
+    outside: &mut Outside<D, P, C>,
+    doors: &mut Vec<D>,
+    means: &mut Vec<Means<P, C>>,
 ) -> Result<(), Unready>
 where
     D::Link: Drop,
-    requires none { (doors.old.items ≡ []) × (panels.old.items ≡ []) }
+    requires none { (doors.old.items ≡ []) × (means.old.items ≡ []) }
     requires few { workers ≤ 1024 }
     ensures made { (sessions : ℕ) → IsMade P.history (record {
       address = address.now;
@@ -147,21 +201,25 @@ where
       workers
           = workers;
       sessions = sessions;
-    }) head.now (door_view (link_view D.Link.left D.Link.taken D.Link.sent
-        D.Link.over D.Link.closed D.Link.admitted D.Link.place D.Link.toward D.Link.faults) D.links D.origin
-        D.calls door.old) (door_view (link_view D.Link.left D.Link.taken D.Link.sent D.Link.over D.Link.closed
-        D.Link.admitted D.Link.place D.Link.toward D.Link.faults) D.links D.origin D.calls door.new) (P.history
-        panel.old) (P.history panel.new) (map (door_view (link_view D.Link.left D.Link.taken D.Link.sent
-        D.Link.over D.Link.closed D.Link.admitted D.Link.place D.Link.toward D.Link.faults) D.links D.origin
-        D.calls) doors.new.items) panels.new.items result }
-    ensures doors_shared { All (IsShareOf D.origin D.calls door.new) doors.new.items }
-    ensures panels_shared { All (λ share. IsPanelShare (P.history panel.new) (P.history share)) panels.new.items }
+    }) head.now (door_view (link_view D.Link.left D.Link.taken D.Link.sent D.Link.over D.Link.closed
+        D.Link.admitted D.Link.place D.Link.toward D.Link.faults) D.links D.origin D.calls outside.old.door)
+        (door_view (link_view D.Link.left D.Link.taken D.Link.sent D.Link.over D.Link.closed D.Link.admitted
+        D.Link.place D.Link.toward D.Link.faults) D.links D.origin D.calls outside.new.door)
+        (P.history outside.old.panel) (P.history outside.new.panel)
+        (option_map (recorder_view C.sent C.synced C.faults C.shares) outside.old.recorder)
+        (option_map (recorder_view C.sent C.synced C.faults C.shares) outside.new.recorder)
+        (map (door_view (link_view D.Link.left D.Link.taken D.Link.sent D.Link.over D.Link.closed D.Link.admitted
+        D.Link.place D.Link.toward D.Link.faults) D.links D.origin D.calls) doors.new.items) means.new.items result }
+    ensures doors_shared { All (IsShareOf D.origin D.calls outside.new.door) doors.new.items }
+    ensures panels_shared { All (λ own. IsPanelShare (P.history outside.new.panel) (P.history own.panel))
+        means.new.items }
 {
-    match reach_all(rt, head, panel) {
+    match reach_all(rt, head, &mut outside.panel) {
         Reach::Ready => {
-            make_room(doors, panels, workers)?;
-            share_panel(panel, workers, panels)?;
-            listen_and_share(rt, address, workers, door, doors, patience)
+            make_room(doors, means, workers)?;
+            share_panel(&mut outside.panel, workers, means)?;
+            share_recorder(&mut outside.recorder, means)?;
+            listen_and_share(rt, address, workers, &mut outside.door, doors, patience)
         }
         Reach::Failed => Err(Unready::Panel),
     }

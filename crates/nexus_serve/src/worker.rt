@@ -1,13 +1,16 @@
 //! A worker: it serves the links of its door, one after another.
 ghost use Rattle.std.specs.Prelude.{◌≡◌, ◌<◌, ◌≤◌, ◌+◌, ◌++◌, ◌∷◌, [], length, All, Some, true, false};
 ghost use Rattle.std.specs.Vec.{vec_capacity, vec_len};
+ghost use Rattle.nexus_serve.specs.Means.{means_history};
+ghost use Rattle.nexus_serve.specs.declared.means.Means.{Means};
 ghost use Rattle.nexus_serve.specs.Inner.Working.{IsDone, IsHired, IsStopped, IsUnused, IsWorking, WorkerValue, WorksOn};
 
+use crate::means::Means;
 use crate::reporting::ServedSession;
 use authority_ask::Panel;
 use nx_io::{Door, Gate, Next, Sink};
 use policy_book::{BookAccess, BookNaming, LockedBook, NalMatter, SharedBook};
-use session_core::{Report, serve_link};
+use session_core::{Beside, Report, serve_link};
 use std::alloc::Global;
 use std::marker::Model;
 use std::net::{Net, TcpListener, TcpStream};
@@ -16,14 +19,14 @@ use std::sync::Wait;
 use std::sync::ledger::{Ledger, Share};
 use verdict_words::{Board, Pass, Roll};
 
-/// A worker: the number of its first session, its door and its panel, the roll of the passes that it has not used, what is reported
+/// A worker: the number of its first session, its door and its means, the roll of the passes that it has not used, what is reported
 /// of its sessions, with their passes, whether its door has failed, whether there was no memory for one more report, and its share of
 /// the ledger that counts the changes that were not recorded.
 #[derive(Drop)]
-pub struct Worker<D: Door, P: Panel, T: Ledger> {
+pub struct Worker<D: Door, P: Panel, C: Sink, T: Ledger> {
     pub first: u64,
     pub door: D,
-    pub panel: P,
+    pub means: Means<P, C>,
     pub roll: Roll<NalMatter>,
     pub sessions: Vec<ServedSession<D::Link>>,
     pub used: Vec<Pass<NalMatter>>,
@@ -32,15 +35,16 @@ pub struct Worker<D: Door, P: Panel, T: Ledger> {
     pub mark: Share<T>,
 }
 
-impl<D: Door, P: Panel, T: Ledger> Model for Worker<D, P, T> {
+impl<D: Door, P: Panel, C: Sink, T: Ledger> Model for Worker<D, P, C, T> {
     ghost use Rattle.std.specs.Prelude.{◌≡◌, length, map};
     ghost use Rattle.std.specs.Coded.{codes};
     ghost use Rattle.nal_term.specs.contracts.terms.Term as t;
     ghost use Rattle.nal_term.specs.contracts.formulas.Formula as f;
     ghost use Rattle.nexus_serve.specs.Views.{door_view, joined, link_view, session_view};
     ghost use Rattle.nexus_serve.specs.Inner.Working.{WorkerValue};
+    ghost use Rattle.nexus_serve.specs.declared.means.Means.{Means};
 
-    ghost Value = { WorkerValue P };
+    ghost Value = { WorkerValue (Means P C) };
 
     ghost coded = { Prim.hlevel (codes, t.the_row.coded, f.the_row.coded) };
 
@@ -48,7 +52,7 @@ impl<D: Door, P: Panel, T: Ledger> Model for Worker<D, P, T> {
       first = w.first;
       door = door_view (link_view D.Link.left D.Link.taken D.Link.sent D.Link.over D.Link.closed D.Link.admitted D.Link.place
           D.Link.toward D.Link.faults) D.links D.origin D.calls w.door;
-      panel = w.panel;
+      means = w.means;
       passes = w.roll;
       reports = joined (map (session_view (link_view D.Link.left D.Link.taken D.Link.sent D.Link.over D.Link.closed
           D.Link.admitted D.Link.place D.Link.toward D.Link.faults)) w.sessions.items) w.used.items;
@@ -61,7 +65,7 @@ impl<D: Door, P: Panel, T: Ledger> Model for Worker<D, P, T> {
     ghost invariant = { λ w. length w.sessions.items ≡ length w.used.items };
 }
 
-impl<D: Door, P: Panel, T: Ledger> Worker<D, P, T>
+impl<D: Door, P: Panel, C: Sink + Drop, T: Ledger> Worker<D, P, C, T>
 where
     D::Link: Drop,
 {
@@ -82,7 +86,7 @@ where
     )
         requires named { N.board ≡ Some board.now }
         requires hired { IsHired board.now self.old.first (length self.old.passes) self.old }
-        ensures done { IsDone P.history board.now self.new.unrecorded self.old self.new }
+        ensures done { IsDone (means_history P.history) board.now self.new.unrecorded self.old self.new }
     {
         let mut book = LockedBook::new(rt, board, shared, self.mark.split_off(1, 0));
         self.work(rt, alloc, board, &mut book, gate);
@@ -100,8 +104,8 @@ where
         gate: &G,
     )
         requires named { B.board book.old ≡ board.now }
-        requires working { IsWorking P.history board.now (B.unrecorded book.old) self.old self.old }
-        ensures stopped { IsStopped P.history board.now (B.unrecorded book.new) self.old self.new }
+        requires working { IsWorking (means_history P.history) board.now (B.unrecorded book.old) self.old self.old }
+        ensures stopped { IsStopped (means_history P.history) board.now (B.unrecorded book.new) self.old self.new }
     {
         while !self.is_spent() {
             if !self.serve_next(rt, alloc, board, book, gate) {
@@ -128,8 +132,9 @@ where
         requires named { B.board book.old ≡ board.now }
         requires some { 0 < length self.old.passes }
         requires unused { All (IsUnused board.now) self.old.passes }
-        ensures went { (start : WorkerValue P) → IsWorking P.history board.now (B.unrecorded book.old) start self.old
-            → WorksOn P.history board.now (B.unrecorded book.new) result start self.new }
+        ensures went { (start : WorkerValue (Means P C))
+            → IsWorking (means_history P.history) board.now (B.unrecorded book.old) start self.old
+            → WorksOn (means_history P.history) board.now (B.unrecorded book.new) result start self.new }
         ensures fewer { result ≡ true → length self.new.passes + 1 ≡ length self.old.passes }
         ensures book { B.board book.new ≡ B.board book.old }
     {
@@ -142,7 +147,17 @@ where
                 let Some(pass) = self.roll.next() else {
                     unreachable!()
                 };
-                let report = serve_link(rt, alloc, board, book, pass, link, &mut self.panel, gate);
+                let beside = Beside { board, gate };
+                let report = serve_link(
+                    rt,
+                    alloc,
+                    &beside,
+                    book,
+                    pass,
+                    link,
+                    &mut self.means.panel,
+                    &mut self.means.records,
+                );
                 add(report, &mut self.sessions, &mut self.used);
                 true
             }

@@ -23,13 +23,13 @@ abbrev pub AreLaid : Identity Entry Head → ℕ → ℕ → List DeskValue → 
 AreLaid board first most [] = Unit {0}
 AreLaid board first most (desk ∷ desks) = IsLaid board first most desk × AreLaid board (first + most) most desks
 
--- a worker that has not begun, at this desk, with this door and this panel, and with one part of the ledger
-abbrev pub seated_at : {P : Type 0} → DeskValue → DoorView → P → WorkerValue P
-seated_at desk door panel = record { first = desk.first; door = door; panel = panel; passes = desk.passes; reports = []; has_failed = false; lacks_room = false; parts = 1; unrecorded = 0 }
+-- a worker that has not begun, at this desk, with this door and these means, and with one part of the ledger
+abbrev pub seated_at : {M : Type 0} → DeskValue → DoorView → M → WorkerValue M
+seated_at desk door means = record { first = desk.first; door = door; means = means; passes = desk.passes; reports = []; has_failed = false; lacks_room = false; parts = 1; unrecorded = 0 }
 
--- workers, each with the desk, the door and the panel of its place
-abbrev pub seated : {P : Type 0} → List DeskValue → List DoorView → List P → List (WorkerValue P)
-seated [] doors panels = []
-seated (desk ∷ desks) [] panels = []
+-- workers, each with the desk, the door and the means of its place
+abbrev pub seated : {M : Type 0} → List DeskValue → List DoorView → List M → List (WorkerValue M)
+seated [] doors means = []
+seated (desk ∷ desks) [] means = []
 seated (desk ∷ desks) (door ∷ doors) [] = []
-seated (desk ∷ desks) (door ∷ doors) (panel ∷ panels) = seated_at desk door panel ∷ seated desks doors panels
+seated (desk ∷ desks) (door ∷ doors) (own ∷ means) = seated_at desk door own ∷ seated desks doors means

@@ -19,12 +19,12 @@ joined_each [] passes = []
 joined_each (mine ∷ sessions) [] = []
 joined_each (mine ∷ sessions) (used ∷ passes) = joined mine used ∷ joined_each sessions passes
 
--- What contracts see of what workers left: their doors and panels, of each what is reported of its sessions, with the passes of these, and the
+-- What contracts see of what workers left: their doors and means, of each what is reported of its sessions, with the passes of these, and the
 -- passes that it has not used, whether a door has failed, whether a worker had no memory for one more session, and how many more workers
 -- there is memory for
-pub record GatheredValue (P : Type 0) : Type 0 where
+pub record GatheredValue (M : Type 0) : Type 0 where
   pub doors : List DoorView
-  pub panels : List P
+  pub means : List M
   pub sessions : List (List SessionView)
   pub used : List (List (PassValue Entry Head))
   pub unused : List (List (PassValue Entry Head))
@@ -33,10 +33,10 @@ pub record GatheredValue (P : Type 0) : Type 0 where
   pub places : ℕ
 
 -- what one worker leaves, behind what others have left
-abbrev pub gathered_from : {P : Type 0} → GatheredValue P → WorkerValue P → GatheredValue P
+abbrev pub gathered_from : {M : Type 0} → GatheredValue M → WorkerValue M → GatheredValue M
 gathered_from g worker = record {
   doors = g.doors ++ worker.door ∷ [];
-  panels = g.panels ++ worker.panel ∷ [];
+  means = g.means ++ worker.means ∷ [];
   sessions = g.sessions ++ map session_of worker.reports ∷ [];
   used = g.used ++ map pass_of worker.reports ∷ [];
   unused = g.unused ++ worker.passes ∷ [];
@@ -46,15 +46,15 @@ gathered_from g worker = record {
 }
 
 -- what all workers leave, in order
-abbrev pub gathered_all : {P : Type 0} → GatheredValue P → List (WorkerValue P) → GatheredValue P
+abbrev pub gathered_all : {M : Type 0} → GatheredValue M → List (WorkerValue M) → GatheredValue M
 gathered_all g [] = g
 gathered_all g (worker ∷ workers) = gathered_all (gathered_from g worker) workers
 
 -- nothing yet, with memory for so many workers
-abbrev pub nothing : {P : Type 0} → ℕ → GatheredValue P
-nothing workers = record { doors = []; panels = []; sessions = []; used = []; unused = []; has_failed = false; lacks_room = false; places = workers }
+abbrev pub nothing : {M : Type 0} → ℕ → GatheredValue M
+nothing workers = record { doors = []; means = []; sessions = []; used = []; unused = []; has_failed = false; lacks_room = false; places = workers }
 
 -- nothing is there yet, and there is memory for all that these workers leave
-pub record IsRoomFor {P : Type 0} (workers : List (WorkerValue P)) (room : GatheredValue P) : Type 0 where
+pub record IsRoomFor {M : Type 0} (workers : List (WorkerValue M)) (room : GatheredValue M) : Type 0 where
   pub empty : room ≡ nothing room.places
   pub places : length workers ≤ room.places

@@ -12,7 +12,7 @@ use Rattle.nexus_serve.specs.Inner.Gathering.{GatheredValue, joined_each}
 use Rattle.nexus_serve.specs.Inner.Working.{end_of}
 
 -- the text was ended, and the journal of the book is handed back with what was gathered
-pub record IsClosed {K P : Type 0} (book : BookValue K) (doors : List DoorView) (panels : List P) (reports : List ReportView) (end : ServeEnd) (served : ServedView P) : Type 0 where
+pub record IsClosed {K M : Type 0} (book : BookValue K) (doors : List DoorView) (means : List M) (reports : List ReportView) (end : ServeEnd) (served : ServedView M) : Type 0 where
   pub journal : IsJournal served.journal (head_of book) book.entries
   pub sink_now : SinkView
   pub sink : served.sink ≡ Some sink_now
@@ -21,13 +21,13 @@ pub record IsClosed {K P : Type 0} (book : BookValue K) (doors : List DoorView) 
   pub lasts : AreLasting (head_of book) book.board.origin.opening book.entries book.start sink_now.synced
   pub reports_are : served.reports ≡ reports
   pub doors_are : served.doors ≡ doors
-  pub panels_are : served.panels ≡ panels
+  pub means_are : served.means ≡ means
   pub end_is : served.end ≡ end
   pub legal : IsLegalBook book
   pub numbered : IsNumbered book
 
 -- all passes were met once more, and what was gathered is handed back with the journal of the book
-pub record IsReported {K P : Type 0} (book : BookValue K) (gathered : GatheredValue P) (served : ServedView P) : Type 0 where
+pub record IsReported {K M : Type 0} (book : BookValue K) (gathered : GatheredValue M) (served : ServedView M) : Type 0 where
   pub journal : IsJournal served.journal (head_of book) book.entries
   pub sink_now : SinkView
   pub sink : served.sink ≡ Some sink_now
@@ -37,7 +37,7 @@ pub record IsReported {K P : Type 0} (book : BookValue K) (gathered : GatheredVa
   pub known : List AtomicStep
   pub reports : served.reports ≡ flat (joined_each gathered.sessions (map (all_met book.board book.entries known) gathered.used))
   pub doors : served.doors ≡ gathered.doors
-  pub panels : served.panels ≡ gathered.panels
+  pub means : served.means ≡ gathered.means
   pub end : served.end ≡ end_of gathered.has_failed gathered.lacks_room
   pub met : All (IsMetIn book) (all_of gathered.used gathered.unused)
   pub order : AreGatheredIn book (all_of gathered.used gathered.unused) known
@@ -49,9 +49,9 @@ abbrev pub IsEnded : Bool → SinkView → SinkView → Type 0
 IsEnded true sink sink_now = Sends sink.sent sink_now.sent (ended (codes "end")) × (sink_now.synced ≡ length sink_now.sent) × (sink_now.faults ≡ sink.faults)
 IsEnded false sink sink_now = SendsFront sink.sent sink_now.sent (ended (codes "end")) × (sink_now.synced ≡ sink.synced) × Rose sink.faults sink_now.faults
 
--- nobody was served, and the doors and panels are handed back
-pub record IsHandedBack {P : Type 0} (doors : List DoorView) (panels : List P) (served : ServedView P) : Type 0 where
+-- nobody was served, and the doors and means are handed back
+pub record IsHandedBack {M : Type 0} (doors : List DoorView) (means : List M) (served : ServedView M) : Type 0 where
   pub reports : served.reports ≡ []
   pub doors_are : served.doors ≡ doors
-  pub panels_are : served.panels ≡ panels
+  pub means_are : served.means ≡ means
   pub written : served.written ≡ false

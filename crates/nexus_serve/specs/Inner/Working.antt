@@ -1,6 +1,6 @@
 -- How far a worker is.
 use Rattle.std.specs.Prelude.{◌≡◌, ◌≢◌, ◌<◌, ◌+◌, ℕ, List, [], ◌∷◌, length, All, Bool, true, false, if◌then◌else◌}
-use Rattle.authority_ask.specs.PanelCalls.{PanelHistory}
+use Rattle.nexus_serve.specs.Means.{MeansHistory}
 use Rattle.nx_io.specs.Streams.{Rose}
 use Rattle.nx_io.specs.DoorCalls.{faults_in}
 use Rattle.policy_history.specs.declared.events.Entry.{Entry}
@@ -11,13 +11,13 @@ use Rattle.nexus_serve.specs.declared.closing.ServeEnd.TheVariants.{Done, DoorFa
 use Rattle.nexus_serve.specs.Views.{DoorView, ReportView}
 use Rattle.nexus_serve.specs.Workers.{HasWorked, IsCutShort, Works}
 
--- What contracts see of a worker: the number of its first session, its door and its panel, the passes that it has not used, the reports of
+-- What contracts see of a worker: the number of its first session, its door and its means, the passes that it has not used, the reports of
 -- its sessions, whether its door has failed, whether there was no memory for one more report, and of the share of the ledger that it holds the
 -- parts, and how many changes were told not to be recorded by its sessions
-pub record WorkerValue (P : Type 0) : Type 0 where
+pub record WorkerValue (M : Type 0) : Type 0 where
   pub first : ℕ
   pub door : DoorView
-  pub panel : P
+  pub means : M
   pub passes : List (PassValue Entry Head)
   pub reports : List ReportView
   pub has_failed : Bool
@@ -41,7 +41,7 @@ AreNumbered first [] = Unit {0}
 AreNumbered first (pass ∷ passes) = (pass.session ≡ first) × AreNumbered (first + 1) passes
 
 -- a worker that has not begun
-pub record IsHired {P : Type 0} (board : Identity Entry Head) (first most : ℕ) (worker : WorkerValue P) : Type 0 where
+pub record IsHired {M : Type 0} (board : Identity Entry Head) (first most : ℕ) (worker : WorkerValue M) : Type 0 where
   pub first_is : worker.first ≡ first
   pub numbered : AreNumbered first worker.passes
   pub count : length worker.passes ≡ most
@@ -53,8 +53,8 @@ pub record IsHired {P : Type 0} (board : Identity Entry Head) (first most : ℕ)
   pub recorded : worker.unrecorded ≡ 0
 
 -- a worker on its way, from where it began; so many changes were told not to be recorded. It leaves its share alone
-pub record IsWorking {P : Type 0} (panel : P → PanelHistory) (board : Identity Entry Head) (told : ℕ) (start now : WorkerValue P) : Type 0 where
-  pub works : Works board.origin.setting (length board.origin.opening) 0 (0 < told) start.first start.door (panel start.panel) now.reports now.door (panel now.panel)
+pub record IsWorking {M : Type 0} (history : M → MeansHistory) (board : Identity Entry Head) (told : ℕ) (start now : WorkerValue M) : Type 0 where
+  pub works : Works board.origin.setting (length board.origin.opening) 0 (0 < told) start.first start.door (history start.means) now.reports now.door (history now.means)
   pub first_is : now.first ≡ start.first
   pub numbered : AreNumbered (start.first + length now.reports) now.passes
   pub count : length now.reports + length now.passes ≡ length start.passes
@@ -66,22 +66,22 @@ pub record IsWorking {P : Type 0} (panel : P → PanelHistory) (board : Identity
   pub unrecorded : now.unrecorded ≡ start.unrecorded
 
 -- a worker that has stopped, from where it began; so many changes were told not to be recorded
-pub record IsDone {P : Type 0} (panel : P → PanelHistory) (board : Identity Entry Head) (told : ℕ) (start now : WorkerValue P) : Type 0 where
+pub record IsDone {M : Type 0} (history : M → MeansHistory) (board : Identity Entry Head) (told : ℕ) (start now : WorkerValue M) : Type 0 where
   pub fault : now.has_failed ≡ true → Rose (faults_in start.door.calls) (faults_in now.door.calls)
   pub short : now.lacks_room ≡ true → IsCutShort (length start.passes) start.door now.door
-  pub worked : HasWorked board.origin.setting (length board.origin.opening) 0 (0 < told) (end_of now.has_failed now.lacks_room) start.first (length start.passes) start.door now.door (panel start.panel) (panel now.panel) now.reports
+  pub worked : HasWorked board.origin.setting (length board.origin.opening) 0 (0 < told) (end_of now.has_failed now.lacks_room) start.first (length start.passes) start.door now.door (history start.means) (history now.means) now.reports
   pub numbered : AreNumbered (start.first + length now.reports) now.passes
   pub count : length now.reports + length now.passes ≡ length start.passes
   pub unused : All (IsUnused board) now.passes
   pub used : All (λ (report : ReportView). report.pass.board ≡ board) now.reports
 
 -- a worker that has stopped, and left its share alone
-pub record IsStopped {P : Type 0} (panel : P → PanelHistory) (board : Identity Entry Head) (told : ℕ) (start now : WorkerValue P) : Type 0 where
-  pub done : IsDone panel board told start now
+pub record IsStopped {M : Type 0} (history : M → MeansHistory) (board : Identity Entry Head) (told : ℕ) (start now : WorkerValue M) : Type 0 where
+  pub done : IsDone history board told start now
   pub parts : now.parts ≡ start.parts
   pub unrecorded : now.unrecorded ≡ start.unrecorded
 
 -- where a worker is that was to serve one more link: on its way where it has, and else done
-abbrev pub WorksOn : {P : Type 0} → (P → PanelHistory) → Identity Entry Head → ℕ → Bool → WorkerValue P → WorkerValue P → Type 0
-WorksOn panel board told true start now = IsWorking panel board told start now
-WorksOn panel board told false start now = IsStopped panel board told start now
+abbrev pub WorksOn : {M : Type 0} → (M → MeansHistory) → Identity Entry Head → ℕ → Bool → WorkerValue M → WorkerValue M → Type 0
+WorksOn history board told true start now = IsWorking history board told start now
+WorksOn history board told false start now = IsStopped history board told start now

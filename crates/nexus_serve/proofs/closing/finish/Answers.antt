@@ -1,5 +1,6 @@
 use Rattle.std.proofs.Common.{All, ◌∙◌, ap, sym, subst}
 use Rattle.verdict_words.specs.Settling.{all_of}
+use Rattle.nexus_serve.specs.Means.{means_history}
 use Rattle.nexus_serve.specs.Inner.Gathering.{gathered_all}
 use Rattle.nexus_serve.specs.Inner.Reporting.{IsReported}
 use Rattle.nexus_serve.proofs.Gathering.{IsOfBoard, all_of_board}
@@ -20,5 +21,5 @@ returns g c =
     rw (← c.requires.board)
     (record {
       served = λ most synced hired stopped numbers.
-          finished g.P.Panel.history c.what_was_told_stays_told.ensures c.args.book synced c.report.result most hired c.args.workers.items room.places stopped numbers reported c.args.total.now.amount c.gather.ensures.counted c.requires.failed first;
+          finished (means_history g.P.Panel.history) c.what_was_told_stays_told.ensures.noted c.args.book synced c.report.result most hired c.args.workers.items room.places stopped numbers reported c.args.total.now.amount c.gather.ensures.counted c.requires.failed first;
     })

@@ -10,4 +10,4 @@ returns g c =
     let gone = c.in_default.ensures.cases.0 in
     let long = c.loop-desk.desks.ok.0 in
     let none : length c.loop-desk.desks.items ≡ 0 = omega (arith, gone, long) in
-    all_seated left.workers.items (seated c.args.desks.items (map (door_view (link_view g.D.Link.Link.left g.D.Link.Link.taken g.D.Link.Link.sent g.D.Link.Link.over g.D.Link.Link.closed g.D.Link.Link.admitted g.D.Link.Link.place g.D.Link.Link.toward g.D.Link.Link.faults) g.D.Door.links g.D.Door.origin g.D.Door.calls) c.args.doors.items) c.args.panels.items) left.desks.items (map (door_view (link_view g.D.Link.Link.left g.D.Link.Link.taken g.D.Link.Link.sent g.D.Link.Link.over g.D.Link.Link.closed g.D.Link.Link.admitted g.D.Link.Link.place g.D.Link.Link.toward g.D.Link.Link.faults) g.D.Door.links g.D.Door.origin g.D.Door.calls) left.doors.items) left.panels.items none left.invariant.workers
+    all_seated left.workers.items (seated c.args.desks.items (map (door_view (link_view g.D.Link.Link.left g.D.Link.Link.taken g.D.Link.Link.sent g.D.Link.Link.over g.D.Link.Link.closed g.D.Link.Link.admitted g.D.Link.Link.place g.D.Link.Link.toward g.D.Link.Link.faults) g.D.Door.links g.D.Door.origin g.D.Door.calls) c.args.doors.items) c.args.means.items) left.desks.items (map (door_view (link_view g.D.Link.Link.left g.D.Link.Link.taken g.D.Link.Link.sent g.D.Link.Link.over g.D.Link.Link.closed g.D.Link.Link.admitted g.D.Link.Link.place g.D.Link.Link.toward g.D.Link.Link.faults) g.D.Door.links g.D.Door.origin g.D.Door.calls) left.doors.items) left.means.items none left.invariant.workers

@@ -8,7 +8,7 @@ use Rattle.nexus_serve.specs.Services.{SinkView, unopened}
 use Rattle.nexus_serve.specs.Inner.Desks.{seated}
 use Rattle.nexus_serve.specs.Inner.Serving.{AreHired}
 use Rattle.nexus_serve.proofs.Numbering.{each_hired}
-use Rattle.nexus_serve.proofs.Seating.{room_hired, seated_count, seated_doors, seated_hired, seated_panels}
+use Rattle.nexus_serve.proofs.Seating.{room_hired, seated_count, seated_doors, seated_hired, seated_means}
 use Rattle.nexus_serve.proofs.service.serve_book.Goals as goal
 
 pub open-requires-clause-text : goal.open-requires-clause-text
@@ -17,30 +17,30 @@ open-requires-clause-text g c = rw (c.requires.made) (c.front_of.ensures ∙ ap 
 pub serve_hired-requires-clause-hired : goal.serve_hired-requires-clause-hired
 serve_hired-requires-clause-hired g c κs within =
     each_hired c.args.board.now c.args.board.now.origin.first c.args.sessions c.seat-workers.result.items
-    (rw (c.seat-workers.ensures) (seated_hired c.args.board.now c.args.board.now.origin.first c.args.sessions c.args.prepared.desks.items (map (door_view (link_view g.D.Link.Link.left g.D.Link.Link.taken g.D.Link.Link.sent g.D.Link.Link.over g.D.Link.Link.closed g.D.Link.Link.admitted g.D.Link.Link.place g.D.Link.Link.toward g.D.Link.Link.faults) g.D.Door.links g.D.Door.origin g.D.Door.calls) c.args.doors.items) c.args.panels.items c.requires.desks.0))
+    (rw (c.seat-workers.ensures) (seated_hired c.args.board.now c.args.board.now.origin.first c.args.sessions c.args.prepared.desks.items (map (door_view (link_view g.D.Link.Link.left g.D.Link.Link.taken g.D.Link.Link.sent g.D.Link.Link.over g.D.Link.Link.closed g.D.Link.Link.admitted g.D.Link.Link.place g.D.Link.Link.toward g.D.Link.Link.faults) g.D.Door.links g.D.Door.origin g.D.Door.calls) c.args.doors.items) c.args.means.items c.requires.desks.0))
 
 pub serve_hired-requires-clause-room : goal.serve_hired-requires-clause-room
 serve_hired-requires-clause-room g c κs within =
     let desks = c.args.prepared.desks.items in
     let same : length (map (door_view (link_view g.D.Link.Link.left g.D.Link.Link.taken g.D.Link.Link.sent g.D.Link.Link.over g.D.Link.Link.closed g.D.Link.Link.admitted g.D.Link.Link.place g.D.Link.Link.toward g.D.Link.Link.faults) g.D.Door.links g.D.Door.origin g.D.Door.calls) c.args.doors.items) ≡ length desks = length-map c.args.doors.items (door_view (link_view g.D.Link.Link.left g.D.Link.Link.taken g.D.Link.Link.sent g.D.Link.Link.over g.D.Link.Link.closed g.D.Link.Link.admitted g.D.Link.Link.place g.D.Link.Link.toward g.D.Link.Link.faults) g.D.Door.links g.D.Door.origin g.D.Door.calls) ∙ sym c.requires.desks.1 in
-    let pairs : length c.args.panels.items ≡ length desks = c.requires.pairs ∙ sym c.requires.desks.1 in
+    let pairs : length c.args.means.items ≡ length desks = c.requires.pairs ∙ sym c.requires.desks.1 in
     rw (c.seat-workers.ensures)
-    (room_hired (length c.args.doors.items) (seated desks (map (door_view (link_view g.D.Link.Link.left g.D.Link.Link.taken g.D.Link.Link.sent g.D.Link.Link.over g.D.Link.Link.closed g.D.Link.Link.admitted g.D.Link.Link.place g.D.Link.Link.toward g.D.Link.Link.faults) g.D.Door.links g.D.Door.origin g.D.Door.calls) c.args.doors.items) c.args.panels.items) c.args.prepared.room
-    (seated_count desks (map (door_view (link_view g.D.Link.Link.left g.D.Link.Link.taken g.D.Link.Link.sent g.D.Link.Link.over g.D.Link.Link.closed g.D.Link.Link.admitted g.D.Link.Link.place g.D.Link.Link.toward g.D.Link.Link.faults) g.D.Door.links g.D.Door.origin g.D.Door.calls) c.args.doors.items) c.args.panels.items same pairs ∙ c.requires.desks.1) c.requires.room)
+    (room_hired (length c.args.doors.items) (seated desks (map (door_view (link_view g.D.Link.Link.left g.D.Link.Link.taken g.D.Link.Link.sent g.D.Link.Link.over g.D.Link.Link.closed g.D.Link.Link.admitted g.D.Link.Link.place g.D.Link.Link.toward g.D.Link.Link.faults) g.D.Door.links g.D.Door.origin g.D.Door.calls) c.args.doors.items) c.args.means.items) c.args.prepared.room
+    (seated_count desks (map (door_view (link_view g.D.Link.Link.left g.D.Link.Link.taken g.D.Link.Link.sent g.D.Link.Link.over g.D.Link.Link.closed g.D.Link.Link.admitted g.D.Link.Link.place g.D.Link.Link.toward g.D.Link.Link.faults) g.D.Door.links g.D.Door.origin g.D.Door.calls) c.args.doors.items) c.args.means.items same pairs ∙ c.requires.desks.1) c.requires.room)
 
 pub returns-in-Ready : goal.returns-in-Ready
 returns-in-Ready g c =
     let desks = c.args.prepared.desks.items in
     let same : length (map (door_view (link_view g.D.Link.Link.left g.D.Link.Link.taken g.D.Link.Link.sent g.D.Link.Link.over g.D.Link.Link.closed g.D.Link.Link.admitted g.D.Link.Link.place g.D.Link.Link.toward g.D.Link.Link.faults) g.D.Door.links g.D.Door.origin g.D.Door.calls) c.args.doors.items) ≡ length desks = length-map c.args.doors.items (door_view (link_view g.D.Link.Link.left g.D.Link.Link.taken g.D.Link.Link.sent g.D.Link.Link.over g.D.Link.Link.closed g.D.Link.Link.admitted g.D.Link.Link.place g.D.Link.Link.toward g.D.Link.Link.faults) g.D.Door.links g.D.Door.origin g.D.Door.calls) ∙ sym c.requires.desks.1 in
-    let pairs : length c.args.panels.items ≡ length desks = c.requires.pairs ∙ sym c.requires.desks.1 in
-    let hired : AreHired c.args.board.now c.args.board.now.origin.first c.args.sessions (seated desks (map (door_view (link_view g.D.Link.Link.left g.D.Link.Link.taken g.D.Link.Link.sent g.D.Link.Link.over g.D.Link.Link.closed g.D.Link.Link.admitted g.D.Link.Link.place g.D.Link.Link.toward g.D.Link.Link.faults) g.D.Door.links g.D.Door.origin g.D.Door.calls) c.args.doors.items) c.args.panels.items) =
-    seated_hired c.args.board.now c.args.board.now.origin.first c.args.sessions desks (map (door_view (link_view g.D.Link.Link.left g.D.Link.Link.taken g.D.Link.Link.sent g.D.Link.Link.over g.D.Link.Link.closed g.D.Link.Link.admitted g.D.Link.Link.place g.D.Link.Link.toward g.D.Link.Link.faults) g.D.Door.links g.D.Door.origin g.D.Door.calls) c.args.doors.items) c.args.panels.items c.requires.desks.0 in
-    let count : length (seated desks (map (door_view (link_view g.D.Link.Link.left g.D.Link.Link.taken g.D.Link.Link.sent g.D.Link.Link.over g.D.Link.Link.closed g.D.Link.Link.admitted g.D.Link.Link.place g.D.Link.Link.toward g.D.Link.Link.faults) g.D.Door.links g.D.Door.origin g.D.Door.calls) c.args.doors.items) c.args.panels.items) ≡ length c.args.doors.items = seated_count desks (map (door_view (link_view g.D.Link.Link.left g.D.Link.Link.taken g.D.Link.Link.sent g.D.Link.Link.over g.D.Link.Link.closed g.D.Link.Link.admitted g.D.Link.Link.place g.D.Link.Link.toward g.D.Link.Link.faults) g.D.Door.links g.D.Door.origin g.D.Door.calls) c.args.doors.items) c.args.panels.items same pairs ∙ c.requires.desks.1 in
-    let next : c.args.book.next ≡ c.args.board.now.origin.first + length (seated desks (map (door_view (link_view g.D.Link.Link.left g.D.Link.Link.taken g.D.Link.Link.sent g.D.Link.Link.over g.D.Link.Link.closed g.D.Link.Link.admitted g.D.Link.Link.place g.D.Link.Link.toward g.D.Link.Link.faults) g.D.Door.links g.D.Door.origin g.D.Door.calls) c.args.doors.items) c.args.panels.items) * c.args.sessions =
+    let pairs : length c.args.means.items ≡ length desks = c.requires.pairs ∙ sym c.requires.desks.1 in
+    let hired : AreHired c.args.board.now c.args.board.now.origin.first c.args.sessions (seated desks (map (door_view (link_view g.D.Link.Link.left g.D.Link.Link.taken g.D.Link.Link.sent g.D.Link.Link.over g.D.Link.Link.closed g.D.Link.Link.admitted g.D.Link.Link.place g.D.Link.Link.toward g.D.Link.Link.faults) g.D.Door.links g.D.Door.origin g.D.Door.calls) c.args.doors.items) c.args.means.items) =
+    seated_hired c.args.board.now c.args.board.now.origin.first c.args.sessions desks (map (door_view (link_view g.D.Link.Link.left g.D.Link.Link.taken g.D.Link.Link.sent g.D.Link.Link.over g.D.Link.Link.closed g.D.Link.Link.admitted g.D.Link.Link.place g.D.Link.Link.toward g.D.Link.Link.faults) g.D.Door.links g.D.Door.origin g.D.Door.calls) c.args.doors.items) c.args.means.items c.requires.desks.0 in
+    let count : length (seated desks (map (door_view (link_view g.D.Link.Link.left g.D.Link.Link.taken g.D.Link.Link.sent g.D.Link.Link.over g.D.Link.Link.closed g.D.Link.Link.admitted g.D.Link.Link.place g.D.Link.Link.toward g.D.Link.Link.faults) g.D.Door.links g.D.Door.origin g.D.Door.calls) c.args.doors.items) c.args.means.items) ≡ length c.args.doors.items = seated_count desks (map (door_view (link_view g.D.Link.Link.left g.D.Link.Link.taken g.D.Link.Link.sent g.D.Link.Link.over g.D.Link.Link.closed g.D.Link.Link.admitted g.D.Link.Link.place g.D.Link.Link.toward g.D.Link.Link.faults) g.D.Door.links g.D.Door.origin g.D.Door.calls) c.args.doors.items) c.args.means.items same pairs ∙ c.requires.desks.1 in
+    let next : c.args.book.next ≡ c.args.board.now.origin.first + length (seated desks (map (door_view (link_view g.D.Link.Link.left g.D.Link.Link.taken g.D.Link.Link.sent g.D.Link.Link.over g.D.Link.Link.closed g.D.Link.Link.admitted g.D.Link.Link.place g.D.Link.Link.toward g.D.Link.Link.faults) g.D.Door.links g.D.Door.origin g.D.Door.calls) c.args.doors.items) c.args.means.items) * c.args.sessions =
     ap (λ b. b.next) c.requires.made ∙ ap (λ n. c.args.board.now.origin.first + n * c.args.sessions) (sym count) in
     let start = ap (λ b. b.start) c.requires.made in
     let start_faults = ap (λ b. b.start_faults) c.requires.made in
-    let served = rw (c.in-Ready.ensures.book, c.seat-workers.ensures, start, start_faults, seated_doors desks (map (door_view (link_view g.D.Link.Link.left g.D.Link.Link.taken g.D.Link.Link.sent g.D.Link.Link.over g.D.Link.Link.closed g.D.Link.Link.admitted g.D.Link.Link.place g.D.Link.Link.toward g.D.Link.Link.faults) g.D.Door.links g.D.Door.origin g.D.Door.calls) c.args.doors.items) c.args.panels.items same pairs, seated_panels desks (map (door_view (link_view g.D.Link.Link.left g.D.Link.Link.taken g.D.Link.Link.sent g.D.Link.Link.over g.D.Link.Link.closed g.D.Link.Link.admitted g.D.Link.Link.place g.D.Link.Link.toward g.D.Link.Link.faults) g.D.Door.links g.D.Door.origin g.D.Door.calls) c.args.doors.items) c.args.panels.items same pairs) at c.serve_hired.ensures.served in
+    let served = rw (c.in-Ready.ensures.book, c.seat-workers.ensures, start, start_faults, seated_doors desks (map (door_view (link_view g.D.Link.Link.left g.D.Link.Link.taken g.D.Link.Link.sent g.D.Link.Link.over g.D.Link.Link.closed g.D.Link.Link.admitted g.D.Link.Link.place g.D.Link.Link.toward g.D.Link.Link.faults) g.D.Door.links g.D.Door.origin g.D.Door.calls) c.args.doors.items) c.args.means.items same pairs, seated_means desks (map (door_view (link_view g.D.Link.Link.left g.D.Link.Link.taken g.D.Link.Link.sent g.D.Link.Link.over g.D.Link.Link.closed g.D.Link.Link.admitted g.D.Link.Link.place g.D.Link.Link.toward g.D.Link.Link.faults) g.D.Door.links g.D.Door.origin g.D.Door.calls) c.args.doors.items) c.args.means.items same pairs) at c.serve_hired.ensures.served in
     record { served = served c.args.sessions (g.K.Sink.synced c.args.book.sink) hired next }
 
 pub returns : goal.returns
@@ -53,5 +53,5 @@ returns g c =
     let back = e.back in
     let journal = rw (c.in-Failed.ensures.book, c.requires.made) at e.journal in
     record {
-      served = unopened sink_now journal e.sink part rose back.reports back.doors_are back.panels_are back.written e.end;
+      served = unopened sink_now journal e.sink part rose back.reports back.doors_are back.means_are back.written e.end;
     }

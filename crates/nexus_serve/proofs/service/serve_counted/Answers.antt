@@ -23,6 +23,6 @@ returns-in-Ok-make g c =
     let journal = rw (head, entries) at e.journal in
     let view : g.row.K.Denot → SinkView = λ k. record { sent = g.K.Sink.sent k; synced = g.K.Sink.synced k; faults = g.K.Sink.faults k } in
     record {
-      served = no_memory journal (e.sink ∙ ap (λ k. Some (view k)) sink) e.back.reports e.back.doors_are e.back.panels_are e.back.written e.end;
+      served = no_memory journal (e.sink ∙ ap (λ k. Some (view k)) sink) e.back.reports e.back.doors_are e.back.means_are e.back.written e.end;
       earned = λ es is. none_true c.args.journal.head (entry_trees es) (length c.args.journal.entries) _ e.back.reports;
     }

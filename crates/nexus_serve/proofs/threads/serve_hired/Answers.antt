@@ -1,6 +1,8 @@
 use Rattle.std.proofs.Common.{◌<◌, ◌+◌, ◌*◌, ℕ, length, slice_index_or, sym, ◌∙◌, ap, subst}
 use Rattle.std.proofs.lemmas.List.{with_items_is}
 use Rattle.std.specs.Prelude.{All}
+use Rattle.nexus_serve.specs.Means.{means_history}
+use Rattle.nexus_serve.specs.declared.means.Means.{Means}
 use Rattle.nexus_serve.specs.Inner.Gathering.{IsRoomFor}
 use Rattle.nexus_serve.specs.Inner.Serving.{AreDone, AreOfBoard}
 use Rattle.nexus_serve.specs.Inner.Working.{IsDone, WorkerValue}
@@ -12,7 +14,7 @@ pub finish-requires-clause-used : goal.finish-requires-clause-used
 finish-requires-clause-used g c =
     let e = c.let_work-book.ensures in
     let is = with_items_is c.args.workers c.let_work-book.new.workers (e.count ∙ c.as_mut_slice.ensures.len) in
-    subst (All (AreOfBoard c.args.board.now)) (sym is) (done_of_board g.P.Panel.history c.args.board.now c.as_mut_slice.result.now c.let_work-book.new.workers e.count e.done)
+    subst (All (AreOfBoard c.args.board.now)) (sym is) (done_of_board (means_history g.P.Panel.history) c.args.board.now c.as_mut_slice.result.now c.let_work-book.new.workers e.count e.done)
 
 pub finish-requires-clause-room : goal.finish-requires-clause-room
 finish-requires-clause-room g c =
@@ -28,11 +30,11 @@ returns g c =
     let lent = c.as_mut_slice.ensures.value in
     let is = with_items_is c.args.workers c.let_work-book.new.workers (e.count ∙ c.as_mut_slice.ensures.len) in
     let count = e.count ∙ ap length lent in
-    let done = subst (λ workers. (i : ℕ) (d : WorkerValue g.row.P.Denot) → i < length workers → IsDone g.P.Panel.history c.args.board.now (slice_index_or c.let_work-book.new.workers i d).unrecorded (slice_index_or workers i d) (slice_index_or c.let_work-book.new.workers i d)) lent e.done in
+    let done = subst (λ workers. (i : ℕ) (d : WorkerValue (Means g.row.P.Denot g.row.C.Denot)) → i < length workers → IsDone (means_history g.P.Panel.history) c.args.board.now (slice_index_or c.let_work-book.new.workers i d).unrecorded (slice_index_or workers i d) (slice_index_or c.let_work-book.new.workers i d)) lent e.done in
     record {
       served = λ most synced hired next.
           rw (named.2, named.3)
           (c.finish.ensures.served most synced c.args.workers.items
-          (subst (AreDone g.P.Panel.history c.args.board.now c.args.board.now.origin.first most c.args.workers.items) (sym is) (all_done g.P.Panel.history c.args.board.now c.args.board.now.origin.first most c.args.workers.items c.let_work-book.new.workers hired count done))
+          (subst (AreDone (means_history g.P.Panel.history) c.args.board.now c.args.board.now.origin.first most c.args.workers.items) (sym is) (all_done (means_history g.P.Panel.history) c.args.board.now c.args.board.now.origin.first most c.args.workers.items c.let_work-book.new.workers hired count done))
           (sym named.1 ∙ next ∙ ap (λ n. c.args.board.now.origin.first + n * most) (sym (ap length is ∙ count))));
     }

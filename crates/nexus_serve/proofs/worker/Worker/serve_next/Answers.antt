@@ -1,6 +1,7 @@
 use Rattle.std.proofs.Common.{◌≡◌, ◌<◌, ◌++◌, ◌∷◌, [], length, map, refl, sym, ap, ◌∙◌, arith}
 use Rattle.std.proofs.lemmas.List.{length-map, map-append}
 use Rattle.nx_io.specs.declared.doors.Next.TheVariants.{Link as NextLink, NoMore as NextNoMore, Failed as NextFailed}
+use Rattle.nexus_serve.specs.Means.{means_history}
 use Rattle.nexus_serve.specs.declared.reporting.ServedSession.{ServedSession}
 use Rattle.nexus_serve.specs.Views.{LinkView, joined, link_view, session_view}
 use Rattle.nexus_serve.proofs.Gathering.{joined_last}
@@ -20,7 +21,7 @@ serve_link-report-requires-clause-unused g c = (first_unused c.args.board.now c.
 pub returns-then-not-has_taken_room-clause-went : goal.returns-then-not-has_taken_room-clause-went
 returns-then-not-has_taken_room-clause-went g c start w =
     rw (c.has_taken_room.ensures.items.0, c.has_taken_room.ensures.items.1)
-    (done_no_room g.P.Panel.history c.args.board.now start _ _ (rw (← c.self.view_is) at w) (rw (← c.self.view_is) at c.requires.some))
+    (done_no_room (means_history g.P.Panel.history) c.args.board.now start _ _ (rw (← c.self.view_is) at w) (rw (← c.self.view_is) at c.requires.some))
 
 pub returns-in-Some-clause-went : goal.returns-in-Some-clause-went
 returns-in-Some-clause-went g c start w =
@@ -37,7 +38,7 @@ returns-in-Some-clause-went g c start w =
     let sessions : c.add.new.sessions.items ≡ before ++ last ∷ [] = c.add.ensures.sessions ∙ ap (λ l. l ++ last ∷ []) c.has_taken_room.ensures.items.0 in
     let passes : c.add.new.used.items ≡ used ++ report.pass ∷ [] = c.add.ensures.used ∙ ap (λ l. l ++ report.pass ∷ []) c.has_taken_room.ensures.items.1 in
     let pairs : length (map (session_view link) before) ≡ length used = length-map before (session_view link) ∙ c.self.invariant in
-    working_on g.P.Panel.history c.args.board.now start _ _ (rw (← c.self.view_is) at w) _ _ (link c.in-Link.link) _ answered
+    working_on (means_history g.P.Panel.history) c.args.board.now start _ _ (rw (← c.self.view_is) at w) _ _ (link c.in-Link.link) _ answered
     (record {
       pass = c.in-Some.pass;
       report = record {
@@ -70,7 +71,7 @@ returns-in-Failed-clause-went g c start w =
     let answered = answered_viewed g.D.Link.Link.left g.D.Link.Link.taken g.D.Link.Link.sent g.D.Link.Link.over g.D.Link.Link.closed g.D.Link.Link.admitted g.D.Link.Link.place g.D.Link.Link.toward g.D.Link.Link.faults
     g.D.Door.links g.D.Door.origin g.D.Door.calls NextFailed c.self.inside.door c.next.new.self e.fresh e.place e.toward e.links e.calls e.origin in
     rw (c.has_taken_room.ensures.items.0, c.has_taken_room.ensures.items.1)
-    (done_failed g.P.Panel.history c.args.board.now start _ _ (rw (← c.self.view_is) at w) _ (rw (← c.self.view_is) at c.requires.some) answered)
+    (done_failed (means_history g.P.Panel.history) c.args.board.now start _ _ (rw (← c.self.view_is) at w) _ (rw (← c.self.view_is) at c.requires.some) answered)
 
 pub returns-in-NoMore-clause-went : goal.returns-in-NoMore-clause-went
 returns-in-NoMore-clause-went g c start w =
@@ -78,4 +79,4 @@ returns-in-NoMore-clause-went g c start w =
     let answered = answered_viewed g.D.Link.Link.left g.D.Link.Link.taken g.D.Link.Link.sent g.D.Link.Link.over g.D.Link.Link.closed g.D.Link.Link.admitted g.D.Link.Link.place g.D.Link.Link.toward g.D.Link.Link.faults
     g.D.Door.links g.D.Door.origin g.D.Door.calls NextNoMore c.self.inside.door c.next.new.self e.fresh e.place e.toward e.links e.calls e.origin in
     rw (c.has_taken_room.ensures.items.0, c.has_taken_room.ensures.items.1)
-    (done_no_more g.P.Panel.history c.args.board.now start _ _ (rw (← c.self.view_is) at w) _ (rw (← c.self.view_is) at c.requires.some) answered)
+    (done_no_more (means_history g.P.Panel.history) c.args.board.now start _ _ (rw (← c.self.view_is) at w) _ (rw (← c.self.view_is) at c.requires.some) answered)
