@@ -1,3 +1,4 @@
 -- Laws of the runs of `serve` and `client`, which the proofs of other crates may cite.
+pub use Rattle.service_commands.proofs.Asides.{aside_back, runs_beside, sink_back}
 pub use Rattle.service_commands.proofs.ClientEnds.{runs_client}
 pub use Rattle.service_commands.proofs.ServiceEnds.{runs_service}

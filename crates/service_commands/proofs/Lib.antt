@@ -1,3 +1,4 @@
 pub mod ServiceEnds
+pub mod Asides
 pub mod ClientEnds
 pub mod ForCallers

@@ -1,6 +1,6 @@
 -- How the ends of a run of `serve` come from those of its parts.
 use Rattle.std.specs.Prelude.{◌-◌, ◌^◌, map, min, take}
-use Rattle.std.proofs.Common.{◌≡◌, ◌≢◌, ◌≤◌, ◌==◌, ◌⊎◌, ◌+◌, ◌++◌, cond, inl, inr, ℕ, Bool, true, false, List, [], ◌∷◌, length, Option, Some, IsTrue, refl, sym, ap, subst, ◌∙◌, arith}
+use Rattle.std.proofs.Common.{◌≡◌, ◌≢◌, ◌≤◌, ◌==◌, ◌⊎◌, ◌+◌, ◌++◌, cond, inl, inr, ℕ, Bool, true, false, List, [], ◌∷◌, length, Option, None, Some, IsTrue, refl, sym, ap, subst, ◌∙◌, arith}
 use Rattle.std.proofs.lemmas.Bool.Decides.{Decides-eqb}
 use Rattle.std.proofs.lemmas.List.Sums.{sum_by-append, sum_by-cons}
 use Rattle.std.specs.Io.KnownBytes.{IsAtEnd}
@@ -19,9 +19,11 @@ use Rattle.nexus_serve.specs.declared.closing.ServeEnd.TheVariants.{Done, DoorFa
 use Rattle.authority_ask.specs.PanelCalls.{PanelHistory}
 use Rattle.authority_ask.specs.PanelCalls as panels
 use Rattle.session_core.specs.Reaching.{reached_at}
-use Rattle.nexus_serve.specs.Views.{DoorView}
+use Rattle.nexus_serve.specs.declared.means.Means.{Means}
+use Rattle.nexus_serve.specs.Means.{means_history}
+use Rattle.nexus_serve.specs.Views.{DoorView, RecorderView}
 use Rattle.nexus_serve.specs.Services.{IsTextSent, Serves, SinkView, whole as text_whole, line_cut, end_cut, done, unopened, no_memory as nothing_served}
-use Rattle.nexus_serve.specs.Hosting.{AreReady, HasFailed, HasFailedPanel, Hosts, Plan, not_heard, not_made, not_reached, panel_calls, ready_calls, served, status_of, unheard, unreached, unready, unshared}
+use Rattle.nexus_serve.specs.Hosting.{AreReady, HasFailed, HasFailedPanel, HasFailedToLend, HasLent, HasNoneToLend, Hosts, IsHeld, Plan, no_door, no_lists, no_panel, no_recorder, not_heard, not_made, not_reached, panel_calls, ready_calls, served, some_cut_off, status_of, unheard, unlent, unreached, unready, unshared}
 use Rattle.run_streams.specs.Runs.{SourceRun, most_bytes}
 use Rattle.run_streams.proofs.ForCallers.{read_whole, not_refused, refusal_status, refused_by, apart}
 use Rattle.run_streams.specs.declared.outcomes.Outcome.{Outcome}
@@ -31,7 +33,7 @@ use Rattle.service_commands.specs.declared.service.PolicyTextError.TheVariants.{
 use Rattle.run_streams.specs.Refusals.{IsRefusal, IsRefusalOf, RefusesExactly}
 use Rattle.run_streams.specs.Telling.{Tells, whole, part, nothing}
 use Rattle.service_commands.specs.Inner.ServiceEnds.{IsWrongText}
-use Rattle.service_commands.specs.Services.{EndedView, EndsService, IsCompleteService, IsPolicy, IsPolicyOf, IsServedWhole, IsUnbegun, IsUnserved, IsWrongPolicy, RunsService, hosted, hosted_of, in_policy, most_session, no_memory, policy_form, refusal_cut_off, refused, source_failed}
+use Rattle.service_commands.specs.Services.{EndedView, EndsService, HandsBack, HasFailedToRecord, IsCompleteService, IsPolicy, IsPolicyOf, IsServedWhole, IsUnbegun, IsUnserved, IsWrongPolicy, RunsService, hosted, hosted_of, in_policy, most_session, no_memory, policy_form, refusal_cut_off, refused, source_failed}
 
 -- a count over more calls rose where one of these failed
 more_faults : {Call : Type 0} (fails : Call → Bool) (calls more : List Call) (last : Call) → fails last ≡ true
@@ -58,6 +60,11 @@ panel_rose {head = head} {asked = asked} (not_reached none (count, a, is, called
 panel_rose {head = head} {shares = shares} {asked = asked} (unshared few called) =
     subst (λ (p : PanelHistory). Rose (panels.faults_in asked.calls) (panels.faults_in p.calls)) (sym called)
     (more_faults panels.is_fault asked.calls (panel_calls head shares) panels.not_shared refl)
+
+-- and a recorder
+recorder_rose : (workers lent : ℕ) (recorder recorder_now : Option RecorderView) → HasFailedToLend workers lent recorder recorder_now → HasFailedToRecord recorder recorder_now
+recorder_rose workers lent None recorder_now failed = absurd failed
+recorder_rose workers lent (Some recorder) recorder_now (few, is) = subst (HasFailedToRecord (Some recorder)) (sym is) (omega arith)
 
 -- ---- The input
 
@@ -92,82 +99,116 @@ wrong_policy {most = most} {text = text} {k = k} e small w no_form = (small, sub
 
 -- ---- The statuses of a service
 
-memory_status : (written : Bool) → status_of written Memory ≡ 6
-memory_status true = refl
-memory_status false = refl
+memory_status : (written cut_off : Bool) → status_of written Memory cut_off ≡ 6
+memory_status true cut_off = refl
+memory_status false cut_off = refl
 
-never_three : (written : Bool) (end : ServeEnd) → status_of written end ≡ 3 → ⊥
-never_three true Done e = apart (status_of true Done) 0 3 refl e refl
-never_three true DoorFault e = apart (status_of true DoorFault) 7 3 refl e refl
-never_three true NoRoom e = apart (status_of true NoRoom) 6 3 refl e refl
-never_three true Memory e = apart (status_of true Memory) 6 3 refl e refl
-never_three false Done e = apart (status_of false Done) 5 3 refl e refl
-never_three false DoorFault e = apart (status_of false DoorFault) 5 3 refl e refl
-never_three false NoRoom e = apart (status_of false NoRoom) 5 3 refl e refl
-never_three false Memory e = apart (status_of false Memory) 6 3 refl e refl
+never_three : (written : Bool) (end : ServeEnd) (cut_off : Bool) → status_of written end cut_off ≡ 3 → ⊥
+never_three true Done true e = apart (status_of true Done true) 5 3 refl e refl
+never_three true Done false e = apart (status_of true Done false) 0 3 refl e refl
+never_three true DoorFault cut_off e = apart (status_of true DoorFault cut_off) 7 3 refl e refl
+never_three true NoRoom cut_off e = apart (status_of true NoRoom cut_off) 6 3 refl e refl
+never_three true Memory cut_off e = apart (status_of true Memory cut_off) 6 3 refl e refl
+never_three false Done cut_off e = apart (status_of false Done cut_off) 5 3 refl e refl
+never_three false DoorFault cut_off e = apart (status_of false DoorFault cut_off) 5 3 refl e refl
+never_three false NoRoom cut_off e = apart (status_of false NoRoom cut_off) 5 3 refl e refl
+never_three false Memory cut_off e = apart (status_of false Memory cut_off) 6 3 refl e refl
+
+-- ---- The recorder
+
+-- where there was a recorder, there is one that was sent no more itself
+abbrev pub IsStillUnsent : Option RecorderView → Option RecorderView → Type 0
+IsStillUnsent None recorder_now = recorder_now ≡ None
+IsStillUnsent (Some recorder) recorder_now = HandsBack recorder_now (λ (r : RecorderView). r.sent ≡ recorder.sent)
+
+unsent_same : (recorder recorder_now : Option RecorderView) → recorder_now ≡ recorder → IsStillUnsent recorder recorder_now
+unsent_same None recorder_now same = same
+unsent_same (Some recorder) recorder_now same = subst (IsStillUnsent (Some recorder)) (sym same) refl
+
+unsent_lent : (lent : ℕ) (recorder recorder_now : Option RecorderView) → HasLent lent recorder recorder_now → IsStillUnsent recorder recorder_now
+unsent_lent lent None recorder_now same = same
+unsent_lent lent (Some recorder) recorder_now is = subst (IsStillUnsent (Some recorder)) (sym is) refl
+
+unsent_failed : (workers lent : ℕ) (recorder recorder_now : Option RecorderView) → HasFailedToLend workers lent recorder recorder_now → IsStillUnsent recorder recorder_now
+unsent_failed workers lent None recorder_now failed = absurd failed
+unsent_failed workers lent (Some recorder) recorder_now (few, is) = subst (IsStillUnsent (Some recorder)) (sym is) refl
+
+unsent_none : (workers lent : ℕ) (recorder recorder_now : Option RecorderView) → HasNoneToLend workers lent recorder recorder_now → IsStillUnsent recorder recorder_now
+unsent_none workers lent None recorder_now failed = absurd failed
+unsent_none workers lent (Some recorder) recorder_now (few, is) = subst (IsStillUnsent (Some recorder)) (sym is) refl
+
+unsent_held : {plan : Plan} {h : Head} {doors shares lent : ℕ} {door door_now : DoorView} {asked asked_now : PanelHistory} (recorder recorder_now : Option RecorderView)
+    → IsHeld plan h doors shares lent door door_now asked asked_now recorder recorder_now → IsStillUnsent recorder recorder_now
+unsent_held recorder recorder_now (no_lists none none_too none_lent same called recorder_is) = unsent_same recorder recorder_now recorder_is
+unsent_held recorder recorder_now (no_panel none few none_lent same called recorder_is) = unsent_same recorder recorder_now recorder_is
+unsent_held recorder recorder_now (no_recorder none all same called held) = unsent_none _ _ recorder recorder_now held
+unsent_held recorder recorder_now (no_door few all all_lent called_door called lent) = unsent_lent _ recorder recorder_now lent
 
 -- ---- The run
 
-module _ {P : Type 0} (panel : P → PanelHistory) (plan : Plan) (source : SourceRun) (sink : SinkView) (door : DoorView) (asked : P) (ended : EndedView P) where
+module _ {P C : Type 0} (panel : P → PanelHistory) (plan : Plan) (source : SourceRun) (sink : SinkView) (door : DoorView) (asked : P) (recorder : Option RecorderView) (ended : EndedView P C) where
   -- a refusal that was told
-  pub policy_refusal_ends : (outcome : Outcome) (sink_now : SinkView) → IsRefusalOf (policy_form (most_session plan)) source outcome → source.faults_now ≡ source.faults → IsUnbegun door asked ended
-      → ended.output ≡ Some sink_now → (ended.status ≡ 6 → sink_now ≡ sink) → Tells outcome sink.sent sink_now.sent sink.faults sink_now.faults ended.status → EndsService panel plan source sink door asked ended
+  pub policy_refusal_ends : (outcome : Outcome) (sink_now : SinkView) → IsRefusalOf (policy_form (most_session plan)) source outcome → source.faults_now ≡ source.faults → IsUnbegun door asked recorder ended
+      → ended.output ≡ Some sink_now → (ended.status ≡ 6 → sink_now ≡ sink) → Tells outcome sink.sent sink_now.sent sink.faults sink_now.faults ended.status → EndsService panel plan source sink door asked recorder ended
   policy_refusal_ends outcome sink_now r still idle output kept (whole e w f) =
       refused outcome sink_now (e ∙ refusal_status (policy_form (most_session plan)) source.given outcome r.refusal) r idle output w still f
   policy_refusal_ends outcome sink_now r still idle output kept (part e w f) = refusal_cut_off outcome sink_now e r idle output w still f
   policy_refusal_ends outcome sink_now r still idle output kept (nothing e w f) = no_memory e idle (output ∙ ap Some (kept e)) still
 
   module _ (unfailed : (sink_now : SinkView) → ended.output ≡ Some sink_now → Rose sink.faults sink_now.faults → ⊥) (head : Head) (opening : List Entry) (written : Bool) (end : ServeEnd)
-      (policy : IsPolicyOf source (most_session plan) head (entry_trees opening)) (doors : List DoorView) (panels : List P)
-      (ready : AreReady panel plan head door ended.door (panel asked) (panel ended.panel) doors panels) (status : ended.status ≡ status_of written end) where
-    served_whole : written ≡ true → Serves panel plan.sessions head opening sink doors panels (hosted_of ended written end).served → IsServedWhole panel plan source sink door asked ended
+      (policy : IsPolicyOf source (most_session plan) head (entry_trees opening)) (doors : List DoorView) (means : List (Means P C))
+      (ready : AreReady panel plan head door ended.door (panel asked) (panel ended.panel) recorder ended.recorder doors means) (status : ended.status ≡ status_of written end (some_cut_off ended.means)) where
+    served_whole : written ≡ true → Serves (means_history panel) plan.sessions head opening sink doors means (hosted_of ended written end).served → IsServedWhole panel plan source sink door asked recorder ended
     served_whole is serves = record {
       head = head;
       opening = opening;
       end = end;
       doors = doors;
-      panels = panels;
+      means = means;
       policy = policy;
       ready = ready;
-      serves = subst (λ w. Serves panel plan.sessions head opening sink doors panels (hosted_of ended w end).served) is serves;
-      status = status ∙ ap (λ w. status_of w end) is;
+      serves = subst (λ w. Serves (means_history panel) plan.sessions head opening sink doors means (hosted_of ended w end).served) is serves;
+      status = status ∙ ap (λ w. status_of w end (some_cut_off ended.means)) is;
     }
 
     had_no_memory : end ≡ Memory → ended.status ≡ 6
-    had_no_memory is = status ∙ ap (status_of written) is ∙ memory_status written
+    had_no_memory is = status ∙ ap (λ e. status_of written e (some_cut_off ended.means)) is ∙ memory_status written (some_cut_off ended.means)
 
     is_written : (h : Head) (es : List EntryTree) (sink_now : SinkView) → ended.output ≡ Some sink_now → IsTextSent h es written sink.sent sink.faults sink_now → written ≡ true
     is_written h es sink_now output (text_whole is sent synced still) = is
     is_written h es sink_now output (line_cut entry un accepted cut rose) = absurd (unfailed sink_now output rose)
     is_written h es sink_now output (end_cut un cut rose) = absurd (unfailed sink_now output rose)
 
-    complete_serves : Serves panel plan.sessions head opening sink doors panels (hosted_of ended written end).served → IsUnserved sink ended ⊎ IsServedWhole panel plan source sink door asked ended
+    complete_serves : Serves (means_history panel) plan.sessions head opening sink doors means (hosted_of ended written end).served → IsUnserved sink ended ⊎ IsServedWhole panel plan source sink door asked recorder ended
     complete_serves (done es sink_now journal output serves text lasts) = inr (served_whole (is_written head (entry_trees es) sink_now output text) (done es sink_now journal output serves text lasts))
     complete_serves (unopened sink_now journal output cut rose reports ds ps un e) = absurd (unfailed sink_now output rose)
     complete_serves (nothing_served journal output reports ds ps un e) = inl (record { status = had_no_memory e; reports = reports; output = output })
 
   complete_hosts : ((sink_now : SinkView) → ended.output ≡ Some sink_now → Rose sink.faults sink_now.faults → ⊥) → (Rose (faults_in door.calls) (faults_in ended.door.calls) → ⊥) → (Rose (panels.faults_in (panel asked).calls) (panels.faults_in (panel ended.panel).calls) → ⊥)
+      → (HasFailedToRecord recorder ended.recorder → ⊥)
       → (head : Head) (opening : List Entry) (written : Bool) (end : ServeEnd) → IsPolicyOf source (most_session plan) head (entry_trees opening)
-      → Hosts panel plan head opening sink door asked (hosted_of ended written end) → IsUnserved sink ended ⊎ IsServedWhole panel plan source sink door asked ended
-  complete_hosts sunk shut down head opening written end policy (served ds ps ready serves status) = complete_serves sunk head opening written end policy ds ps ready status serves
-  complete_hosts sunk shut down head opening written end policy (unreached status idle same none failed) = absurd (down (panel_rose failed))
-  complete_hosts sunk shut down head opening written end policy (unheard status idle count called failed) = absurd (shut (door_rose failed))
-  complete_hosts sunk shut down head opening written end policy (unready status idle held) = inl (record { status = status; reports = idle.reports; output = idle.sink_is })
+      → Hosts panel plan head opening sink door asked recorder (hosted_of ended written end) → IsUnserved sink ended ⊎ IsServedWhole panel plan source sink door asked recorder ended
+  complete_hosts sunk shut down kept head opening written end policy (served ds own ready serves status) = complete_serves sunk head opening written end policy ds own ready status serves
+  complete_hosts sunk shut down kept head opening written end policy (unreached status idle same none failed still) = absurd (down (panel_rose failed))
+  complete_hosts sunk shut down kept head opening written end policy (unlent lent status idle same none count called failed) = absurd (kept (recorder_rose plan.workers lent recorder ended.recorder failed))
+  complete_hosts sunk shut down kept head opening written end policy (unheard status idle count called lent failed) = absurd (shut (door_rose failed))
+  complete_hosts sunk shut down kept head opening written end policy (unready lent status idle held) = inl (record { status = status; reports = idle.reports; output = idle.sink_is })
 
-  complete : EndsService panel plan source sink door asked ended → IsCompleteService panel plan source sink door asked ended
-  complete (hosted h es written end policy still hosts) = λ p q r s form. complete_hosts q r s h es written end policy hosts
-  complete (refused outcome sink_now e r idle output sent f g) = λ p q u v form. absurd (form (refused_by (policy_form (most_session plan)) source.given outcome r.refusal))
-  complete (refusal_cut_off outcome sink_now e r idle output sent f g) = λ p q u v form. absurd (q sink_now output (rw g (omega arith)))
-  complete (source_failed e idle output f) = λ p q u v form. absurd (p (rw f (omega arith)))
-  complete (no_memory e idle output f) = λ p q u v form. inl (record { status = e; reports = idle.reports; output = output })
+  complete : EndsService panel plan source sink door asked recorder ended → IsCompleteService panel plan source sink door asked recorder ended
+  complete (hosted h es written end policy still hosts) = λ p q r s t form. complete_hosts q r s t h es written end policy hosts
+  complete (refused outcome sink_now e r idle output sent f g) = λ p q u v t form. absurd (form (refused_by (policy_form (most_session plan)) source.given outcome r.refusal))
+  complete (refusal_cut_off outcome sink_now e r idle output sent f g) = λ p q u v t form. absurd (q sink_now output (rw g (omega arith)))
+  complete (source_failed e idle output f) = λ p q u v t form. absurd (p (rw f (omega arith)))
+  complete (no_memory e idle output f) = λ p q u v t form. inl (record { status = e; reports = idle.reports; output = output })
 
-  not_three : (h : Head) (opening : List Entry) (written : Bool) (end : ServeEnd) → Hosts panel plan h opening sink door asked (hosted_of ended written end) → ended.status ≡ 3 → ⊥
-  not_three h opening written end (served ds ps ready serves status) e = never_three written end (sym status ∙ e)
-  not_three h opening written end (unreached status idle same none failed) e = apart ended.status 8 3 status e refl
-  not_three h opening written end (unheard status idle count called failed) e = apart ended.status 7 3 status e refl
-  not_three h opening written end (unready status idle held) e = apart ended.status 6 3 status e refl
+  not_three : (h : Head) (opening : List Entry) (written : Bool) (end : ServeEnd) → Hosts panel plan h opening sink door asked recorder (hosted_of ended written end) → ended.status ≡ 3 → ⊥
+  not_three h opening written end (served ds own ready serves status) e = never_three written end (some_cut_off ended.means) (sym status ∙ e)
+  not_three h opening written end (unreached status idle same none failed still) e = apart ended.status 8 3 status e refl
+  not_three h opening written end (unlent lent status idle same none count called failed) e = apart ended.status 5 3 status e refl
+  not_three h opening written end (unheard status idle count called lent failed) e = apart ended.status 7 3 status e refl
+  not_three h opening written end (unready lent status idle held) e = apart ended.status 6 3 status e refl
 
-  refuses : EndsService panel plan source sink door asked ended → RefusesExactly (policy_form (most_session plan)) source ended.status
+  refuses : EndsService panel plan source sink door asked recorder ended → RefusesExactly (policy_form (most_session plan)) source ended.status
   refuses (hosted h opening written end policy still hosts) = λ x y z.
       ((λ three. absurd (not_three h opening written end hosts three)), λ r. absurd (not_refused (policy_form (most_session plan)) source.given policy.form.0 (h, entry_trees opening, policy.form) r))
   refuses (refused outcome sink_now e r idle output sent f g) = λ x y z. ((λ three. refused_by (policy_form (most_session plan)) source.given outcome r.refusal), λ is. e)
@@ -176,5 +217,21 @@ module _ {P : Type 0} (panel : P → PanelHistory) (plan : Plan) (source : Sourc
   refuses (no_memory e idle output f) = λ x y z. absurd (z e)
 
   -- what ends a run of `serve` is a run of `serve`
-  pub runs_service : EndsService panel plan source sink door asked ended → RunsService panel plan source sink door asked ended
+  pub runs_service : EndsService panel plan source sink door asked recorder ended → RunsService panel plan source sink door asked recorder ended
   runs_service e = record { ends = e; complete = complete e; refuses = refuses e }
+
+  unsent_hosts : (h : Head) (opening : List Entry) (written : Bool) (end : ServeEnd) → Hosts panel plan h opening sink door asked recorder (hosted_of ended written end)
+      → IsStillUnsent recorder ended.recorder
+  unsent_hosts h opening written end (served ds own ready serves status) = unsent_lent plan.workers recorder ended.recorder ready.lent
+  unsent_hosts h opening written end (unreached status idle same none failed still) = unsent_same recorder ended.recorder still
+  unsent_hosts h opening written end (unlent lent status idle same none count called failed) = unsent_failed plan.workers lent recorder ended.recorder failed
+  unsent_hosts h opening written end (unheard status idle count called lent failed) = unsent_lent plan.workers recorder ended.recorder lent
+  unsent_hosts h opening written end (unready lent status idle held) = unsent_held recorder ended.recorder held
+
+  -- a recorder is handed back, and was sent no more itself
+  pub still_unsent : EndsService panel plan source sink door asked recorder ended → IsStillUnsent recorder ended.recorder
+  still_unsent (hosted h opening written end policy still hosts) = unsent_hosts h opening written end hosts
+  still_unsent (refused outcome sink_now e r idle output sent f g) = unsent_same recorder ended.recorder idle.recorder_is
+  still_unsent (refusal_cut_off outcome sink_now e r idle output sent f g) = unsent_same recorder ended.recorder idle.recorder_is
+  still_unsent (source_failed e idle output f) = unsent_same recorder ended.recorder idle.recorder_is
+  still_unsent (no_memory e idle output f) = unsent_same recorder ended.recorder idle.recorder_is

@@ -1,5 +1,5 @@
 -- How a run of `serve` ends: the status, what the source gave, what is handed back, and what was written.
-use Rattle.std.specs.Prelude.{◌≡◌, ◌≢◌, ◌*◌, ◌+◌, ◌-◌, ◌^◌, ◌⊎◌, ◌≤◌, ◌∷◌, ℕ, List, [], length, codes, Bool, true, Option, Some, None}
+use Rattle.std.specs.Prelude.{◌≡◌, ◌≢◌, ◌*◌, ◌+◌, ◌-◌, ◌^◌, ◌⊎◌, ◌≤◌, ◌∷◌, ℕ, List, [], length, codes, Bool, true, false, Option, Some, None}
 use Rattle.nal_term.specs.Secrets.{IsSecret}
 use Rattle.nx_io.specs.DoorCalls.{faults_in}
 use Rattle.nx_io.specs.Streams.{Rose, Sends, SendsPart, one_more}
@@ -9,11 +9,13 @@ use Rattle.policy_history.specs.Events.{EntryTree}
 use Rattle.policy_history.specs.Values.{History, entry_trees}
 use Rattle.journal_text.specs.PolicyFronts.{IsFront, IsWrongFront}
 use Rattle.nexus_serve.specs.declared.closing.ServeEnd.{ServeEnd}
+use Rattle.nexus_serve.specs.declared.means.Means.{Means}
+use Rattle.nexus_serve.specs.Means.{means_history}
 use Rattle.authority_ask.specs.PanelCalls.{PanelHistory}
 use Rattle.authority_ask.specs.PanelCalls as panels
-use Rattle.nexus_serve.specs.Views.{DoorView, ReportView}
+use Rattle.nexus_serve.specs.Views.{DoorView, RecorderView, ReportView}
 use Rattle.nexus_serve.specs.Services.{Serves, SinkView}
-use Rattle.nexus_serve.specs.Hosting.{AreReady, HostedView, Hosts, Plan, status_of}
+use Rattle.nexus_serve.specs.Hosting.{AreReady, HostedView, Hosts, Plan, some_cut_off, status_of}
 use Rattle.run_streams.specs.Runs.{IsReadWhole, SourceRun, most_bytes}
 use Rattle.run_streams.specs.declared.outcomes.Outcome.{Outcome}
 use Rattle.run_streams.specs.Outcomes.{output_of}
@@ -46,6 +48,11 @@ abbrev pub HandsBack : {K : Type 0} → Option K → (K → Type 0) → Type 0
 HandsBack None Property = ⊥
 HandsBack (Some k) Property = Property k
 
+-- it, where this is so, and else nothing
+abbrev pub only_where : {A : Type 0} → Bool → Option A → Option A
+only_where true it = it
+only_where false it = None
+
 -- the greatest number that a session of the policy's entries may have, so that there are numbers for all sessions of the service
 abbrev pub most_session : Plan → ℕ
 most_session plan = 2 ^ 64 - 2 - plan.workers * plan.sessions
@@ -69,7 +76,7 @@ pub record IsPolicyOf (source : SourceRun) (most : ℕ) (h : Head) (es : List En
   pub whole : IsReadWhole source
 
 -- what the program hands back behind a service
-pub record EndedView (P : Type 0) : Type 0 where
+pub record EndedView (P C : Type 0) : Type 0 where
   pub status : ℕ
   pub output : Option SinkView
   pub journal : Option History
@@ -77,77 +84,88 @@ pub record EndedView (P : Type 0) : Type 0 where
   pub door : DoorView
   pub doors : List DoorView
   pub panel : P
-  pub panels : List P
+  pub recorder : Option RecorderView
+  pub means : List (Means P C)
 
 -- the same as what a service at an address hands back, whose text was written whole or not, and which ended so
-abbrev pub hosted_of : {P : Type 0} → EndedView P → Bool → ServeEnd → HostedView P
+abbrev pub hosted_of : {P C : Type 0} → EndedView P C → Bool → ServeEnd → HostedView P C
 hosted_of ended written end = record {
   status = ended.status;
   door = ended.door;
   panel = ended.panel;
+  recorder = ended.recorder;
   served = record {
     journal = ended.journal;
     sink = ended.output;
     reports = ended.reports;
     doors = ended.doors;
-    panels = ended.panels;
+    means = ended.means;
     written = written;
     end = end;
   };
 }
 
--- nothing was begun: door and panel are as they were, and there is no journal and no report
-pub record IsUnbegun {P : Type 0} (door : DoorView) (panel : P) (ended : EndedView P) : Type 0 where
+-- nothing was begun: door, panel and recorder are as they were, and there is no journal and no report
+pub record IsUnbegun {P C : Type 0} (door : DoorView) (panel : P) (recorder : Option RecorderView) (ended : EndedView P C) : Type 0 where
   pub journal : ended.journal ≡ None
   pub reports : ended.reports ≡ []
   pub door_is : ended.door ≡ door
   pub doors : ended.doors ≡ []
   pub panel_is : ended.panel ≡ panel
-  pub panels : ended.panels ≡ []
+  pub recorder_is : ended.recorder ≡ recorder
+  pub means : ended.means ≡ []
 
 -- `serve` ends so: a policy was read, and hosted by the plan; or the input was refused, and that is written, or a proper part of it; or the source
 -- failed; or there was no memory for the input. A failure of the source or the sink that ends it before it is hosted is the only one.
-pub data EndsService {P : Type 0} (panel : P → PanelHistory) (plan : Plan) (source : SourceRun) (sink : SinkView) (door : DoorView) (asked : P) (ended : EndedView P) : Type 0 where
+pub data EndsService {P C : Type 0} (panel : P → PanelHistory) (plan : Plan) (source : SourceRun) (sink : SinkView) (door : DoorView) (asked : P) (recorder : Option RecorderView) (ended : EndedView P C) : Type 0 where
   hosted : (h : Head) (opening : List Entry) (written : Bool) (end : ServeEnd) → IsPolicyOf source (most_session plan) h (entry_trees opening) → source.faults_now ≡ source.faults
-      → Hosts panel plan h opening sink door asked (hosted_of ended written end) → EndsService panel plan source sink door asked ended
-  refused : (outcome : Outcome) (sink_now : SinkView) → ended.status ≡ 3 → IsRefusalOf (policy_form (most_session plan)) source outcome → IsUnbegun door asked ended
+      → Hosts panel plan h opening sink door asked recorder (hosted_of ended written end) → EndsService panel plan source sink door asked recorder ended
+  refused : (outcome : Outcome) (sink_now : SinkView) → ended.status ≡ 3 → IsRefusalOf (policy_form (most_session plan)) source outcome → IsUnbegun door asked recorder ended
       → ended.output ≡ Some sink_now → Sends sink.sent sink_now.sent (output_of outcome) → source.faults_now ≡ source.faults → sink_now.faults ≡ sink.faults
-      → EndsService panel plan source sink door asked ended
-  refusal_cut_off : (outcome : Outcome) (sink_now : SinkView) → ended.status ≡ 5 → IsRefusalOf (policy_form (most_session plan)) source outcome → IsUnbegun door asked ended
+      → EndsService panel plan source sink door asked recorder ended
+  refusal_cut_off : (outcome : Outcome) (sink_now : SinkView) → ended.status ≡ 5 → IsRefusalOf (policy_form (most_session plan)) source outcome → IsUnbegun door asked recorder ended
       → ended.output ≡ Some sink_now → SendsPart sink.sent sink_now.sent (output_of outcome) → source.faults_now ≡ source.faults → sink_now.faults ≡ one_more sink.faults
-      → EndsService panel plan source sink door asked ended
-  source_failed : ended.status ≡ 4 → IsUnbegun door asked ended → ended.output ≡ Some sink → source.faults_now ≡ one_more source.faults → EndsService panel plan source sink door asked ended
-  no_memory : ended.status ≡ 6 → IsUnbegun door asked ended → ended.output ≡ Some sink → source.faults_now ≡ source.faults → EndsService panel plan source sink door asked ended
+      → EndsService panel plan source sink door asked recorder ended
+  source_failed : ended.status ≡ 4 → IsUnbegun door asked recorder ended → ended.output ≡ Some sink → source.faults_now ≡ one_more source.faults
+      → EndsService panel plan source sink door asked recorder ended
+  no_memory : ended.status ≡ 6 → IsUnbegun door asked recorder ended → ended.output ≡ Some sink → source.faults_now ≡ source.faults
+      → EndsService panel plan source sink door asked recorder ended
 
 -- There was no memory to begin with: nobody was served, and nothing was written
-pub record IsUnserved {P : Type 0} (sink : SinkView) (ended : EndedView P) : Type 0 where
+pub record IsUnserved {P C : Type 0} (sink : SinkView) (ended : EndedView P C) : Type 0 where
   pub status : ended.status ≡ 6
   pub reports : ended.reports ≡ []
   pub output : ended.output ≡ Some sink
 
 -- A policy was read and served by the plan, and this is how: its whole text was written, and the journal and all reports are handed back. The status
--- is 0; or 7 where a door has failed in a worker; or else 6 where a worker had no memory for one more session
-pub record IsServedWhole {P : Type 0} (panel : P → PanelHistory) (plan : Plan) (source : SourceRun) (sink : SinkView) (door : DoorView) (asked : P) (ended : EndedView P) : Type 0 where
+-- is 7 where a door has failed in a worker; or else 6 where a worker had no memory for one more session; or else 5 where the record of a call was cut
+-- off; and 0 where there was nothing of this
+pub record IsServedWhole {P C : Type 0} (panel : P → PanelHistory) (plan : Plan) (source : SourceRun) (sink : SinkView) (door : DoorView) (asked : P) (recorder : Option RecorderView) (ended : EndedView P C) : Type 0 where
   pub head : Head
   pub opening : List Entry
   pub end : ServeEnd
   pub doors : List DoorView
-  pub panels : List P
+  pub means : List (Means P C)
   pub policy : IsPolicyOf source (most_session plan) head (entry_trees opening)
-  pub ready : AreReady panel plan head door ended.door (panel asked) (panel ended.panel) doors panels
-  pub serves : Serves panel plan.sessions head opening sink doors panels (hosted_of ended true end).served
-  pub status : ended.status ≡ status_of true end
+  pub ready : AreReady panel plan head door ended.door (panel asked) (panel ended.panel) recorder ended.recorder doors means
+  pub serves : Serves (means_history panel) plan.sessions head opening sink doors means (hosted_of ended true end).served
+  pub status : ended.status ≡ status_of true end (some_cut_off ended.means)
 
--- Where neither the source nor the sink failed, nor the door or the panel as the service was made ready, an input that is not refused is served, and its
--- text is written whole; or there was no memory to begin with.
-abbrev pub IsCompleteService : {P : Type 0} → (P → PanelHistory) → Plan → SourceRun → SinkView → DoorView → P → EndedView P → Type 0
-IsCompleteService panel plan source sink door asked ended =
+-- a recorder has failed, by its own count
+abbrev pub HasFailedToRecord : Option RecorderView → Option RecorderView → Type 0
+HasFailedToRecord (Some recorder) (Some recorder_now) = Rose recorder.faults recorder_now.faults
+HasFailedToRecord _ _ = ⊥
+
+-- Where neither the source nor the sink failed, nor the door, the panel or the recorder as the service was made ready, an input that is not refused is
+-- served, and its text is written whole; or there was no memory to begin with.
+abbrev pub IsCompleteService : {P C : Type 0} → (P → PanelHistory) → Plan → SourceRun → SinkView → DoorView → P → Option RecorderView → EndedView P C → Type 0
+IsCompleteService panel plan source sink door asked recorder ended =
     ¬ Rose source.faults source.faults_now → ((sink_now : SinkView) → ended.output ≡ Some sink_now → ¬ Rose sink.faults sink_now.faults) → ¬ Rose (faults_in door.calls) (faults_in ended.door.calls)
-    → ¬ Rose (panels.faults_in (panel asked).calls) (panels.faults_in (panel ended.panel).calls) → ¬ IsRefusedInput (policy_form (most_session plan)) source.given
-    → IsUnserved sink ended ⊎ IsServedWhole panel plan source sink door asked ended
+    → ¬ Rose (panels.faults_in (panel asked).calls) (panels.faults_in (panel ended.panel).calls) → ¬ HasFailedToRecord recorder ended.recorder → ¬ IsRefusedInput (policy_form (most_session plan)) source.given
+    → IsUnserved sink ended ⊎ IsServedWhole panel plan source sink door asked recorder ended
 
 -- a run of `serve`
-pub record RunsService {P : Type 0} (panel : P → PanelHistory) (plan : Plan) (source : SourceRun) (sink : SinkView) (door : DoorView) (asked : P) (ended : EndedView P) : Type 0 where
-  pub ends : EndsService panel plan source sink door asked ended
-  pub complete : IsCompleteService panel plan source sink door asked ended
+pub record RunsService {P C : Type 0} (panel : P → PanelHistory) (plan : Plan) (source : SourceRun) (sink : SinkView) (door : DoorView) (asked : P) (recorder : Option RecorderView) (ended : EndedView P C) : Type 0 where
+  pub ends : EndsService panel plan source sink door asked recorder ended
+  pub complete : IsCompleteService panel plan source sink door asked recorder ended
   pub refuses : RefusesExactly (policy_form (most_session plan)) source ended.status

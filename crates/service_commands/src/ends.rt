@@ -1,16 +1,21 @@
 //! What the program hands back.
+ghost use Rattle.std.specs.Prelude.{◌≡◌};
+ghost use Rattle.std.specs.Option.{option_or};
+
 use authority_ask::Panel;
-use nexus_serve::Reports;
-use nx_io::{Door, Sink};
+use nexus_serve::{Means, Reports};
+use nx_io::{Door, Recorder, Sink};
 use policy_history::Journal;
 
 /// How the program ended, and what it hands back.
 #[derive(Drop)]
-pub struct Ended<D: Door, P: Panel, K: Sink> {
+pub struct Ended<D: Door, P: Panel, C: Recorder, K: Sink> {
     /// The status that the operating system is given. `docs/FORMATS.md`, "Statuses", says what each means.
     pub status: u8,
     /// The sink that was handed in.
     pub output: Option<K>,
+    /// The sink for records that was handed in. The workers of a service whose calls are recorded had shares of it.
+    pub records: Option<C>,
     /// The journal at the end, where a policy was read and its text was to be written.
     pub journal: Option<Journal>,
     /// The reports of all sessions of a service, a list for each worker.
@@ -23,6 +28,22 @@ pub struct Ended<D: Door, P: Panel, K: Sink> {
     pub doors: Vec<D>,
     /// The panel that was handed in.
     pub panel: P,
-    /// The shares of the panel that were made.
-    pub panels: Vec<P>,
+    /// What the workers of a service had: the shares of the panel that were made, and with each who kept the records of the worker's
+    /// calls, which is a share of the sink for records where they are recorded.
+    pub means: Vec<Means<P, C>>,
+}
+
+impl<D: Door + Drop, P: Panel + Drop, C: Recorder + Drop, K: Sink + Drop> Ended<D, P, C, K>
+where
+    D::Link: Drop,
+{
+    /// The same end, where a sink for records was kept aside: it is handed back, if there is one.
+    pub fn with_records(self, aside: Option<C>) -> Ended<D, P, C, K>
+        ensures { result ≡ record self { records = option_or self.records aside } }
+    {
+        Ended {
+            records: self.records.or(aside),
+            ..self
+        }
+    }
 }

@@ -1,5 +1,5 @@
 //! A run of `serve`.
-ghost use Rattle.std.specs.Prelude.{◌≡◌, ◌≢◌, ◌⊎◌, ◌≤◌, ◌+◌, ◌*◌, ◌-◌, ◌^◌, ℕ, List, [], IfErr, IfOk, None, Some, length, map, option_map};
+ghost use Rattle.std.specs.Prelude.{◌≡◌, ◌≢◌, not, ◌⊎◌, ◌≤◌, ◌+◌, ◌*◌, ◌-◌, ◌^◌, ℕ, List, [], IfErr, IfOk, None, Some, length, map, option_map};
 ghost use Rattle.nx_io.specs.Streams.{Gave};
 ghost use Rattle.policy_history.specs.Values.{entry_trees};
 ghost use Rattle.policy_history.specs.Events.{EntryTree};
@@ -7,16 +7,16 @@ ghost use Rattle.policy_history.specs.declared.heads.Head.{Head};
 ghost use Rattle.journal_text.specs.PolicyFronts.{AreBelow};
 ghost use Rattle.run_streams.specs.Runs.{most_bytes, source_run};
 ghost use Rattle.verdict_words.specs.Settling.{flat};
-ghost use Rattle.nexus_serve.specs.Views.{door_view, link_view};
-ghost use Rattle.service_commands.specs.Services.{EndsService, IsPolicy, IsPolicyOf, IsService, IsUnbegun, hosted_of, patience_in, policy_form};
+ghost use Rattle.nexus_serve.specs.Views.{door_view, link_view, recorder_view};
+ghost use Rattle.service_commands.specs.Services.{EndsService, IsPolicy, IsPolicyOf, IsService, IsUnbegun, hosted_of, only_where, patience_in, policy_form};
 ghost use Rattle.run_streams.specs.Inner.Unread.{faults_after_input, IsUnread};
 ghost use Rattle.service_commands.specs.Inner.ServiceEnds.{IsWrongText};
 
 use crate::ends::Ended;
 use authority_ask::Panel;
 use journal_text::{PolicyError, PolicyFront, read_front};
-use nexus_serve::{Hosted, Served, host};
-use nx_io::{Door, Gate, Link, Sink, Source};
+use nexus_serve::{Hosted, Outside, Served, host};
+use nx_io::{Door, Gate, Link, Recorder, Sink, Source};
 use policy_history::Journal;
 use run_streams::{Outcome, ReadError, Unread, read_whole, tell};
 use std::alloc::Global;
@@ -29,14 +29,15 @@ use std::thread::Threads;
 /// How many seconds a service waits for a peer that is admitted, where nothing is said.
 const PATIENCE: u64 = 300;
 
-/// A service that the program can be asked to run: where it listens, how many workers it has, how many sessions each serves at most, and
-/// for how many seconds it waits for a peer that is admitted, where that is said.
+/// A service that the program can be asked to run: where it listens, how many workers it has, how many sessions each serves at most,
+/// for how many seconds it waits for a peer that is admitted, where that is said, and whether its calls are recorded.
 #[derive(Clone, Copy)]
 pub struct Service<'a> {
     pub address: &'a [u8],
     pub workers: u64,
     pub sessions: u64,
     pub patience: Option<u64>,
+    pub records: bool,
 }
 
 impl<'a> Service<'a> {
@@ -49,42 +50,72 @@ impl<'a> Service<'a> {
             None => PATIENCE,
         }
     }
+
+    /// The sink for records: first as the recorder of the service, where its calls are recorded, and else second, to be kept aside.
+    pub fn recorder<C: Recorder>(&self, records: C) -> (Option<C>, Option<C>)
+        ensures recorder { result.0 ≡ only_where self.now.records (Some records) }
+        ensures aside { result.1 ≡ only_where (not self.now.records) (Some records) }
+    {
+        if self.records {
+            (Some(records), None)
+        } else {
+            (None, Some(records))
+        }
+    }
 }
 
-/// Reads a policy, and serves the sessions of its workers. It stands apart, so that the other commands have no room on the stack for
-/// a service.
+/// Reads a policy, and serves the sessions of its workers, who have shares of the door and the panel. Where there is a recorder, each of
+/// them has a share of it too, and the record of each call is sent there before the call has an effect; what was sent of them is told by
+/// the means that are handed back, and the recorder itself is sent nothing.
+///
+/// The status is 3 where the input is refused, 4 where the source failed, and 6 where there was no memory for the input; nothing is asked
+/// of door, panel and recorder then. Else it is that of `host` of `nexus_serve`: 5 also where the recorder could not be shared, so that
+/// nobody was served; or where the record of a call was cut off, the text being whole.
+// It stands apart, so that the other commands have no room on the stack for a service.
 #[inline(never)]
-pub fn run_service<R, S: Source, K, D, P, G>(
+pub fn run_service<R, S: Source, K, D, P, C, G>(
     rt: &R,
     alloc: Global,
     service: Service,
     input: &mut S,
     output: K,
-    door: D,
-    panel: P,
+    outside: Outside<D, P, C>,
     gate: &G,
-) -> Ended<D, P, K>
+) -> Ended<D, P, C, K>
 where
     K: Sink + Send + Drop,
     D: Door + Send + Drop,
     D::Link: Link + Send + Drop,
     P: Panel + Send + Drop,
+    C: Recorder + Send + Drop,
     G: Gate + Sync,
     R: Net<Listener = TcpListener, Stream = TcpStream> + Clock + Files + Wait + Threads + Sync,
     requires within { IsService service.address.now service.workers service.sessions service.patience }
     ensures gave { Gave (S.left input.old) (S.left input.new) (S.given input.old) (S.given input.new) }
-    ensures ends { EndsService P.history (record { address = service.entry.address.now; workers = service.entry.workers; sessions = service.entry.sessions; patience = patience_in service.entry.patience })
-        (source_run (S.left input.old) (S.given input.old) (S.given input.new) (S.over input.new) (S.faults input.old) (S.faults input.new))
-        (record { sent = K.sent output; synced = K.synced output; faults = K.faults output }) (door_view (link_view D.Link.left D.Link.taken D.Link.sent D.Link.over D.Link.closed D.Link.admitted D.Link.place D.Link.toward D.Link.faults) D.links D.origin D.calls door) panel
+    ensures ends { EndsService P.history (record {
+      address = service.entry.address.now;
+      workers = service.entry.workers;
+      sessions = service.entry.sessions;
+      patience = patience_in service.entry.patience;
+    })
+        (source_run (S.left input.old) (S.given input.old) (S.given input.new) (S.over input.new) (S.faults
+        input.old) (S.faults input.new))
+        (record { sent = K.sent output; synced = K.synced output; faults = K.faults output }) (door_view (link_view
+        D.Link.left D.Link.taken D.Link.sent D.Link.over D.Link.closed D.Link.admitted D.Link.place
+        D.Link.toward D.Link.faults) D.links D.origin D.calls outside.door) outside.panel
+        (option_map (recorder_view C.sent C.synced C.faults C.shares) outside.recorder)
         (record {
           status = result.status;
           output = option_map (λ k. record { sent = K.sent k; synced = K.synced k; faults = K.faults k }) result.output;
           journal = result.journal;
           reports = flat result.reports.items;
-          door = (door_view (link_view D.Link.left D.Link.taken D.Link.sent D.Link.over D.Link.closed D.Link.admitted D.Link.place D.Link.toward D.Link.faults) D.links D.origin D.calls result.door);
-          doors = map (door_view (link_view D.Link.left D.Link.taken D.Link.sent D.Link.over D.Link.closed D.Link.admitted D.Link.place D.Link.toward D.Link.faults) D.links D.origin D.calls) result.doors.items;
+          door = (door_view (link_view D.Link.left D.Link.taken D.Link.sent D.Link.over D.Link.closed
+              D.Link.admitted D.Link.place D.Link.toward D.Link.faults) D.links D.origin D.calls result.door);
+          doors = map (door_view (link_view D.Link.left D.Link.taken D.Link.sent D.Link.over D.Link.closed
+              D.Link.admitted D.Link.place D.Link.toward D.Link.faults) D.links D.origin D.calls) result.doors.items;
           panel = result.panel;
-          panels = result.panels.items;
+          recorder = option_map (recorder_view C.sent C.synced C.faults C.shares) result.records;
+          means = result.means.items;
         }) }
     ensures dialed { result.dialed ≡ None }
 {
@@ -95,8 +126,7 @@ where
             alloc,
             journal,
             output,
-            door,
-            panel,
+            outside,
             gate,
             service.address,
             service.workers,
@@ -106,10 +136,10 @@ where
         Err(Unread::Refused(outcome)) => {
             let mut output = output;
             let status = tell(alloc, &mut output, outcome);
-            unserved(alloc, status, output, door, panel)
+            unserved(alloc, status, output, outside)
         }
-        Err(Unread::Failed) => unserved(alloc, 4, output, door, panel),
-        Err(Unread::Memory) => unserved(alloc, 6, output, door, panel),
+        Err(Unread::Failed) => unserved(alloc, 4, output, outside),
+        Err(Unread::Memory) => unserved(alloc, 6, output, outside),
     }
 }
 
@@ -175,9 +205,9 @@ fn read_policy_text(alloc: Global, text: &[u8], most: u64) -> Result<Journal, Po
 }
 
 /// The end of a service that was hosted.
-fn ended_by<D: Door + Drop, P: Panel + Drop, K: Sink + Drop>(
-    hosted: Hosted<D, P, K>,
-) -> Ended<D, P, K>
+fn ended_by<D: Door + Drop, P: Panel + Drop, C: Recorder + Drop, K: Sink + Drop>(
+    hosted: Hosted<D, P, C, K>,
+) -> Ended<D, P, C, K>
 where
     D::Link: Drop,
     ensures hosted { hosted_of (record {
@@ -185,10 +215,13 @@ where
       output = option_map (λ k. record { sent = K.sent k; synced = K.synced k; faults = K.faults k }) result.output;
       journal = result.journal;
       reports = flat result.reports.items;
-      door = (door_view (link_view D.Link.left D.Link.taken D.Link.sent D.Link.over D.Link.closed D.Link.admitted D.Link.place D.Link.toward D.Link.faults) D.links D.origin D.calls result.door);
-      doors = map (door_view (link_view D.Link.left D.Link.taken D.Link.sent D.Link.over D.Link.closed D.Link.admitted D.Link.place D.Link.toward D.Link.faults) D.links D.origin D.calls) result.doors.items;
+      door = (door_view (link_view D.Link.left D.Link.taken D.Link.sent D.Link.over D.Link.closed D.Link.admitted
+          D.Link.place D.Link.toward D.Link.faults) D.links D.origin D.calls result.door);
+      doors = map (door_view (link_view D.Link.left D.Link.taken D.Link.sent D.Link.over D.Link.closed D.Link.admitted
+          D.Link.place D.Link.toward D.Link.faults) D.links D.origin D.calls) result.doors.items;
       panel = result.panel;
-      panels = result.panels.items;
+      recorder = option_map (recorder_view C.sent C.synced C.faults C.shares) result.records;
+      means = result.means.items;
     }) hosted.served.written hosted.served.end ≡ hosted }
     ensures dialed { result.dialed ≡ None }
 {
@@ -196,6 +229,7 @@ where
         status,
         door,
         panel,
+        recorder,
         served,
     } = hosted;
     let Served {
@@ -203,56 +237,67 @@ where
         sink,
         reports,
         doors,
-        panels,
+        means,
         ..
     } = served;
     Ended {
         status,
         output: sink,
+        records: recorder,
         journal,
         reports,
         dialed: None,
         door,
         doors,
         panel,
-        panels,
+        means,
     }
 }
 
 /// The end of a service that was not begun.
-fn unserved<D: Door + Drop, P: Panel + Drop, K: Sink + Drop>(
+fn unserved<D: Door + Drop, P: Panel + Drop, C: Recorder + Drop, K: Sink + Drop>(
     alloc: Global,
     status: u8,
     output: K,
-    door: D,
-    panel: P,
-) -> Ended<D, P, K>
+    outside: Outside<D, P, C>,
+) -> Ended<D, P, C, K>
 where
     D::Link: Drop,
     ensures status { result.status ≡ status }
     ensures output { result.output ≡ Some output }
-    ensures unbegun { IsUnbegun (door_view (link_view D.Link.left D.Link.taken D.Link.sent D.Link.over D.Link.closed D.Link.admitted D.Link.place D.Link.toward D.Link.faults) D.links D.origin D.calls door) panel
+    ensures unbegun { IsUnbegun (door_view (link_view D.Link.left D.Link.taken D.Link.sent D.Link.over
+        D.Link.closed D.Link.admitted D.Link.place D.Link.toward D.Link.faults) D.links D.origin D.calls outside.door)
+        outside.panel (option_map (recorder_view C.sent C.synced C.faults C.shares) outside.recorder)
         (record {
           status = result.status;
           output = option_map (λ k. record { sent = K.sent k; synced = K.synced k; faults = K.faults k }) result.output;
           journal = result.journal;
           reports = flat result.reports.items;
-          door = (door_view (link_view D.Link.left D.Link.taken D.Link.sent D.Link.over D.Link.closed D.Link.admitted D.Link.place D.Link.toward D.Link.faults) D.links D.origin D.calls result.door);
-          doors = map (door_view (link_view D.Link.left D.Link.taken D.Link.sent D.Link.over D.Link.closed D.Link.admitted D.Link.place D.Link.toward D.Link.faults) D.links D.origin D.calls) result.doors.items;
+          door = (door_view (link_view D.Link.left D.Link.taken D.Link.sent D.Link.over D.Link.closed
+              D.Link.admitted D.Link.place D.Link.toward D.Link.faults) D.links D.origin D.calls result.door);
+          doors = map (door_view (link_view D.Link.left D.Link.taken D.Link.sent D.Link.over D.Link.closed
+              D.Link.admitted D.Link.place D.Link.toward D.Link.faults) D.links D.origin D.calls) result.doors.items;
           panel = result.panel;
-          panels = result.panels.items;
+          recorder = option_map (recorder_view C.sent C.synced C.faults C.shares) result.records;
+          means = result.means.items;
         }) }
     ensures dialed { result.dialed ≡ None }
 {
+    let Outside {
+        door,
+        panel,
+        recorder,
+    } = outside;
     Ended {
         status,
         output: Some(output),
+        records: recorder,
         journal: None,
         reports: Vec::new(alloc),
         dialed: None,
         door,
         doors: Vec::new(alloc),
         panel,
-        panels: Vec::new(alloc),
+        means: Vec::new(alloc),
     }
 }

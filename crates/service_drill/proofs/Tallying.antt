@@ -14,16 +14,18 @@ use Rattle.session_wire.proofs.ForCallers.{reply_frames_then}
 use Rattle.policy_history.specs.declared.events.Entry.{Entry}
 use Rattle.policy_history.specs.declared.heads.Head.{Head}
 use Rattle.policy_history.specs.Values.{History}
-use Rattle.authority_ask.specs.Memory.{Rehearsed}
 use Rattle.nx_io.specs.MemoryLinks.{Wire}
+use Rattle.authority_ask.specs.Memory.{Rehearsed}
+use Rattle.nexus_serve.specs.declared.means.Means.{Means}
+use Rattle.nexus_serve.specs.Means.{means_history}
 use Rattle.nexus_serve.specs.declared.reporting.ServedSession.{ServedSession}
 use Rattle.nx_io.specs.Readers.{Discarded}
-use Rattle.nexus_serve.specs.Services.{ServedView, Serves}
+use Rattle.nexus_serve.specs.Services.{Serves}
 use Rattle.nexus_serve.specs.Views.{DoorView, ReportView, joined, session_view}
 use Rattle.verdict_words.specs.Settling.{flat}
 use Rattle.verdict_words.specs.Values.{PassValue}
 use Rattle.nexus_drill.specs.declared.outcomes.DrillTotals.{DrillTotals}
-use Rattle.service_drill.specs.Runs.{Counts, IsRun, ServesLoad, allows, denies, panel_of}
+use Rattle.service_drill.specs.Runs.{Counts, IsRun, LeftView, ServesLoad, allows, denies, panel_of}
 use Rattle.service_drill.specs.Inner.{CountsLinks, CountsReplies, sent_in, sent_over, wire_view}
 
 -- so many turns have read one reply each of the bytes
@@ -134,7 +136,7 @@ joined_links (session ∷ sessions) [] long = absurd (omega (arith, long))
 joined_links (session ∷ sessions) (pass ∷ passes) long = ap (λ (links : List (List ℕ)). session.link.store.sent ∷ links) (joined_links sessions passes (omega (arith, long)))
 
 -- what is counted of reports, as a service tells them
-pub counts_of : (served : ServedView Rehearsed) (workers : List (List ReportView)) (journal : History) (allowed denied entries : ℕ) → served.journal ≡ Some journal → served.reports ≡ flat workers
+pub counts_of : (served : LeftView) (workers : List (List ReportView)) (journal : History) (allowed denied entries : ℕ) → served.journal ≡ Some journal → served.reports ≡ flat workers
     → CountsLinks (sent_over (flat workers)) (allowed, denied) → entries ≡ length journal.entries → Counts served (record { allowed = allowed; denied = denied; entries = entries })
 counts_of served workers journal allowed denied entries journal_is reports_are h entries_are = record {
   journal = journal;
@@ -148,17 +150,17 @@ counts_of served workers journal allowed denied entries journal_is reports_are h
 
 -- ---- The service
 
-pub serves_so : (h h2 : Head) (es es2 : List Entry) (sink sink2 : Discarded) (ds ds2 : List DoorView) (ps ps2 : List Rehearsed) (s : ServedView Rehearsed) → h ≡ h2 → es ≡ es2 → sink ≡ sink2 → ds ≡ ds2 → ps ≡ ps2
-    → Serves panel_of 1 h es (record { sent = sink.sent; synced = sink.synced; faults = 0 }) ds ps s → Serves panel_of 1 h2 es2 (record { sent = sink2.sent; synced = sink2.synced; faults = 0 }) ds2 ps2 s
+pub serves_so : (h h2 : Head) (es es2 : List Entry) (sink sink2 : Discarded) (ds ds2 : List DoorView) (ps ps2 : List (Means Rehearsed Discarded)) (s : LeftView) → h ≡ h2 → es ≡ es2 → sink ≡ sink2 → ds ≡ ds2 → ps ≡ ps2
+    → Serves (means_history panel_of) 1 h es (record { sent = sink.sent; synced = sink.synced; faults = 0 }) ds ps s → Serves (means_history panel_of) 1 h2 es2 (record { sent = sink2.sent; synced = sink2.synced; faults = 0 }) ds2 ps2 s
 serves_so h h2 es es2 sink sink2 ds ds2 ps ps2 s a b c d e serves =
-    subst (λ (x : Head). Serves panel_of 1 x es2 (record { sent = sink2.sent; synced = sink2.synced; faults = 0 }) ds2 ps2 s) a
-    (subst (λ (x : List Entry). Serves panel_of 1 h x (record { sent = sink2.sent; synced = sink2.synced; faults = 0 }) ds2 ps2 s) b
-    (subst (λ (x : Discarded). Serves panel_of 1 h es (record { sent = x.sent; synced = x.synced; faults = 0 }) ds2 ps2 s) c
-    (subst (λ (x : List DoorView). Serves panel_of 1 h es (record { sent = sink.sent; synced = sink.synced; faults = 0 }) x ps2 s) d
-    (subst (λ (x : List Rehearsed). Serves panel_of 1 h es (record { sent = sink.sent; synced = sink.synced; faults = 0 }) ds x s) e serves))))
+    subst (λ (x : Head). Serves (means_history panel_of) 1 x es2 (record { sent = sink2.sent; synced = sink2.synced; faults = 0 }) ds2 ps2 s) a
+    (subst (λ (x : List Entry). Serves (means_history panel_of) 1 h x (record { sent = sink2.sent; synced = sink2.synced; faults = 0 }) ds2 ps2 s) b
+    (subst (λ (x : Discarded). Serves (means_history panel_of) 1 h es (record { sent = x.sent; synced = x.synced; faults = 0 }) ds2 ps2 s) c
+    (subst (λ (x : List DoorView). Serves (means_history panel_of) 1 h es (record { sent = sink.sent; synced = sink.synced; faults = 0 }) x ps2 s) d
+    (subst (λ (x : List (Means Rehearsed Discarded)). Serves (means_history panel_of) 1 h es (record { sent = sink.sent; synced = sink.synced; faults = 0 }) ds x s) e serves))))
 
 -- what is counted of what such a service left is counted of a run
-pub run_counted : {E : Type 0} (number workers calls : ℕ) (served : ServedView Rehearsed) (told : Result DrillTotals E) → ServesLoad number workers calls served → IfOk told (Counts served)
+pub run_counted : {E : Type 0} (number workers calls : ℕ) (served : LeftView) (told : Result DrillTotals E) → ServesLoad number workers calls served → IfOk told (Counts served)
     → IfOk told (IsRun number workers calls)
 run_counted number workers calls served (Ok counted) serves counts = record { served = served; serves = serves; counts = counts }
 run_counted number workers calls served (Err e) serves counts = tt

@@ -8,8 +8,12 @@ use Rattle.authority_ask.specs.PanelCalls.{PanelHistory}
 use Rattle.session_wire.specs.declared.replies.Reply.{Reply}
 use Rattle.session_wire.specs.declared.replies.Reply.TheVariants.{Allowed, Denied}
 use Rattle.session_wire.specs.Frames.{reply_frames}
+use Rattle.nexus_serve.specs.declared.means.Means.{Means}
+use Rattle.nexus_serve.specs.Means.{means_history}
 use Rattle.nexus_serve.specs.Services.{ServedView, Serves}
 use Rattle.nx_io.specs.DoorCalls.{new_origin, share_of}
+use Rattle.nx_io.specs.Readers.{Discarded}
+use Rattle.session_core.specs.Records.{unwanted}
 use Rattle.nexus_serve.specs.Views.{DoorView, LinkView, ReportView}
 use Rattle.nexus_drill.specs.declared.outcomes.DrillTotals.{DrillTotals}
 use Rattle.nexus_drill.specs.Drills.{drill_principal, frames_of}
@@ -43,9 +47,13 @@ link_of frames = record {
 abbrev pub door_of : ℕ → ℕ → ℕ → DoorView
 door_of number calls worker = record { links = Some (link_of (frames_of number worker calls) ∷ []); origin = share_of new_origin []; calls = [] }
 
--- the panel of a worker, of which nothing was asked
-abbrev pub silent : ℕ → Rehearsed
-silent worker = rehearsal [] [] []
+-- the means of a worker: a panel of which nothing was asked, and nobody who keeps records
+abbrev pub silent : ℕ → Means Rehearsed Discarded
+silent worker = record { panel = rehearsal [] [] []; records = unwanted }
+
+-- what such a service leaves
+abbrev pub LeftView : Type 0
+LeftView = ServedView (Means Rehearsed Discarded)
 
 -- ---- What is counted
 
@@ -63,7 +71,7 @@ HaveReplies reports replies = map (λ (report : ReportView). report.link.sent) r
 
 -- What is counted of what a service left: the calls that were allowed and denied, over all reports, by the replies; and the entries of
 -- its journal
-pub record Counts (served : ServedView Rehearsed) (totals : DrillTotals) : Type 0 where
+pub record Counts (served : LeftView) (totals : DrillTotals) : Type 0 where
   pub journal : History
   pub journal_is : served.journal ≡ Some journal
   pub entries : totals.entries ≡ length journal.entries
@@ -77,12 +85,12 @@ abbrev pub panel_of : Rehearsed → PanelHistory
 panel_of panel = panel.history
 
 -- A service over the workers' doors, with one session for each of them and a sink that was sent nothing, left this
-abbrev pub ServesLoad : ℕ → ℕ → ℕ → ServedView Rehearsed → Type 0
+abbrev pub ServesLoad : ℕ → ℕ → ℕ → LeftView → Type 0
 ServesLoad number workers calls served =
-    Serves panel_of 1 (head_of workers) [] (record { sent = []; synced = 0; faults = 0 }) (each workers (door_of number calls)) (each workers silent) served
+    Serves (means_history panel_of) 1 (head_of workers) [] (record { sent = []; synced = 0; faults = 0 }) (each workers (door_of number calls)) (each workers silent) served
 
 -- such a service left something of which this is counted
 pub record IsRun (number workers calls : ℕ) (totals : DrillTotals) : Type 0 where
-  pub served : ServedView Rehearsed
+  pub served : LeftView
   pub serves : ServesLoad number workers calls served
   pub counts : Counts served totals

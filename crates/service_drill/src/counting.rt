@@ -16,7 +16,7 @@ use std::alloc::{AllocError, Global};
 /// other bytes than replies.
 pub fn count(
     alloc: Global,
-    served: Served<MemDoor, MemPanel, Discard>,
+    served: Served<MemDoor, MemPanel, Discard, Discard>,
 ) -> Result<DrillTotals, AllocError>
     ensures { IfOk result (Counts served) }
 {
@@ -28,7 +28,7 @@ pub fn count(
 // As `count`, of what is lent.
 fn count_in(
     alloc: Global,
-    served: &Served<MemDoor, MemPanel, Discard>,
+    served: &Served<MemDoor, MemPanel, Discard, Discard>,
 ) -> Result<DrillTotals, AllocError>
     ensures { IfOk result (Counts served.now) }
 {

@@ -4,7 +4,7 @@ ghost use Rattle.nexus_drill.specs.Drills.{drill_line, totals};
 ghost use Rattle.service_drill.specs.Runs.{IsRun, ServesLoad};
 
 use crate::counting::count;
-use crate::stage::{doors, journal, panels};
+use crate::stage::{doors, journal, means};
 use authority_ask::MemPanel;
 use nexus_drill::{DrillTotals, drill_line, drill_totals};
 use nexus_serve::{Served, serve};
@@ -69,7 +69,7 @@ fn served<R>(
     number: u64,
     workers: u64,
     calls: u64,
-) -> Result<Served<MemDoor, MemPanel, Discard>, AllocError>
+) -> Result<Served<MemDoor, MemPanel, Discard, Discard>, AllocError>
 where
     R: Net<Listener = TcpListener, Stream = TcpStream> + Clock + Wait + Threads + Sync,
     requires workers { (1 ≤ workers) × (workers ≤ 64) }
@@ -77,10 +77,10 @@ where
     ensures { IfOk result (ServesLoad number workers calls) }
 {
     // The journal is made last, so that it is not let go on the way.
-    let panels = panels(alloc, workers)?;
+    let means = means(alloc, workers)?;
     let doors = doors(alloc, number, workers, calls)?;
     let journal = journal(alloc, workers)?;
     let gate = OpenGate;
-    let served = serve(rt, alloc, journal, Discard::new(), doors, panels, &gate, 1);
+    let served = serve(rt, alloc, journal, Discard::new(), doors, means, &gate, 1);
     Ok(served)
 }

@@ -1,4 +1,4 @@
-// What a run of the load begins with: the journal without entries, and a door and a panel for each worker.
+// What a run of the load begins with: the journal without entries, and for each worker a door and its means.
 ghost use Rattle.std.specs.Prelude.{◌≡◌, ◌<◌, ◌≤◌, ◌∷◌, [], IfOk, length, map};
 ghost use Rattle.nx_io.specs.DoorCalls.{new_origin, share_of};
 ghost use Rattle.nx_io.specs.MemoryDoors.{IsFreshPlan, plan_of, share_by};
@@ -8,8 +8,10 @@ ghost use Rattle.service_drill.specs.Inner.{view_of};
 
 use authority_ask::MemPanel;
 use nexus_drill::{drill_frames, drill_principal};
-use nx_io::{Door, DoorPlan, MemDoor, MemLink, Shared};
+use nexus_serve::Means;
+use nx_io::{Discard, Door, DoorPlan, MemDoor, MemLink, Shared};
 use policy_history::{Authorities, Head, Journal, Principals};
+use session_core::RecordKeeper;
 use std::alloc::{AllocError, Global};
 
 /// The journal of the workers' principals, without entries. An `Err` is want of memory, or more principals than a journal takes.
@@ -90,15 +92,16 @@ fn door_by(alloc: Global, plan: DoorPlan) -> Result<MemDoor, AllocError>
     }
 }
 
-/// A panel for each worker. Nothing is asked of it. An `Err` is want of memory.
-pub fn panels(alloc: Global, workers: u64) -> Result<Vec<MemPanel>, AllocError>
-    ensures panels { IfOk result (λ panels. panels.items ≡ each workers silent) }
-    ensures count { IfOk result (λ panels. length panels.items ≡ workers) }
+/// A panel for each worker, of which nothing is asked, and nobody who keeps records. An `Err` is want of memory.
+pub fn means(alloc: Global, workers: u64) -> Result<Vec<Means<MemPanel, Discard>>, AllocError>
+    ensures means { IfOk result (λ means. means.items ≡ each workers silent) }
+    ensures count { IfOk result (λ means. length means.items ≡ workers) }
 {
-    let mut panels = Vec::new(alloc);
+    let mut means = Vec::new(alloc);
     for _worker in 0..workers {
         let panel = MemPanel::new(alloc, &[], &[], &[])?;
-        panels.push(panel)?;
+        let records = RecordKeeper::nobody();
+        means.push(Means { panel, records })?;
     }
-    Ok(panels)
+    Ok(means)
 }
