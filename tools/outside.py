@@ -7,7 +7,7 @@ be read for it. Prints each such line, and ends with 1 where there is one.
     tools/outside.py [FOLDER]
 
 A function that waits for ever meets any contract, each function over a network has a bound that lets it open a socket, and each one
-that listens has one that lets it open files. The READMEs of the two crates below say what is to be read there.
+that listens has one that lets it open files. The READMEs of the three crates below say what is to be read there.
 """
 
 import re
@@ -18,7 +18,7 @@ from pathlib import Path
 ADAPTERS = {"nx_io/src/system_streams.rt", "nx_io/src/local_sockets.rt"}
 
 # The files that open files.
-FILERS = {"nx_io/src/local_sockets.rt", "nx_io/src/file_sinks.rt"}
+FILERS = {"nx_io/src/local_sockets.rt", "nx_io/src/file_sinks.rt", "nexus_main/src/standard_error.rt"}
 
 # What waits without an end, or for somebody else.
 WAITS = re.compile(r"\b(forever|park|park_timeout|Condvar|Barrier|recv|recv_timeout|sleep)\b")

@@ -4,3 +4,4 @@ mod Commanded
 pub mod ClientCalls
 mod TrueRuns
 mod ServiceAsks
+mod Recordings

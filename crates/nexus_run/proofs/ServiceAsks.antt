@@ -1,25 +1,27 @@
 -- What a service calls of the panel that is handed in stands behind what was called of it before.
-use Rattle.std.proofs.Common.{ap}
+use Rattle.std.proofs.Common.{Option, ap}
 use Rattle.run_streams.specs.Runs.{SourceRun}
 use Rattle.authority_ask.specs.PanelCalls.{PanelHistory}
 use Rattle.nexus_serve.specs.Hosting.{Plan}
 use Rattle.nexus_serve.specs.Hosting as host
 use Rattle.nexus_serve.specs.Services.{SinkView}
-use Rattle.nexus_serve.specs.Views.{DoorView}
+use Rattle.nexus_serve.specs.Views.{DoorView, RecorderView}
 use Rattle.script_command.specs.Scripts.{HasMore}
 use Rattle.script_command.proofs.ForCallers.{more_nothing}
 use Rattle.service_commands.specs.Services.{EndedView, EndsService}
 use Rattle.service_commands.specs.Services as service
 
-pub service_more : {P : Type 0} {panel : P → PanelHistory} {plan : Plan} {source : SourceRun} {sink : SinkView} {door : DoorView} {asked : P} {ended : EndedView P}
-    → EndsService panel plan source sink door asked ended → HasMore (panel asked) (panel ended.panel)
-service_more (service.hosted head opening written end policy still (host.served doors shares ready serves status)) = (_, ready.reached)
-service_more (service.hosted head opening written end policy still (host.unreached status idle same none (host.not_reached no_share reached))) = (_, reached.3)
-service_more (service.hosted head opening written end policy still (host.unreached status idle same none (host.unshared few called))) = (_, called)
-service_more (service.hosted head opening written end policy still (host.unheard status idle count called failed)) = (_, called)
-service_more (service.hosted head opening written end policy still (host.unready status idle (host.no_lists no_door no_share same called))) = (_, called)
-service_more (service.hosted head opening written end policy still (host.unready status idle (host.no_panel no_door few same called))) = (_, called)
-service_more (service.hosted head opening written end policy still (host.unready status idle (host.no_door few all called_door called))) = (_, called)
+pub service_more : {P C : Type 0} {panel : P → PanelHistory} {plan : Plan} {source : SourceRun} {sink : SinkView} {door : DoorView} {asked : P} {recorder : Option RecorderView} {ended : EndedView P C}
+    → EndsService panel plan source sink door asked recorder ended → HasMore (panel asked) (panel ended.panel)
+service_more (service.hosted head opening written end policy still (host.served doors means ready serves status)) = (_, ready.reached)
+service_more (service.hosted head opening written end policy still (host.unreached status idle same none (host.not_reached no_share reached) kept)) = (_, reached.3)
+service_more (service.hosted head opening written end policy still (host.unreached status idle same none (host.unshared few called) kept)) = (_, called)
+service_more (service.hosted head opening written end policy still (host.unlent lent status idle same none count called failed)) = (_, called)
+service_more (service.hosted head opening written end policy still (host.unheard status idle count called lent failed)) = (_, called)
+service_more (service.hosted head opening written end policy still (host.unready lent status idle (host.no_lists no_door no_share none same called kept))) = (_, called)
+service_more (service.hosted head opening written end policy still (host.unready lent status idle (host.no_panel no_door few none same called kept))) = (_, called)
+service_more (service.hosted head opening written end policy still (host.unready lent status idle (host.no_recorder no_door all same called held))) = (_, called)
+service_more (service.hosted head opening written end policy still (host.unready lent status idle (host.no_door few all all_lent called_door called kept))) = (_, called)
 service_more {panel = panel} (service.refused outcome sink_now status refusal unbegun output sends still still_sink) = more_nothing (ap panel unbegun.panel_is)
 service_more {panel = panel} (service.refusal_cut_off outcome sink_now status refusal unbegun output sends still rose) = more_nothing (ap panel unbegun.panel_is)
 service_more {panel = panel} (service.source_failed status unbegun output rose) = more_nothing (ap panel unbegun.panel_is)

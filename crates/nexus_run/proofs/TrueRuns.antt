@@ -8,7 +8,7 @@ use Rattle.nexus_serve.specs.Hosting.{Plan}
 use Rattle.nexus_serve.specs.Services.{IsJournal, SinkView}
 use Rattle.nexus_serve.specs.TrueReports.{AreTrue}
 use Rattle.authority_ask.specs.PanelCalls.{PanelHistory}
-use Rattle.nexus_serve.specs.Views.{DoorView, ReportView}
+use Rattle.nexus_serve.specs.Views.{DoorView, RecorderView, ReportView}
 use Rattle.nexus_serve.proofs.ForCallers.{hosts_true, none_true}
 use Rattle.service_commands.specs.Services.{EndedView, EndsService}
 use Rattle.service_commands.specs.Services as service
@@ -23,8 +23,8 @@ no_journal None h es none is = is
 no_journal (Some journal) h es none is = cc none
 
 -- a run of `serve`
-pub service_true : {P : Type 0} {panel : P → PanelHistory} {plan : Plan} {source : SourceRun} {sink : SinkView} {door : DoorView} {asked : P} {ended : EndedView P} (h : Head) (es : List Entry)
-    → EndsService panel plan source sink door asked ended → IsJournal ended.journal h es → AreTrueReports h es ended.reports
+pub service_true : {P C : Type 0} {panel : P → PanelHistory} {plan : Plan} {source : SourceRun} {sink : SinkView} {door : DoorView} {asked : P} {recorder : Option RecorderView} {ended : EndedView P C} (h : Head) (es : List Entry)
+    → EndsService panel plan source sink door asked recorder ended → IsJournal ended.journal h es → AreTrueReports h es ended.reports
 service_true h es (service.hosted head opening written end policy still hosts) is = (length opening, hosts_true h es hosts is)
 service_true h es (service.refused outcome sink_now status refusal unbegun output sends still still_sink) is = absurd (no_journal _ h es unbegun.journal is)
 service_true h es (service.refusal_cut_off outcome sink_now status refusal unbegun output sends still rose) is = absurd (no_journal _ h es unbegun.journal is)

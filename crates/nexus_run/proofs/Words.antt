@@ -1,18 +1,20 @@
 -- The words of a call, as bytes and as texts.
 use Rattle.std.proofs.Common.{◌≡◌, ◌==◌, ◌↔◌, ◌<◌, ◌^◌, ◌++◌, ◌+◌, ℕ, Bool, true, false, IsTrue, List, [], ◌∷◌, map, take, length, get_or, inl, inr, refl, sym, ap, subst, ◌∙◌, codes, arith}
 use Rattle.std.proofs.lemmas.Bool.Decides.{Decides-eqb}
-use Rattle.std.proofs.lemmas.List.{take_more, length-map, map-append, get_or-map}
-use Rattle.std.proofs.lemmas.List.Elements.{All-cons, All-get_or, All-nil}
+use Rattle.std.proofs.lemmas.List.{append_cancel_right, take_more, length-map, map-append, get_or-map}
+use Rattle.std.proofs.lemmas.List.Elements.{All-append, All-cons, All-get_or, All-nil}
 use Rattle.std.specs.List.{All, list_all}
 use Rattle.std.specs.Str.{IsUtf8}
 use Rattle.std.specs.Fmt.{decimal}
-use Rattle.std.proofs.lemmas.Fmt.{IsAscii-decimal, decimal_injective}
+use Rattle.std.proofs.lemmas.Fmt.{IsAscii-decimal, decimal_injective, decimal_is_IsNumeral}
+use Rattle.std.proofs.lemmas.Str.Parse.{digit_from_value}
+use Rattle.std.specs.Str.Parse.{AllDigits}
 use Rattle.std.proofs.lemmas.Str.{IsUtf8-from_ascii}
 use Rattle.std.proofs.lemmas.Str.Ascii.{IsAscii-from_all}
 use Rattle.std.specs.Prelude.{nat_le, ◌&&◌, ◌≤◌, None, Some}
 use Rattle.std.specs.declared.option.Option.{Option}
 use Rattle.nal_term.specs.Secrets.{is_secret_byte}
-use Rattle.nexus_run.specs.Commands.{IsCommand, IsDrill, IsLoad, IsWithin, audit_words, check_words, command_words, compact_words, core_words, drill_words, explain_words, export_words, patience_words, prove_words, recover_words, script_words, serve_words, talk_word, talk_words, trust_words}
+use Rattle.nexus_run.specs.Commands.{IsCommand, IsDrill, IsLoad, IsWithin, audit_words, check_words, command_words, compact_words, core_words, drill_words, explain_words, export_words, patience_words, prove_words, records_words, recover_words, script_words, serve_words, talk_word, talk_words, trust_words}
 use Rattle.nal_term.specs.Names.{IsName, is_letter, is_word, is_word_byte}
 use Rattle.nexus_client.specs.declared.inputs.TalkInput.{TalkInput}
 use Rattle.nexus_client.specs.declared.inputs.TalkInput.TheVariants.{RequestLines, PeerBundle}
@@ -165,11 +167,39 @@ pub not_alone : {A : Type 0} (f : A → List ℕ) (rest : List A) (b : Bool) →
 not_alone f [] b e off m = cc (e, off)
 not_alone f (x ∷ xs) b e off m = cc m
 
+-- the word `records` is no number
+records_no_number : (n : ℕ) → n < 2 ^ 64 → codes "records" ≡ decimal n → ⊥
+records_no_number n small e = let digits : AllDigits 10 (codes "records") = subst (AllDigits 10) (sym e) (decimal_is_IsNumeral n small).0.1 in omega (arith, digit_from_value 114 digits.0)
+
+-- so it is not behind the words of a patience that are alone
+no_word : (front : List (List ℕ)) (patience : Option ℕ) → IsPatience (patience_in patience) → front ++ codes "records" ∷ [] ≡ patience_words patience ++ [] → ⊥
+no_word [] None is e = cc e
+no_word (w ∷ ws) None is e = cc e
+no_word [] (Some n) is e = records_no_number n (omega (arith, is)) (cc e)
+no_word (v ∷ []) (Some n) is e = let none : codes "records" ∷ [] ≡ [] = cc e in cc none
+no_word (v ∷ w ∷ ws) (Some n) is e = let none : w ∷ (ws ++ codes "records" ∷ []) ≡ [] = cc e in cc none
+
+-- the last words of a service tell its patience, and whether its calls are recorded
+closing_same : (p q : Option ℕ) (r t : Bool) → IsPatience (patience_in p) → IsPatience (patience_in q) → patience_words p ++ records_words r ≡ patience_words q ++ records_words t → (p ≡ q) × (r ≡ t)
+closing_same p q true true is is_too e = (patience_same p q is is_too (append_cancel_right (patience_words p) (patience_words q) (codes "records" ∷ []) e), refl)
+closing_same p q false false is is_too e = (patience_same p q is is_too (append_cancel_right (patience_words p) (patience_words q) [] e), refl)
+closing_same p q true false is is_too e = absurd (no_word (patience_words p) q is_too e)
+closing_same p q false true is is_too e = absurd (no_word (patience_words q) p is (sym e))
+
+-- words are no last words of a service whose front is no patience
+pub no_closing : (words front : List (List ℕ)) (recorded : Bool) → words ≡ front ++ records_words recorded → (recorded ≡ false → (others : List (List ℕ)) → words ≡ others ++ records_words true → ⊥)
+    → ((patience : Option ℕ) → IsPatience (patience_in patience) → front ≡ patience_words patience → ⊥) → (patience : Option ℕ) (records : Bool) → IsPatience (patience_in patience)
+    → words ≡ patience_words patience ++ records_words records → ⊥
+no_closing words front true are others none patience true is e = none patience is (append_cancel_right front (patience_words patience) (codes "records" ∷ []) (sym are ∙ e))
+no_closing words front true are others none patience false is e = no_word front patience is (sym are ∙ e)
+no_closing words front false are others none patience true is e = others refl (patience_words patience) e
+no_closing words front false are others none patience false is e = none patience is (append_cancel_right front (patience_words patience) [] (sym are ∙ e))
+
 -- a service is told by its words
-pub service_told : (address first a w s : List ℕ) (rest : List (List ℕ)) (workers sessions workers_read sessions_read : ℕ) (patience : Option ℕ) (words : List (List ℕ))
-    → words ≡ first ∷ a ∷ w ∷ s ∷ rest → words ≡ serve_words address workers sessions patience → w ≡ decimal workers_read → s ≡ decimal sessions_read → workers_read < 2 ^ 64 → sessions_read < 2 ^ 64
+pub service_told : (address first a w s : List ℕ) (rest : List (List ℕ)) (workers sessions workers_read sessions_read : ℕ) (patience : Option ℕ) (records : Bool) (words : List (List ℕ))
+    → words ≡ first ∷ a ∷ w ∷ s ∷ rest → words ≡ serve_words address workers sessions patience records → w ≡ decimal workers_read → s ≡ decimal sessions_read → workers_read < 2 ^ 64 → sessions_read < 2 ^ 64
     → IsService address workers sessions patience → IsAddress a × (1 ≤ workers_read) × (workers_read ≤ 1024) × (1 ≤ sessions_read) × (sessions_read ≤ 65536)
-service_told address first a w s rest workers sessions workers_read sessions_read patience words are told read read_too small small_too within =
+service_told address first a w s rest workers sessions workers_read sessions_read patience records words are told read read_too small small_too within =
     let all = sym are ∙ told in
     let at : a ≡ address = cc all in
     let first_is : w ≡ decimal workers = cc all in
@@ -181,21 +211,23 @@ service_told address first a w s rest workers sessions workers_read sessions_rea
     rw (at, workers_same, sessions_same) (within.address_is, few.0, few.1, few_too.0, few_too.1)
 
 -- the words of `serve` tell what is to be served
-pub serve_same : (address : List ℕ) (workers sessions : ℕ) (patience : Option ℕ) (other : List ℕ) (m n : ℕ) (p : Option ℕ) → IsService address workers sessions patience → IsService other m n p
-    → serve_words address workers sessions patience ≡ serve_words other m n p → (address ≡ other) × (workers ≡ m) × (sessions ≡ n) × (patience ≡ p)
-serve_same address workers sessions patience other m n p within within_too e =
+pub serve_same : (address : List ℕ) (workers sessions : ℕ) (patience : Option ℕ) (records : Bool) (other : List ℕ) (m n : ℕ) (p : Option ℕ) (r : Bool) → IsService address workers sessions patience → IsService other m n p
+    → serve_words address workers sessions patience records ≡ serve_words other m n p r → (address ≡ other) × (workers ≡ m) × (sessions ≡ n) × (patience ≡ p) × (records ≡ r)
+serve_same address workers sessions patience records other m n p r within within_too e =
     let at : address ≡ other = cc e in
     let first : decimal workers ≡ decimal m = cc e in
     let second : decimal sessions ≡ decimal n = cc e in
-    let rest : patience_words patience ≡ patience_words p = cc e in
+    let rest : patience_words patience ++ records_words records ≡ patience_words p ++ records_words r = cc e in
     let a = within.workers_are in
     let b = within.sessions_are in
     let c = within_too.workers_are in
-    let d = within_too.sessions_are in (
+    let d = within_too.sessions_are in
+    let last = closing_same patience p records r within.patience_is within_too.patience_is rest in (
       at,
       same_number workers m (omega (arith, a)) (omega (arith, c)) first,
       same_number sessions n (omega (arith, b)) (omega (arith, d)) second,
-      patience_same patience p within.patience_is within_too.patience_is rest,
+      last.0,
+      last.1,
     )
 
 both : (b c : Bool) → (b && c) ≡ true → (b ≡ true) × (c ≡ true)
@@ -235,14 +267,24 @@ patience_words_are_texts : (patience : Option ℕ) → IsPatience (patience_in p
 patience_words_are_texts None is = All-nil IsUtf8
 patience_words_are_texts (Some n) is = All-cons IsUtf8 (decimal n) [] (number_is_text n (omega (arith, is))) (All-nil IsUtf8)
 
-serve_words_are_texts : (address : List ℕ) (workers sessions : ℕ) (patience : Option ℕ) → IsService address workers sessions patience → All IsUtf8 (serve_words address workers sessions patience)
-serve_words_are_texts address workers sessions patience within =
+records_is_text : IsUtf8 (codes "records")
+unfolding lib.Utf8.encode
+records_is_text = (codes "records", (refl, refl))
+
+records_words_are_texts : (records : Bool) → All IsUtf8 (records_words records)
+records_words_are_texts true = All-cons IsUtf8 (codes "records") [] records_is_text (All-nil IsUtf8)
+records_words_are_texts false = All-nil IsUtf8
+
+serve_words_are_texts : (address : List ℕ) (workers sessions : ℕ) (patience : Option ℕ) (records : Bool) → IsService address workers sessions patience → All IsUtf8 (serve_words address workers sessions patience records)
+serve_words_are_texts address workers sessions patience records within =
     let a = within.workers_are in
     let b = within.sessions_are in
-    All-cons IsUtf8 (codes "serve") (address ∷ decimal workers ∷ decimal sessions ∷ patience_words patience) serve_is_text
-    (All-cons IsUtf8 address (decimal workers ∷ decimal sessions ∷ patience_words patience) (address_is_text address within.address_is)
-    (All-cons IsUtf8 (decimal workers) (decimal sessions ∷ patience_words patience) (number_is_text workers (omega (arith, a)))
-    (All-cons IsUtf8 (decimal sessions) (patience_words patience) (number_is_text sessions (omega (arith, b))) (patience_words_are_texts patience within.patience_is))))
+    let rest : List (List ℕ) = patience_words patience ++ records_words records in
+    All-cons IsUtf8 (codes "serve") (address ∷ decimal workers ∷ decimal sessions ∷ rest) serve_is_text
+    (All-cons IsUtf8 address (decimal workers ∷ decimal sessions ∷ rest) (address_is_text address within.address_is)
+    (All-cons IsUtf8 (decimal workers) (decimal sessions ∷ rest) (number_is_text workers (omega (arith, a)))
+    (All-cons IsUtf8 (decimal sessions) rest (number_is_text sessions (omega (arith, b)))
+    (All-append IsUtf8 (patience_words patience) (records_words records) (patience_words_are_texts patience within.patience_is) (records_words_are_texts records)))))
 
 -- what is not so is not so
 pub not_so : (b : Bool) → b ≡ false → IsTrue b → ⊥
@@ -289,7 +331,7 @@ export_words_are_texts name is =
 pub not_command : (words : List (List ℕ)) → (All IsUtf8 words → ⊥) → IsCommand words → ⊥
 not_command words n (inl (inl (command, within, e))) = n (rw e (plain_is_text command within))
 not_command words n (inl (inr (name, is, e))) = n (rw e (export_words_are_texts name is))
-not_command words n (inr (inl (address, workers, sessions, patience, within, e))) = n (rw e (serve_words_are_texts address workers sessions patience within))
+not_command words n (inr (inl (address, workers, sessions, patience, records, within, e))) = n (rw e (serve_words_are_texts address workers sessions patience records within))
 not_command words n (inr (inr (input, address, is, e))) = n (rw e (talk_words_are_texts input address is))
 
 -- one word is the list of its texts

@@ -1,5 +1,5 @@
 -- The words by which commands are called.
-use Rattle.std.specs.Prelude.{◌≡◌, ◌<◌, ◌≤◌, ◌^◌, ◌⊎◌, ℕ, List, [], ◌∷◌, codes, None, Some}
+use Rattle.std.specs.Prelude.{◌≡◌, ◌<◌, ◌≤◌, ◌^◌, ◌⊎◌, ℕ, List, [], ◌∷◌, ◌++◌, Bool, true, false, codes, None, Some}
 use Rattle.std.specs.declared.option.Option.{Option}
 use Rattle.std.specs.Fmt.{decimal}
 use Rattle.nal_term.specs.Names.{IsName}
@@ -96,14 +96,26 @@ abbrev pub patience_words : Option ℕ → List (List ℕ)
 patience_words None = []
 patience_words (Some seconds) = decimal seconds ∷ []
 
--- where a service listens, how many workers it has, how many sessions each of them serves, and its patience, where that is said
-abbrev pub serve_words : List ℕ → ℕ → ℕ → Option ℕ → List (List ℕ)
-serve_words address workers sessions patience = codes "serve" ∷ address ∷ decimal workers ∷ decimal sessions ∷ patience_words patience
+-- whether the calls of a service are recorded
+abbrev pub records_words : Bool → List (List ℕ)
+records_words true = codes "records" ∷ []
+records_words false = []
+
+-- where a service listens, how many workers it has, how many sessions each of them serves, its patience, where that is said, and whether its calls are
+-- recorded
+abbrev pub serve_words : List ℕ → ℕ → ℕ → Option ℕ → Bool → List (List ℕ)
+serve_words address workers sessions patience records = codes "serve" ∷ address ∷ decimal workers ∷ decimal sessions ∷ (patience_words patience ++ records_words records)
 
 -- the words are those of a service
 abbrev pub IsServiceCall : List (List ℕ) → Type 0
 IsServiceCall words =
-    (address : List ℕ) × (workers : ℕ) × (sessions : ℕ) × (patience : Option ℕ) × IsService address workers sessions patience × (words ≡ serve_words address workers sessions patience)
+    (address : List ℕ) × (workers : ℕ) × (sessions : ℕ) × (patience : Option ℕ) × (records : Bool) × IsService address workers sessions patience
+    × (words ≡ serve_words address workers sessions patience records)
+
+-- the words are those of a service whose calls are recorded
+abbrev pub IsRecordedCall : List (List ℕ) → Type 0
+IsRecordedCall words =
+    (address : List ℕ) × (workers : ℕ) × (sessions : ℕ) × (patience : Option ℕ) × IsService address workers sessions patience × (words ≡ serve_words address workers sessions patience true)
 
 -- the word of a talk whose input is this
 abbrev pub talk_word : TalkInput → List ℕ

@@ -1,8 +1,8 @@
 //! The words by which commands are called.
-ghost use Rattle.std.specs.Prelude.{◌≡◌, ◌≢◌, ◌↔◌, ◌<◌, ◌≤◌, ◌^◌, ◌∷◌, [], ℕ, List, IsTrue, MatchOption, Option, map};
+ghost use Rattle.std.specs.Prelude.{◌≡◌, ◌≢◌, ◌↔◌, ◌<◌, ◌≤◌, ◌^◌, ◌∷◌, ◌++◌, [], ℕ, Bool, List, IsTrue, MatchOption, Option, false, map, true};
 ghost use Rattle.nal_term.specs.Names.{IsName};
 ghost use Rattle.nexus_client.specs.declared.inputs.TalkInput.{TalkInput};
-ghost use Rattle.nexus_run.specs.Commands.{IsDrill, IsExportCall, IsLoad, IsNamed, IsTalkCall, IsWithin, command_words, core_words, drill_words, export_words, most_steps, patience_words, serve_words, talk_word, talk_words};
+ghost use Rattle.nexus_run.specs.Commands.{IsDrill, IsExportCall, IsLoad, IsNamed, IsTalkCall, IsWithin, command_words, core_words, drill_words, export_words, most_steps, patience_words, records_words, serve_words, talk_word, talk_words};
 ghost use Rattle.service_commands.specs.Services.{IsAddress, IsPatience, IsService, patience_in};
 
 use nal_term::{is_name, is_secret};
@@ -63,11 +63,11 @@ pub enum Command {
 /// The service that is called by these words. None exactly where they are those of none.
 /// `docs/FORMATS.md`, "Commands", states them.
 pub fn service_of<'a>(words: &'a [&'a str]) -> Option<Service<'a>>
-    ensures { MatchOption result ((address : List ℕ) (workers sessions : ℕ) (patience : Option ℕ)
+    ensures { MatchOption result ((address : List ℕ) (workers sessions : ℕ) (patience : Option ℕ) (records : Bool)
         → IsService address workers sessions patience → map (λ w. w.now) words.now ≢ serve_words address workers
-        sessions patience)
+        sessions patience records)
         (λ s. IsService s.address.now s.workers s.sessions s.patience
-        × (map (λ w. w.now) words.now ≡ serve_words s.address.now s.workers s.sessions s.patience)) }
+        × (map (λ w. w.now) words.now ≡ serve_words s.address.now s.workers s.sessions s.patience s.records)) }
 {
     let (first, rest) = words.split_first()?;
     if !is_same(first, "serve") {
@@ -76,7 +76,7 @@ pub fn service_of<'a>(words: &'a [&'a str]) -> Option<Service<'a>>
     let (address, workers, sessions, rest) = first_three(rest)?;
     let workers = read_number(workers.as_bytes())?;
     let sessions = read_number(sessions.as_bytes())?;
-    let patience = patience_of(rest)?;
+    let (patience, records) = closing_of(rest)?;
     let address = address.as_bytes();
     if is_service(address, workers, sessions) {
         Some(Service {
@@ -84,9 +84,35 @@ pub fn service_of<'a>(words: &'a [&'a str]) -> Option<Service<'a>>
             workers,
             sessions,
             patience,
+            records,
         })
     } else {
         None
+    }
+}
+
+/// The patience that the last words of a service say, if they say one, and whether its calls are recorded. None exactly where they are
+/// the last words of none.
+fn closing_of(words: &[&str]) -> Option<(Option<u64>, bool)>
+    ensures { MatchOption result ((patience : Option ℕ) (records : Bool) → IsPatience (patience_in patience)
+        → map (λ w. w.now) words.now ≢ patience_words patience ++ records_words records)
+        (λ r. IsPatience (patience_in r.0)
+        × (map (λ w. w.now) words.now ≡ patience_words r.0 ++ records_words r.1)) }
+{
+    let (front, records) = without_records(words);
+    let patience = patience_of(front)?;
+    Some((patience, records))
+}
+
+/// The words in front of the word `records`, where that is the last one, and whether it is.
+fn without_records<'a>(words: &'a [&'a str]) -> (&'a [&'a str], bool)
+    ensures front { map (λ w. w.now) words.now ≡ map (λ w. w.now) result.0.now ++ records_words result.1 }
+    ensures none { result.1 ≡ false → (front : List (List ℕ))
+        → map (λ w. w.now) words.now ≢ front ++ records_words true }
+{
+    match words.split_last() {
+        Some((last, front)) if is_same(last, "records") => (front, true),
+        _ => (words, false),
     }
 }
 

@@ -1,4 +1,4 @@
-ghost use Rattle.std.specs.Prelude.{◌≡◌, ◌≢◌, ◌⊎◌, ℕ, List, [], IsTrue, None, Option, Some, length, map, option_map};
+ghost use Rattle.std.specs.Prelude.{◌≡◌, ◌≢◌, ◌⊎◌, ℕ, List, [], IsTrue, Bool, None, Option, Some, length, map, option_map};
 ghost use Rattle.std.specs.Process.{exit_status};
 ghost use Rattle.nx_io.specs.Streams.{Gave, Grows, gained};
 ghost use Rattle.run_streams.specs.Runs.{sink_run, source_run};
@@ -7,21 +7,21 @@ ghost use Rattle.policy_history.specs.declared.events.Entry.{Entry};
 ghost use Rattle.policy_history.specs.Values.{entry_trees};
 ghost use Rattle.nexus_serve.specs.Services.{IsJournal};
 ghost use Rattle.nexus_serve.specs.TrueReports.{AreTrue};
-ghost use Rattle.nexus_serve.specs.Views.{door_view, link_view};
+ghost use Rattle.nexus_serve.specs.Views.{door_view, link_view, recorder_view};
 ghost use Rattle.verdict_words.specs.Settling.{flat};
 ghost use Rattle.nexus_run.specs.Arguments.{words_of_call};
 ghost use Rattle.nexus_client.specs.declared.inputs.TalkInput.{TalkInput};
 ghost use Rattle.service_commands.specs.Clients.{RunsClient};
 ghost use Rattle.nexus_run.specs.Commanded.{RunsCommand};
-ghost use Rattle.nexus_run.specs.Commands.{IsCommand, IsServiceCall, IsTalkCall, compact_words, core_words, drill_words, script_words, serve_words, talk_words};
-ghost use Rattle.service_commands.specs.Services.{IsAddress, IsService, HandsBack, RunsService, patience_in};
+ghost use Rattle.nexus_run.specs.Commands.{IsCommand, IsRecordedCall, IsServiceCall, IsTalkCall, compact_words, core_words, drill_words, script_words, serve_words, talk_words};
+ghost use Rattle.service_commands.specs.Services.{IsAddress, IsService, HandsBack, RunsService, only_where, patience_in};
 ghost use Rattle.script_command.specs.Scripts.{HasMore, panel_run};
 
 use crate::arguments::{Arguments, texts, words_of_call};
 use crate::program::run;
 use authority_ask::Panel;
-use nexus_serve::Reports;
-use nx_io::{Door, Gate, Link, Sink, Source};
+use nexus_serve::{Means, Reports};
+use nx_io::{Door, Gate, Link, Recorder, Sink, Source};
 use policy_history::Journal;
 use std::alloc::{AllocGlobal, Global};
 use std::fs::Files;
@@ -33,31 +33,36 @@ use std::thread::Threads;
 
 /// What the program leaves: the code with which it ends, and what is handed back.
 #[derive(Drop)]
-pub struct Finished<D: Door, P: Panel, K: Sink> {
+pub struct Finished<D: Door, P: Panel, C: Recorder, K: Sink> {
     pub code: ExitCode,
     pub output: Option<K>,
+    pub records: Option<C>,
     pub journal: Option<Journal>,
     pub reports: Vec<Reports<D::Link>>,
     pub dialed: Option<D::Link>,
     pub door: D,
     pub doors: Vec<D>,
     pub panel: P,
-    pub panels: Vec<P>,
+    pub means: Vec<Means<P, C>>,
 }
 
 /// The whole program over its surroundings: `run` on all words after the program's name, ended by its status. A word
 /// that is not UTF-8 is no word of a command.
-pub fn start<R, A: Arguments, S: Source, C: Sink, K, D, P, G>(
+///
+/// The records are the sink for what is written beside the output: the numbers of `compact`, and with the word `records` the record of each
+/// call of a service, before the call has an effect. It is handed back.
+pub fn start<R, A: Arguments, S: Source, C, K, D, P, G>(
     rt: &R,
     arguments: &mut A,
     input: &mut S,
-    records: &mut C,
+    records: C,
     output: K,
     door: D,
     panel: P,
     gate: &G,
-) -> Finished<D, P, K>
+) -> Finished<D, P, C, K>
 where
+    C: Recorder + Send + Drop,
     K: Sink + Send + Drop,
     D: Door + Send + Drop,
     D::Link: Link + Send + Drop,
@@ -78,9 +83,10 @@ where
     ensures gave { Gave (S.left input.old) (S.left input.new) (S.given input.old) (S.given input.new) }
     ensures sent { ¬ IsServiceCall (words_of_call (gained (A.told arguments.old) (A.told arguments.new)))
         → HandsBack result.output (λ k. Grows (K.sent output) (K.sent k)) }
-    ensures recorded { Grows (C.sent records.old) (C.sent records.new) }
+    ensures recorded { HandsBack result.records (λ r. Grows (C.sent records) (C.sent r)) }
     ensures unrecorded { words_of_call (gained (A.told arguments.old) (A.told arguments.new)) ≢ compact_words
-        → records.new ≡ records.old }
+        → ¬ IsRecordedCall (words_of_call (gained (A.told arguments.old) (A.told arguments.new)))
+        → HandsBack result.records (λ r. r ≡ records) }
     ensures asked { HasMore (P.history panel) (P.history result.panel) }
     ensures undialed { ¬ IsServiceCall (words_of_call (gained (A.told arguments.old) (A.told arguments.new)))
         → result.dialed ≡ None → exit_status result.code ≢ 7 → result.door ≡ door }
@@ -88,15 +94,15 @@ where
         → result.dialed ≡ None → (exit_status result.code ≡ 4) ⊎ (exit_status result.code ≡ 6)
         → HandsBack result.output (λ k. k ≡ output) }
     ensures command { ¬ IsServiceCall (words_of_call (gained (A.told arguments.old) (A.told arguments.new)))
-        → HandsBack result.output (λ k. RunsCommand (words_of_call (gained (A.told arguments.old) (A.told
-        arguments.new)))
+        → HandsBack result.output (λ k. HandsBack result.records (λ r. RunsCommand (words_of_call (gained (A.told
+        arguments.old) (A.told arguments.new)))
         (source_run (S.left input.old) (S.given input.old) (S.given input.new) (S.over input.new) (S.faults
         input.old) (S.faults input.new))
         (sink_run (K.sent output) (K.sent k) (K.faults output) (K.faults k))
-        (sink_run (C.sent records.old) (C.sent records.new) (C.faults records.old) (C.faults records.new))
+        (sink_run (C.sent records) (C.sent r) (C.faults records) (C.faults r))
         (K.synced k ≡ length (K.sent k))
         (panel_run (P.history panel) (P.history result.panel))
-        result.journal (exit_status result.code)) }
+        result.journal (exit_status result.code))) }
     ensures core_reads_nothing { (number steps : ℕ) → words_of_call (gained (A.told arguments.old) (A.told
         arguments.new)) ≡ core_words number steps → input.new ≡ input.old }
     ensures drill_reads_nothing { (number workers calls : ℕ) → words_of_call (gained (A.told arguments.old) (A.told
@@ -114,9 +120,9 @@ where
         (option_map (link_view D.Link.left D.Link.taken D.Link.sent D.Link.over D.Link.closed D.Link.admitted
         D.Link.place D.Link.toward D.Link.faults) result.dialed)
         (exit_status result.code)) }
-    ensures serve { (address : List ℕ) (workers sessions : ℕ) (patience : Option ℕ)
+    ensures serve { (address : List ℕ) (workers sessions : ℕ) (patience : Option ℕ) (recorded : Bool)
         → words_of_call (gained (A.told arguments.old) (A.told arguments.new)) ≡ serve_words address workers
-        sessions patience → IsService address workers sessions patience
+        sessions patience recorded → IsService address workers sessions patience
         → RunsService P.history (record {
           address = address;
           workers = workers;
@@ -129,6 +135,7 @@ where
         (record { sent = K.sent output; synced = K.synced output; faults = K.faults output }) (door_view (link_view
         D.Link.left D.Link.taken D.Link.sent D.Link.over D.Link.closed D.Link.admitted D.Link.place
         D.Link.toward D.Link.faults) D.links D.origin D.calls door) panel
+        (only_where recorded (Some (recorder_view C.sent C.synced C.faults C.shares records)))
         (record {
           status = exit_status result.code;
           output = option_map (λ k. record { sent = K.sent k; synced = K.synced k; faults = K.faults k }) result.output;
@@ -139,7 +146,9 @@ where
           doors = map (door_view (link_view D.Link.left D.Link.taken D.Link.sent D.Link.over D.Link.closed
               D.Link.admitted D.Link.place D.Link.toward D.Link.faults) D.links D.origin D.calls) result.doors.items;
           panel = result.panel;
-          panels = result.panels.items;
+          recorder = only_where recorded (option_map (recorder_view C.sent C.synced C.faults C.shares)
+              result.records);
+          means = result.means.items;
         }) }
     ensures earned { (h : Head) (es : List Entry) → IsJournal result.journal h es → (low : ℕ)
         × AreTrue h (entry_trees es) low
@@ -147,7 +156,7 @@ where
     ensures other_door { ¬ IsServiceCall (words_of_call (gained (A.told arguments.old) (A.told arguments.new)))
         → ¬ IsTalkCall (words_of_call (gained (A.told arguments.old) (A.told arguments.new))) → result.door ≡ door }
     ensures unshared { ¬ IsServiceCall (words_of_call (gained (A.told arguments.old) (A.told arguments.new)))
-        → (result.reports.items ≡ []) × (result.doors.items ≡ []) × (result.panels.items ≡ []) }
+        → (result.reports.items ≡ []) × (result.doors.items ≡ []) × (result.means.items ≡ []) }
     ensures other_panel { words_of_call (gained (A.told arguments.old) (A.told arguments.new)) ≢ script_words
         → ¬ IsServiceCall (words_of_call (gained (A.told arguments.old) (A.told arguments.new)))
         → (result.panel ≡ panel) × (result.journal ≡ None) }
@@ -156,7 +165,7 @@ where
 {
     let alloc = rt.alloc();
     let Ok(words) = words_of_call(alloc, arguments) else {
-        return stopped(alloc, 6, output, door, panel);
+        return stopped(alloc, 6, records, output, door, panel);
     };
     match texts(alloc, words.as_slice()) {
         Ok(Some(texts)) => {
@@ -173,44 +182,48 @@ where
             Finished {
                 code: ExitCode::from(ended.status),
                 output: ended.output,
+                records: ended.records,
                 journal: ended.journal,
                 reports: ended.reports,
                 dialed: ended.dialed,
                 door: ended.door,
                 doors: ended.doors,
                 panel: ended.panel,
-                panels: ended.panels,
+                means: ended.means,
             }
         }
-        Ok(None) => stopped(alloc, 2, output, door, panel),
-        Err(_) => stopped(alloc, 6, output, door, panel),
+        Ok(None) => stopped(alloc, 2, records, output, door, panel),
+        Err(_) => stopped(alloc, 6, records, output, door, panel),
     }
 }
 
 /// The end of a call of no command, or of one that found no memory.
-fn stopped<D: Door + Drop, P: Panel + Drop, K: Sink + Drop>(
+fn stopped<D: Door + Drop, P: Panel + Drop, C: Recorder + Drop, K: Sink + Drop>(
     alloc: Global,
     status: u8,
+    records: C,
     output: K,
     door: D,
     panel: P,
-) -> Finished<D, P, K>
+) -> Finished<D, P, C, K>
 where
     D::Link: Drop,
     ensures code { exit_status result.code ≡ status }
     ensures output { result.output ≡ Some output }
+    ensures records { result.records ≡ Some records }
     ensures unused { (result.journal ≡ None) × (result.reports.items ≡ []) × (result.dialed ≡ None)
-        × (result.door ≡ door) × (result.doors.items ≡ []) × (result.panel ≡ panel) × (result.panels.items ≡ []) }
+        × (result.door ≡ door) × (result.doors.items ≡ []) × (result.panel ≡ panel) × (result.means.items ≡ []) }
 {
     Finished {
         code: ExitCode::from(status),
         output: Some(output),
+        records: Some(records),
         journal: None,
         reports: Vec::new(alloc),
         dialed: None,
         door,
         doors: Vec::new(alloc),
         panel,
-        panels: Vec::new(alloc),
+        means: Vec::new(alloc),
     }
 }

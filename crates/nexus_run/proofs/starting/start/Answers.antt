@@ -1,7 +1,7 @@
 use Rattle.std.proofs.Common.{inl, inr, refl, subst, sym, ap, ◌∙◌}
 use Rattle.nx_io.proofs.ForCallers.{gained-nothing}
 use Rattle.service_commands.specs.Clients.{no_memory}
-use Rattle.nexus_run.specs.Commands.{IsTalkCall, IsCommand, IsPlain, IsServiceCall}
+use Rattle.nexus_run.specs.Commands.{IsTalkCall, IsCommand, IsPlain, IsRecordedCall, IsServiceCall}
 use Rattle.script_command.proofs.ForCallers.{more_nothing}
 use Rattle.service_commands.proofs.ForCallers.{runs_client}
 use Rattle.nexus_run.proofs.Commanded.{memory_commanded, none_commanded}
@@ -56,7 +56,7 @@ pub returns-in-Ok-Some-clause-serve : goal.returns-in-Ok-Some-clause-serve
 returns-in-Ok-Some-clause-serve g c =
     let texts = rw (c.in-Ok-Some.field-0-is, c.as_slice.ensures.value, ← c.as_slice-in-Ok-Some.ensures.value) at c.in-Ok-Some.ensures in
     let same = texts ∙ c.in-Ok.ensures.words in
-    λ address workers sessions patience words within. rw c.from.ensures (c.run-ended.ensures.serve address workers sessions patience (same ∙ words) within)
+    λ address workers sessions patience recorded words within. rw c.from.ensures (c.run-ended.ensures.serve address workers sessions patience recorded (same ∙ words) within)
 
 pub returns-in-Ok-Some-clause-other_door : goal.returns-in-Ok-Some-clause-other_door
 returns-in-Ok-Some-clause-other_door g c =
@@ -91,12 +91,12 @@ returns-in-Ok-Some-clause-other_panel g c =
 pub returns-in-Ok-None-clause-command : goal.returns-in-Ok-None-clause-command
 returns-in-Ok-None-clause-command g c =
     let none = not_command _ (rw (c.in-Ok-None.field-0-is, c.as_slice.ensures.value) at c.in-Ok-None.ensures) in
-    λ plain. rw (c.stopped-in-Ok-None.ensures.output) (none_commanded (λ is. none (inl (subst IsPlain (sym c.in-Ok.ensures.words) is))))
+    λ plain. rw (c.stopped-in-Ok-None.ensures.output, c.stopped-in-Ok-None.ensures.records) (none_commanded (λ is. none (inl (subst IsPlain (sym c.in-Ok.ensures.words) is))))
 
 pub returns-in-Ok-None-clause-serve : goal.returns-in-Ok-None-clause-serve
 returns-in-Ok-None-clause-serve g c =
     let none = not_command _ (rw (c.in-Ok-None.field-0-is, c.as_slice.ensures.value) at c.in-Ok-None.ensures) in
-    λ address workers sessions patience words within. absurd (none (inr (inl (address, workers, sessions, patience, within, c.in-Ok.ensures.words ∙ words))))
+    λ address workers sessions patience recorded words within. absurd (none (inr (inl (address, workers, sessions, patience, recorded, within, c.in-Ok.ensures.words ∙ words))))
 
 pub returns-in-Ok-None-clause-talk : goal.returns-in-Ok-None-clause-talk
 returns-in-Ok-None-clause-talk g c =
@@ -104,10 +104,10 @@ returns-in-Ok-None-clause-talk g c =
     λ talk address words is. absurd (none (inr (inr (talk, address, is, c.in-Ok.ensures.words ∙ words))))
 
 pub returns-in_default-clause-command : goal.returns-in_default-clause-command
-returns-in_default-clause-command g c = λ plain. rw (c.stopped.ensures.output, c.stopped.ensures.unused.0) (memory_commanded c.stopped.ensures.code (ap g.P.Panel.history c.stopped.ensures.unused.5) (gained-nothing (g.K.Sink.sent c.args.output)) refl refl (gained-nothing (g.C.Sink.sent c.args.records.now)) refl)
+returns-in_default-clause-command g c = λ plain. rw (c.stopped.ensures.output, c.stopped.ensures.records, c.stopped.ensures.unused.0) (memory_commanded c.stopped.ensures.code (ap g.P.Panel.history c.stopped.ensures.unused.5) (gained-nothing (g.K.Sink.sent c.args.output)) refl refl (gained-nothing (g.C.Sink.sent c.args.records)) refl)
 
 pub returns-clause-command : goal.returns-clause-command
-returns-clause-command g c = λ plain. rw (c.stopped-in-Err.ensures.output, c.stopped-in-Err.ensures.unused.0) (memory_commanded c.stopped-in-Err.ensures.code (ap g.P.Panel.history c.stopped-in-Err.ensures.unused.5) (gained-nothing (g.K.Sink.sent c.args.output)) refl refl (gained-nothing (g.C.Sink.sent c.args.records.now)) refl)
+returns-clause-command g c = λ plain. rw (c.stopped-in-Err.ensures.output, c.stopped-in-Err.ensures.records, c.stopped-in-Err.ensures.unused.0) (memory_commanded c.stopped-in-Err.ensures.code (ap g.P.Panel.history c.stopped-in-Err.ensures.unused.5) (gained-nothing (g.K.Sink.sent c.args.output)) refl refl (gained-nothing (g.C.Sink.sent c.args.records)) refl)
 
 pub returns-in_default-clause-talk : goal.returns-in_default-clause-talk
 returns-in_default-clause-talk g c =
@@ -132,7 +132,7 @@ pub returns-in-Ok-Some-clause-unrecorded : goal.returns-in-Ok-Some-clause-unreco
 returns-in-Ok-Some-clause-unrecorded g c =
     let texts = rw (c.in-Ok-Some.field-0-is, c.as_slice.ensures.value, ← c.as_slice-in-Ok-Some.ensures.value) at c.in-Ok-Some.ensures in
     let same = texts ∙ c.in-Ok.ensures.words in
-    λ other. c.run-ended.ensures.unrecorded (λ is. other (sym same ∙ is))
+    λ other plain. c.run-ended.ensures.unrecorded (λ is. other (sym same ∙ is)) (λ call. plain (subst IsRecordedCall same call))
 
 pub returns-in-Ok-None-clause-asked : goal.returns-in-Ok-None-clause-asked
 returns-in-Ok-None-clause-asked g c = more_nothing (ap g.P.Panel.history c.stopped-in-Ok-None.ensures.unused.5)
