@@ -4,13 +4,14 @@ ghost use Rattle.std.specs.Prelude.{◌≤◌, IfOk};
 ghost use Rattle.std.specs.List.{All};
 ghost use Rattle.nx_io.specs.MemoryDoors.{IsFreshPlan, IsFreshWire};
 
+use crate::recorder::MemRecorder;
 use crate::runs::{asks_of, show, spelled, words_of};
 use authority_ask::MemPanel;
 use journal_text::reply_line;
 use nexus_client::request_of_line;
 use nexus_run::{Ended, run};
-use nexus_serve::{Reports, ServedSession};
-use nx_io::{Bytes, Discard, DoorPlan, Gate, MemDoor, MemLink, MemSink, MemSource, OpenGate, Sink};
+use nexus_serve::{Means, Reports, ServedSession};
+use nx_io::{Bytes, DoorPlan, Gate, MemDoor, MemLink, MemSink, MemSource, OpenGate, Sink};
 use session_core::SessionEnd;
 use session_wire::{ReplyRead, read_reply};
 use std::alloc::{AllocError, AllocGlobal, Global};
@@ -28,7 +29,10 @@ use std::thread::Threads;
 // the number of the call that fails, 0 or nothing where none does. `talks`, the sessions of the first worker, and `others`, those of the second: `&`
 // stands between sessions, and `|` between the lines of one, which are request lines, `objects N`, which asks for so many objects, and `raw` with bytes.
 //
-// Then `status`; `told`, what the sessions are told, one after another, and how each ends; and `written`. Where these begin with `..` they are the end.
+// `holds`: how many bytes each share of the sink for records holds, and `lend`, the number of the share that fails.
+//
+// Then `status`; `told`, what the sessions are told, one after another, and how each ends; `written`; and `recorded`, what was recorded, a worker
+// after the other, with `&` behind each. Where these begin with `..` they are the end.
 #[derive(Clone, Copy)]
 pub struct Day<'a> {
     pub own: &'a str,
@@ -287,6 +291,7 @@ struct Devices<K> {
     sink: K,
     panel: MemPanel,
     door: MemDoor,
+    records: MemRecorder,
 }
 
 // The devices of a day. What is there is let go by one call where there is no memory for the next.
@@ -314,10 +319,33 @@ fn devices_with<K: Drop>(
     panel: MemPanel,
 ) -> Result<Devices<K>, AllocError> {
     match door_of(alloc, day) {
-        Ok(door) => Ok(Devices { sink, panel, door }),
+        Ok(door) => devices_and_records(alloc, day, sink, panel, door),
         Err(AllocError) => {
             drop(sink);
             drop(panel);
+            Err(AllocError)
+        }
+    }
+}
+
+fn devices_and_records<K: Drop>(
+    alloc: Global,
+    day: Day,
+    sink: K,
+    panel: MemPanel,
+    door: MemDoor,
+) -> Result<Devices<K>, AllocError> {
+    match MemRecorder::new(alloc, day.size("holds"), day.number("lend")) {
+        Ok(records) => Ok(Devices {
+            sink,
+            panel,
+            door,
+            records,
+        }),
+        Err(AllocError) => {
+            drop(sink);
+            drop(panel);
+            drop(door);
             Err(AllocError)
         }
     }
@@ -330,7 +358,7 @@ fn ended<R, G: Gate + Sync, K: Sink + Send + Drop>(
     day: Day,
     gate: &G,
     sink: K,
-) -> Result<Ended<MemDoor, MemPanel, K>, AllocError>
+) -> Result<Ended<MemDoor, MemPanel, MemRecorder, K>, AllocError>
 where
     R: Net<Listener = TcpListener, Stream = TcpStream>
         + Files
@@ -368,7 +396,7 @@ fn ended_over<R, G: Gate + Sync, K: Sink + Send + Drop>(
     gate: &G,
     sink: K,
     source: &mut MemSource,
-) -> Result<Ended<MemDoor, MemPanel, K>, AllocError>
+) -> Result<Ended<MemDoor, MemPanel, MemRecorder, K>, AllocError>
 where
     R: Net<Listener = TcpListener, Stream = TcpStream>
         + Files
@@ -396,7 +424,7 @@ fn ended_by<R, G: Gate + Sync, K: Sink + Send + Drop>(
     sink: K,
     source: &mut MemSource,
     words: &[&str],
-) -> Result<Ended<MemDoor, MemPanel, K>, AllocError>
+) -> Result<Ended<MemDoor, MemPanel, MemRecorder, K>, AllocError>
 where
     R: Net<Listener = TcpListener, Stream = TcpStream>
         + Files
@@ -406,17 +434,13 @@ where
         + Threads
         + Sync,
 {
-    let Devices { sink, panel, door } = devices_of(alloc, day, sink)?;
-    Ok(run(
-        rt,
-        words,
-        source,
-        &mut Discard::new(),
+    let Devices {
         sink,
-        door,
         panel,
-        gate,
-    ))
+        door,
+        records,
+    } = devices_of(alloc, day, sink)?;
+    Ok(run(rt, words, source, records, sink, door, panel, gate))
 }
 
 // What a service came to is what is due.
@@ -424,7 +448,7 @@ fn compare<K: Shown>(
     rt: &impl Abort,
     alloc: Global,
     day: Day,
-    ended: &Ended<MemDoor, MemPanel, K>,
+    ended: &Ended<MemDoor, MemPanel, MemRecorder, K>,
 ) -> Result<(), AllocError> {
     assert_eq!(rt; u64::from(ended.status), day.number("status"));
     let told = told_in(alloc, ended.reports.as_slice())?;
@@ -470,10 +494,36 @@ where
         + Sync
         + Abort,
 {
-    let ended = ended(rt, alloc, day, gate, sink)?;
+    let mut ended = ended(rt, alloc, day, gate, sink)?;
     let compared = compare(rt, alloc, day, &ended);
+    let means = mem::replace(&mut ended.means, Vec::new(alloc));
     mem::forget(ended);
+    let recorded = recorded_by(alloc, means)?;
+    assert!(rt;
+        recorded.as_slice() == day.at("recorded").as_bytes(),
+        "{}",
+        day.at("recorded")
+    );
     compared
+}
+
+// What was recorded, a worker after the other.
+fn recorded_by(
+    alloc: Global,
+    means: Vec<Means<MemPanel, MemRecorder>>,
+) -> Result<Vec<u8>, AllocError> {
+    let mut lines = Vec::new(alloc);
+    for own in means {
+        let Means { panel, records } = own;
+        drop(panel);
+        if let Some(sink) = records.into_sink() {
+            let shown = show(sink.sent(), &mut lines);
+            drop(sink);
+            shown?;
+            lines.push(b'&')?;
+        }
+    }
+    Ok(lines)
 }
 
 // The same over a sink in memory.

@@ -11,6 +11,8 @@ mod holding;
 #[cfg(test)]
 mod kinds;
 #[cfg(test)]
+mod recorder;
+#[cfg(test)]
 mod runs;
 #[cfg(test)]
 mod scripts;

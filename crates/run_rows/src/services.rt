@@ -419,3 +419,65 @@ fn the_policy_changes_while_an_authority_is_asked(rt: HostRuntime) -> Result<(),
     assert_eq!(rt; gate.given_up.load(Ordering::SeqCst), 0);
     Ok(())
 }
+
+// A service that records its calls: each, and nothing else, with the patience or without; and nothing where the word is not said. One whose sink is full within
+// a record: that call and each later one is refused, also in the next session, and changes go on. Two workers, whose sinks are their own. One in which the
+// second share can't be made, so nobody is served; and words in another order.
+const RECORDED: &str = "words=serve mem 1 2 records
+recorded=5 alice read f - : allowed|5 alice read f - : allowed|6 alice read h - : refused NoSuchObject|6 bob read f - : denied NoProof|&
+
+words=serve mem 1 2 300 records
+recorded=5 alice read f - : allowed|5 alice read f - : allowed|6 alice read h - : refused NoSuchObject|6 bob read f - : denied NoProof|&
+
+words=serve mem 1 2
+recorded=
+
+words=serve mem 1 2 records
+holds=30
+status=5
+told=welcome 2 5|allowed 5 0 0|refused 5 NotRecorded|done 6 2|refused 6 NotRecorded|closed|welcome 3 6|refused 6 NotRecorded|closed|
+recorded=5 alice read f - : allowed|5 a&
+
+words=serve mem 2 1 records
+talks=hello alice pa|call read f 0
+others=hello bob pb|call read f 0
+told=welcome 2 5|allowed 5 0 0|closed|welcome 3 5|denied 5 NoProof|closed|
+written=nexus 2|principal alice pa|principal bob pb|1 alice object f|1 alice object g|1 alice goal read f : true|\
+    1 alice proof read f : proof 2 ; 1 true_i : true ; end|1 alice say alice : ok|end|
+recorded=5 alice read f - : allowed|&5 bob read f - : denied NoProof|&
+
+words=serve mem 2 1 records
+lend=2
+status=5
+told=
+written=
+recorded=&
+
+words=serve mem 1 2 records 300
+status=2
+told=
+written=
+recorded=
+
+words=serve mem 1 2 records records
+status=2
+told=
+written=
+recorded=";
+
+const RECORDED_DAY: &str =
+    "policy=nexus 2|principal alice pa|principal bob pb|1 alice object f|1 alice object g|1 alice goal read f : true|\
+    1 alice proof read f : proof 2 ; 1 true_i : true ; end|1 alice say alice : ok|end|
+room=4096
+piece=1000
+holds=4096
+talks=hello alice pa|call read f 0|call read f 0|object i|call read h 0&hello bob pb|call read f 0
+status=0
+told=welcome 2 5|allowed 5 0 0|allowed 5 1 0|done 6 2|refused 6 NoSuchObject|closed|welcome 3 6|denied 6 NoProof|closed|
+written=nexus 2|principal alice pa|principal bob pb|1 alice object f|1 alice object g|1 alice goal read f : true|\
+    1 alice proof read f : proof 2 ; 1 true_i : true ; end|1 alice say alice : ok|2 alice object i|end|";
+
+#[test]
+fn calls_are_recorded(rt: HostRuntime) -> Result<(), AllocError> {
+    try_days(&rt, rt.alloc(), RECORDED, RECORDED_DAY)
+}

@@ -14,6 +14,8 @@ mod frames;
 #[cfg(test)]
 mod plays;
 #[cfg(test)]
+mod records;
+#[cfg(test)]
 mod refusals;
 #[cfg(test)]
 mod sessions;

@@ -10,12 +10,13 @@ use crate::talks::{Talk, link_of, talk_of};
 use authority_ask::{Ask, MemPanel};
 use nx_io::{Gate, MemSink, Place};
 use policy_book::{Book, BookAccess, BookNaming, LockedBook, NalMatter, SharedBook};
-use session_core::{SessionEnd, serve_link};
+use session_core::{Beside, RecordKeeper, SessionEnd, serve_link};
 use std::alloc::{AllocError, Global};
 use std::cell::Cell;
 use std::marker::Brand;
 use std::net::{Net, TcpListener, TcpStream};
 use std::rt::Clock;
+use std::str;
 use std::sync::Wait;
 use std::sync::ledger::{Blank, Ledger};
 use verdict_words::{Board, Pass};
@@ -96,8 +97,9 @@ fn talks_of(alloc: Global, text: &str) -> Result<Vec<Talk>, AllocError> {
 }
 
 /// Plays three sessions, one after another. The first line names a policy, tells how much the sink of its book holds and, behind a
-/// comma, which of its syncs fails, if one does, and what the authorities answer; each of the next three is a talk, or no line for a
-/// session that is asked nothing.
+/// comma, which of its syncs fails, if one does, and behind a slash how much the sink of its records holds, if records are wanted, and
+/// what the authorities answer; each of the next three is a talk, or no line for a session that is asked nothing. The records stand
+/// last, with a semicolon for each line feed.
 pub fn told<R: Net<Listener = TcpListener, Stream = TcpStream> + Clock + Wait>(
     rt: &R,
     alloc: Global,
@@ -108,10 +110,50 @@ pub fn told<R: Net<Listener = TcpListener, Stream = TcpStream> + Clock + Wait>(
     let (room, answers) = rest.split_once(" ").unwrap_or((rest, ""));
     let talks = talks_of(alloc, talks)?;
     let mut panel = panel_of(alloc, answers)?;
-    let outcome = outcome_of(rt, alloc, policy, room, &mut panel, talks.as_slice());
+    let (room, records) = room.split_once('/').unwrap_or((room, ""));
+    let mut records = keeper_of(alloc, records)?;
+    let outcome = outcome_of(
+        rt,
+        alloc,
+        policy,
+        room,
+        &mut panel,
+        &mut records,
+        talks.as_slice(),
+    );
     drop(panel);
     drop(talks);
-    outcome_told(alloc, &outcome?)
+    let recorded = records_told(alloc, records);
+    let (told, recorded) = (outcome_told(alloc, &outcome?)?, recorded?);
+    format!(in alloc; "{told}{recorded}")
+}
+
+// Who keeps records, in a sink that holds so many bytes; nobody where none are named.
+fn keeper_of(alloc: Global, room: &str) -> Result<RecordKeeper<MemSink>, AllocError> {
+    if room.is_empty() {
+        return Ok(RecordKeeper::nobody());
+    }
+    let sink = MemSink::new(alloc, number(room) as usize, 1000, &[], &[])?;
+    Ok(RecordKeeper::over(sink))
+}
+
+// The records that were sent.
+fn records_told(alloc: Global, records: RecordKeeper<MemSink>) -> Result<String, AllocError> {
+    match records.into_sink() {
+        Some(sink) => {
+            let told = lines_told(alloc, sink.sent());
+            drop(sink);
+            told
+        }
+        None => Ok(String::new(alloc)),
+    }
+}
+
+fn lines_told(alloc: Global, bytes: &[u8]) -> Result<String, AllocError> {
+    let lines = str::from_utf8(bytes)
+        .unwrap_or("?")
+        .replace(alloc, '\n', ";")?;
+    format!(in alloc; " Records {lines}.")
 }
 
 fn outcome_told(alloc: Global, outcome: &Outcome) -> Result<String, AllocError> {
@@ -136,13 +178,14 @@ fn outcome_of<R: Net<Listener = TcpListener, Stream = TcpStream> + Clock + Wait>
     policy: &str,
     room: &str,
     panel: &mut MemPanel,
+    records: &mut RecordKeeper<MemSink>,
     talks: &[Talk],
 ) -> Result<Outcome, AllocError> {
     let policy = bytes_of(alloc, policy)?;
     let (room, sync) = room.split_once(',').unwrap_or((room, "0"));
     let sink = MemSink::new(alloc, number(room) as usize, 1000, &[], &[number(sync)])?;
     match board_of(alloc, policy.as_slice(), sink) {
-        Some(made) => Ok(serve_all(rt, alloc, made, panel, talks)),
+        Some(made) => Ok(serve_all(rt, alloc, made, panel, records, talks)),
         None => Err(AllocError),
     }
 }
@@ -153,6 +196,7 @@ fn serve_all<R: Net<Listener = TcpListener, Stream = TcpStream> + Clock + Wait>(
     alloc: Global,
     made: (Board<NalMatter>, Book<MemSink>),
     panel: &mut MemPanel,
+    records: &mut RecordKeeper<MemSink>,
     talks: &[Talk],
 ) -> Outcome
     requires opened { made.1.is_open ≡ true }
@@ -164,9 +208,9 @@ fn serve_all<R: Net<Listener = TcpListener, Stream = TcpStream> + Clock + Wait>(
     let second = book.enter(&board);
     let third = book.enter(&board);
     let passes = (first, second, third);
-    let (blank, turns) = (Blank::new(1), Blank::new(1));
+    let ledgers = (Blank::new(1), Blank::new(1));
     let outcome = serve_passes::<Brand, Brand, Brand, R>(
-        rt, alloc, &board, book, blank, turns, passes, panel, talks,
+        rt, alloc, &board, book, ledgers, passes, panel, records, talks,
     );
     drop(board);
     outcome
@@ -182,39 +226,59 @@ fn serve_passes<
     alloc: Global,
     board: &Board<NalMatter>,
     book: Book<MemSink>,
-    blank: Blank,
-    turns: Blank,
+    ledgers: (Blank, Blank),
     passes: (Pass<NalMatter>, Pass<NalMatter>, Pass<NalMatter>),
     panel: &mut MemPanel,
+    records: &mut RecordKeeper<MemSink>,
     talks: &[Talk],
 ) -> Outcome
     requires opened { book.is_open ≡ true }
     requires named { IsNamed N.board N.next N.start N.start_faults book }
     requires board { book.board ≡ board.now }
-    requires ledger { blank.name ≡ T.name }
-    requires parts { (blank.parts ≡ T.parts) × (T.parts ≡ 1) }
-    requires turns { (turns.name ≡ W.name) × (turns.parts ≡ W.parts) × (W.parts ≡ 1) }
+    requires ledger { ledgers.0.name ≡ T.name }
+    requires parts { (ledgers.0.parts ≡ T.parts) × (T.parts ≡ 1) }
+    requires turns { (ledgers.1.name ≡ W.name) × (ledgers.1.parts ≡ W.parts) × (W.parts ≡ 1) }
     requires first { IsNew board.now passes.0 }
     requires second { IsNew board.now passes.1 }
     requires third { IsNew board.now passes.2 }
 {
     let gate = Counter::new();
+    let beside = Beside { board, gate: &gate };
+    let (blank, turns) = ledgers;
     let (tickets, mark) = blank.open::<T>();
     let shared: SharedBook<MemSink, N, T, W> = SharedBook::new(book, tickets, turns);
     let mut locked = LockedBook::new(rt, board, &shared, mark);
     let (first, second, third) = (talks.get(0), talks.get(1), talks.get(2));
-    let first = served(rt, alloc, board, &mut locked, passes.0, &gate, panel, first);
+    let first = served(
+        rt,
+        alloc,
+        &beside,
+        &mut locked,
+        passes.0,
+        panel,
+        records,
+        first,
+    );
     let second = served(
         rt,
         alloc,
-        board,
+        &beside,
         &mut locked,
         passes.1,
-        &gate,
         panel,
+        records,
         second,
     );
-    let third = served(rt, alloc, board, &mut locked, passes.2, &gate, panel, third);
+    let third = served(
+        rt,
+        alloc,
+        &beside,
+        &mut locked,
+        passes.2,
+        panel,
+        records,
+        third,
+    );
     drop(locked);
     let (book, tickets) = shared.into_parts();
     drop(tickets);
@@ -243,19 +307,19 @@ fn entries_of(book: Book<MemSink>) -> u64 {
 fn served<B: BookAccess, R: Net<Listener = TcpListener, Stream = TcpStream> + Clock>(
     rt: &R,
     alloc: Global,
-    board: &Board<NalMatter>,
+    beside: &Beside<Counter>,
     book: &mut B,
     pass: Pass<NalMatter>,
-    gate: &Counter,
     panel: &mut MemPanel,
+    records: &mut RecordKeeper<MemSink>,
     talk: Option<&Talk>,
 ) -> (bool, SessionEnd)
-    requires named { B.board book.old ≡ board.now }
-    requires pass { IsNew board.now pass }
+    requires named { B.board book.old ≡ beside.now.board.now }
+    requires pass { IsNew beside.now.board.now pass }
     ensures named { B.board book.new ≡ B.board book.old }
 {
     match talk {
-        Some(talk) => served_to(rt, alloc, board, book, pass, gate, panel, talk),
+        Some(talk) => served_to(rt, alloc, beside, book, pass, panel, records, talk),
         None => {
             drop(pass);
             (false, SessionEnd::Memory)
@@ -266,20 +330,20 @@ fn served<B: BookAccess, R: Net<Listener = TcpListener, Stream = TcpStream> + Cl
 fn served_to<B: BookAccess, R: Net<Listener = TcpListener, Stream = TcpStream> + Clock>(
     rt: &R,
     alloc: Global,
-    board: &Board<NalMatter>,
+    beside: &Beside<Counter>,
     book: &mut B,
     pass: Pass<NalMatter>,
-    gate: &Counter,
     panel: &mut MemPanel,
+    records: &mut RecordKeeper<MemSink>,
     talk: &Talk,
 ) -> (bool, SessionEnd)
-    requires named { B.board book.old ≡ board.now }
-    requires pass { IsNew board.now pass }
+    requires named { B.board book.old ≡ beside.now.board.now }
+    requires pass { IsNew beside.now.board.now pass }
     ensures named { B.board book.new ≡ B.board book.old }
 {
     match link_of(alloc, talk, talk.asked.as_slice()) {
         Ok(link) => {
-            let report = serve_link(rt, alloc, board, book, pass, link, panel, gate);
+            let report = serve_link(rt, alloc, beside, book, pass, link, panel, records);
             let closed = report.link.is_closed();
             let admitted = report.link.is_admitted() == report.principal.is_some();
             let told = report.link.sent() == talk.told.as_slice();

@@ -7,8 +7,8 @@ ghosts-serve_passes-N-BookNaming g a = record { board = Some a.board.now; next =
 
 -- the ledger that counts in it
 abbrev pub ghosts-serve_passes-T-Ledger : goal.ghosts-serve_passes-T-Ledger
-ghosts-serve_passes-T-Ledger g a = record { name = a.blank.name; parts = a.blank.parts }
+ghosts-serve_passes-T-Ledger g a = record { name = a.ledgers.0.name; parts = a.ledgers.0.parts }
 
 -- and the one that says where its pen is
 abbrev pub ghosts-serve_passes-W-Ledger : goal.ghosts-serve_passes-W-Ledger
-ghosts-serve_passes-W-Ledger g a = record { name = a.turns.name; parts = a.turns.parts }
+ghosts-serve_passes-W-Ledger g a = record { name = a.ledgers.1.name; parts = a.ledgers.1.parts }
