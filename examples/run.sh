@@ -183,12 +183,13 @@ elif ! python3 -B "$examples/serve/run.py" "$built"; then
     failed=$((failed + 1))
 fi
 
-# Peers that hold workers, what a change that is done has behind it, and local sockets.
+# Peers that hold workers, what a change that is done has behind it, records of calls, and local sockets.
 if ! python3 -c 'import sys; sys.exit(sys.version_info < (3, 9))' 2>/dev/null; then
-    echo "patience, lasting, local: skipped, since there is no python3 of 3.9 or later"
+    echo "patience, lasting, records, local: skipped, since there is no python3 of 3.9 or later"
 else
     python3 -B "$examples/patience/run.py" "$built" || failed=$((failed + 1))
     python3 -B "$examples/lasting/run.py" "$built" || failed=$((failed + 1))
+    python3 -B "$examples/records/run.py" "$built" || failed=$((failed + 1))
     python3 -B "$examples/local/run.py" "$built" || failed=$((failed + 1))
 fi
 

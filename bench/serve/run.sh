@@ -4,8 +4,8 @@
 # 1 and with 4 connections, each of which waits for the reply to one request before the next, and kept calls also 32 at a time; with a journal of
 # few entries and with one of 200,000; and calls while another session changes the policy 500 times a second. Beside them what redis-server does
 # with GET and, with an append-only file that is synced behind each write (`appendfsync always`), as the service's text is, with SET. Then writes on 16
-# connections, kept calls over a local socket beside redis over one of its own, and how calls that are checked anew fare while a writer writes as fast
-# as it can, beside those without it.
+# connections, kept calls over a local socket beside redis over one of its own, how calls that are checked anew fare while a writer writes as fast
+# as it can, beside those without it, and kept calls with records of them in a file beside those without.
 # Then the kept calls that the clients for programs make: that in Python, and that in Go where there is Go.
 # It needs the built program (./nexus builds it), a C compiler and, for the ratios, redis-server and redis-benchmark (Debian's redis-server).
 # CALLS is how many calls a connection makes (64000). The writes of a connection are 3,840, as one principal may have few more.
@@ -118,6 +118,20 @@ wait "$other" "$service" 2>/dev/null || true
 other='' service=''
 row "kept calls over a local socket" "$local" get 1 "$calls" 1 "$work/redis"
 echo "$alone $beside" | awk '{ printf "calls anew beside a writer at full speed: %d a second, without it %d, ratio %.2f\n", $3, $1, $3 / $1 }'
+
+# Calls that are recorded into a file, beside those that are not: the two services run at once, and are asked by turns.
+policy 4 0 | "$program" serve "unix:$work/plain" 4 64 >"$work/after" &
+service=$!
+policy 4 0 | "$program" serve "unix:$work/recorded" 4 64 records >"$work/after.recorded" 2>"$work/calls" &
+other=$!
+for turn in 1 2 3; do
+    plain=$("$work/load" "$work/plain" 4 "$calls" 1 call)
+    recorded=$("$work/load" "$work/recorded" 4 "$calls" 1 call)
+    echo "$plain $recorded" | awk -v turn="$turn" '{ printf "kept calls with records, 4 connections, turn %d: %d a second, without them %d, ratio %.2f\n", turn, $3, $1, $3 / $1 }'
+done
+kill "$other" "$service" 2>/dev/null || true
+wait "$other" "$service" 2>/dev/null || true
+other='' service=''
 
 # The clients for programs, beside each other. That in Python makes a quarter of the calls.
 if command -v go >/dev/null; then
