@@ -1,6 +1,7 @@
 //! Standard error as a sink for records.
 ghost use Rattle.std.specs.Prelude.{◌≡◌, ◌≢◌, ◌<◌, ◌≤◌, [], length};
 ghost use Rattle.nx_io.specs.Doors.{IfMade};
+ghost use Rattle.nx_io.specs.Readers.{HandsTo};
 ghost use Rattle.nx_io.specs.Recorders.{faults_after_share};
 ghost use Rattle.nx_io.specs.Streams.{Writes, WritesWithin, faults_after_write, one_more};
 
@@ -71,6 +72,8 @@ impl<W: Write + Copy> Sink for StandardError<W> {
         ensures synced { self.new.synced ≡ self.old.synced }
         ensures later { self.old.faults ≤ self.new.faults }
         ensures count { self.new.faults ≡ faults_after_write result self.old.faults }
+        ensures handed { HandsTo result self.old.contents self.new.contents piece.now }
+        ensures shares { self.new.shares ≡ self.old.shares }
     {
         if self.is_closed {
             self.faults = self.faults.saturating_add(1);

@@ -1,8 +1,6 @@
 //! A call in a session over the shared board.
-ghost use Rattle.std.specs.Prelude.{◌≡◌, ◌≢◌, ◌≤◌, ◌<◌, ◌⊎◌, ℕ, List, [], ◌∷◌, filter, length, true, false, Some, None, IfSome};
-ghost use Rattle.nal_rules.specs.Asking.{case_tree, lines_of};
-ghost use Rattle.nal_rules.specs.Faults.{is_ask};
-ghost use Rattle.nal_rules.specs.Verdicts.{CaseTree};
+ghost use Rattle.std.specs.Prelude.{◌≡◌, ◌≢◌, ◌≤◌, ◌<◌, ◌⊎◌, ℕ, List, [], ◌∷◌, length, true, false, Some, None, IfSome};
+ghost use Rattle.nal_rules.specs.Asking.{case_tree};
 ghost use Rattle.nal_rules.specs.declared.verdicts.Verdict.{Verdict};
 ghost use Rattle.nal_rules.specs.declared.verdicts.Verdict.TheVariants.{Allowed as AllowedVerdict};
 ghost use Rattle.policy_history.specs.Judged.{IsLasting};
@@ -30,6 +28,7 @@ ghost use Rattle.session_core.specs.Inner.Knowing.{knows_row};
 
 use crate::answers::found_reply;
 use crate::board_session::{Admitted, Beside, BoardSession, NOT_OPEN};
+use crate::findings::{asks, few_lines, has_asked, verdict_of};
 use crate::known::Room;
 use crate::records::RecordKeeper;
 use audit_check::{Recorded, answers_of};
@@ -39,7 +38,6 @@ use nal_rules::{Case, Verdict};
 use nal_term::Name;
 use nx_io::{Gate, Place, Sink};
 use policy_book::{BookAccess, NalMatter, Snapped, held_of};
-use proof_lines::{Proof, Rule};
 use session_wire::Reply;
 use std::alloc::Global;
 use std::net::{Net, TcpListener, TcpStream};
@@ -521,18 +519,6 @@ fn kept_reply(at: u64, held: &Held) -> Reply
     }
 }
 
-/// A case has at most so many lines.
-fn few_lines(case: &Case)
-    ensures { length (lines_of (case_tree case.now)) ≤ 256 }
-{
-    match &case.proof {
-        None => {}
-        Some(proof) => {
-            let _count = proof.count();
-        }
-    }
-}
-
 /// Keeps the verdict of a known case, where it rests on goal, proof and labels alone.
 fn keep(
     board: &Board<NalMatter>,
@@ -566,27 +552,6 @@ fn keep(
     }
 }
 
-/// The verdict that a finding is.
-fn verdict_of(finding: &Finding) -> Verdict
-    ensures { result ≡ verdict_of finding.now }
-{
-    match finding {
-        Finding::Allowed { .. } => Verdict::Allowed,
-        Finding::Denied(cause) => Verdict::Denied(*cause),
-    }
-}
-
-/// Whether an authority was asked and all said Yes.
-fn has_asked(finding: &Finding) -> bool
-    ensures asked { (c : CaseTree) → HasCount c finding.now → result ≡ true → ¬ IsLasting c (verdict_of finding.now) }
-    ensures unasked { (c : CaseTree) → HasCount c finding.now → result ≡ false → verdict_of finding.now ≡ AllowedVerdict → filter is_ask (lines_of c) ≡ [] }
-{
-    match finding {
-        Finding::Allowed { asks } => *asks > 0,
-        Finding::Denied(_) => false,
-    }
-}
-
 /// The step that an allowed call makes on the register of its object, and what it answers; 0 where the operation makes none.
 fn run(
     board: &Board<NalMatter>,
@@ -609,25 +574,4 @@ fn run(
         return board.run_add(pass, object, arg);
     }
     0
-}
-
-/// Whether the proof of a case has an ask line.
-fn asks(case: &Case) -> bool {
-    match &case.proof {
-        None => false,
-        Some(proof) => has_ask(proof),
-    }
-}
-
-/// Whether a proof has an ask line.
-fn has_ask(proof: &Proof) -> bool {
-    for index in 0..proof.count() {
-        let Some(line) = proof.line(index + 1) else {
-            return false;
-        };
-        if matches!(line.rule, Rule::Ask) {
-            return true;
-        }
-    }
-    false
 }

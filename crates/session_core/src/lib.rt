@@ -6,6 +6,7 @@ mod board_calls;
 mod board_serving;
 mod board_session;
 mod ends;
+mod findings;
 mod known;
 mod lines;
 mod reaching;
