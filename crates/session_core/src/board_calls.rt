@@ -346,14 +346,8 @@ impl BoardSession {
         let told = found_reply(taken.at, finding);
         let what = Recorded::Told(verdict_of(finding));
         let answers = answers_of(&taken.case, what);
-        if !note(
-            &self.admitted,
-            op,
-            &room.object,
-            answers.as_slice(),
-            &told,
-            records,
-        ) {
+        let given = answers.as_slice();
+        if !note(&self.admitted, op, &room.object, given, &told, records) {
             let (at, number) = (taken.at, NOT_RECORDED);
             return (self, Reply::Refused { at, number });
         }
@@ -401,14 +395,8 @@ impl BoardSession {
         let told = Reply::Down { at, line };
         let what = Recorded::Down { line };
         let answers = answers_of(&taken.case, what);
-        if !note(
-            &self.admitted,
-            op,
-            &room.object,
-            answers.as_slice(),
-            &told,
-            records,
-        ) {
+        let given = answers.as_slice();
+        if !note(&self.admitted, op, &room.object, given, &told, records) {
             let number = NOT_RECORDED;
             return (self, Reply::Refused { at, number });
         }

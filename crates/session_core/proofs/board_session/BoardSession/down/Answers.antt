@@ -20,7 +20,7 @@ returns-then-not-note-clause-checked g c = λ p arg told broken.
 
 pub returns-then-not-note-clause-noted : goal.returns-then-not-note-clause-noted
 returns-then-not-note-clause-noted g c = λ p arg told who broken.
-    c.note.ensures.cut c.if-not-note.true _ p arg c.args.taken.now.at (Down c.args.line) told who (c.as_slice.ensures.answers ∙ c.answers_of-answers.ensures _ (down_known _ told _ broken)) (refl, refl)
+    c.note.ensures.cut c.if-not-note.true _ p arg c.args.taken.now.at (Down c.args.line) told who (c.as_slice-given.ensures.answers ∙ c.answers_of-answers.ensures _ (down_known _ told _ broken)) (refl, refl)
 
 pub returns-clause-checked : goal.returns-clause-checked
 returns-clause-checked g c = λ p arg told broken.
@@ -29,4 +29,4 @@ returns-clause-checked g c = λ p arg told broken.
 
 pub returns-clause-noted : goal.returns-clause-noted
 returns-clause-noted g c = λ p arg told who broken.
-    c.note.ensures.sent c.if-not-note.false _ p arg c.args.taken.now.at (Down c.args.line) told _ who (c.as_slice.ensures.answers ∙ c.answers_of-answers.ensures _ (down_known _ told _ broken)) (refl, refl) (refl, refl)
+    c.note.ensures.sent c.if-not-note.false _ p arg c.args.taken.now.at (Down c.args.line) told _ who (c.as_slice-given.ensures.answers ∙ c.answers_of-answers.ensures _ (down_known _ told _ broken)) (refl, refl) (refl, refl)

@@ -40,12 +40,12 @@ returns-then-not-note-clause-checked g c = λ p told is.
 
 pub returns-then-not-note-clause-noted : goal.returns-then-not-note-clause-noted
 returns-then-not-note-clause-noted g c = λ p told who is.
-    c.note.ensures.cut c.if-not-note.true _ p c.args.arg c.args.taken.now.at _ told who (c.as_slice.ensures.answers ∙ c.answers_of-answers.ensures _ (rw c.verdict_of.ensures (told_known _ _ _ (judged _ told _ is))))
+    c.note.ensures.cut c.if-not-note.true _ p c.args.arg c.args.taken.now.at _ told who (c.as_slice-given.ensures.answers ∙ c.answers_of-answers.ensures _ (rw c.verdict_of.ensures (told_known _ _ _ (judged _ told _ is))))
     (due_verdict c.args.taken.now.at 0 0 (verdict_of c.args.finding.now) c.found_reply-told.result (c.found_reply-told.ensures ∙ found_is _ c.args.finding.now))
 
 pub returns-clause-noted : goal.returns-clause-noted
 returns-clause-noted g c = λ p told who is.
-    c.note.ensures.sent c.if-not-note.false _ p c.args.arg c.args.taken.now.at _ told _ who (c.as_slice.ensures.answers ∙ c.answers_of-answers.ensures _ (rw c.verdict_of.ensures (told_known _ _ _ (judged _ told _ is))))
+    c.note.ensures.sent c.if-not-note.false _ p c.args.arg c.args.taken.now.at _ told _ who (c.as_slice-given.ensures.answers ∙ c.answers_of-answers.ensures _ (rw c.verdict_of.ensures (told_known _ _ _ (judged _ told _ is))))
     (due_verdict c.args.taken.now.at 0 0 (verdict_of c.args.finding.now) c.found_reply-told.result (c.found_reply-told.ensures ∙ found_is _ c.args.finding.now)) (due_verdict c.args.taken.now.at 0 c.judged_reply-reply.ensures.value (verdict_of c.args.finding.now) c.judged_reply-reply.result c.judged_reply-reply.ensures.reply_is)
 
 pub keep-requires-clause-place : goal.keep-requires-clause-place
