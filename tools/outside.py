@@ -14,6 +14,8 @@ import re
 import sys
 from pathlib import Path
 
+from clauses import closing
+
 # The files that open sockets.
 ADAPTERS = {"nx_io/src/system_streams.rt", "nx_io/src/local_sockets.rt"}
 
@@ -56,8 +58,9 @@ MAKERS = {"authority_ask/src/clocks.rt", "authority_ask/src/hosts.rt", "authorit
     "nx_io/src/system_streams.rt", "nx_io/src/file_sinks.rt"}
 NAMED = re.compile(r"^pub use [a-z_]+::[^;]*;$")
 
-# A line of a contract, which says and does nothing.
-CLAUSE = re.compile(r"\s*(requires|ensures|ghost)\b[^;]*;?$")
+# A clause of a contract begins so, and a line of ghosts is this: both say something and do nothing.
+CLAUSE = re.compile(r"^[ \t]*(?:requires|ensures)\*?(?:[ \t]+\w+)?[ \t]*\{", re.MULTILINE)
+GHOST = re.compile(r"\s*ghost\b[^;]*;?$")
 
 # Functions of the sources that have the name of such a call and open nothing: the file, and how it is called or declared there.
 NAMESAKES = {
@@ -89,6 +92,17 @@ def code_of(text):
     return LITERALS.sub(lambda it: '""' + "\n" * it[0].count("\n"), text)
 
 
+def without_clauses(code):
+    """Returns a code without the clauses of its contracts, in as many lines."""
+    parts, place = [], 0
+    for clause in CLAUSE.finditer(code):
+        if clause.start() >= place:
+            end = closing(code, clause.end() - 1) + 1
+            parts += [code[place : clause.start()], "\n" * code.count("\n", clause.start(), end)]
+            place = end
+    return "".join(parts) + code[place:]
+
+
 def opens_in(name, code):
     """Whether a line opens a socket or finds an address."""
     for file, call in NAMESAKES:
@@ -100,7 +114,7 @@ def opens_in(name, code):
 def wrong_in(name, text):
     """Yields the number of each line that waits, takes a lock, or names or opens what is of the outside, and what it does."""
     locked = False
-    for number, (code, line) in enumerate(zip(code_of(text).splitlines(), text.splitlines()), 1):
+    for number, (code, line) in enumerate(zip(without_clauses(code_of(text)).splitlines(), text.splitlines()), 1):
         if re.match(r"\s*(pub(\([^)]*\))?\s+)?fn\b", code):
             locked = False
         if WAITS.search(code):
@@ -113,7 +127,7 @@ def wrong_in(name, text):
             yield number, "names a file", line
         if name not in MAKERS and OBJECTS.search(code) and not NAMED.search(code):
             yield number, "names an object of the outside", line
-        if name in ADAPTERS or code.strip() == IMPORT or CLAUSE.match(code):
+        if name in ADAPTERS or code.strip() == IMPORT or GHOST.match(code):
             continue
         if SOCKETS.search(BOUND.sub("", code)):
             yield number, "names a socket", line

@@ -1,5 +1,5 @@
 //! Records, held against a journal.
-ghost use Rattle.std.specs.Prelude.{◌≡◌, ◌≤◌, ◌<◌, ◌+◌, IfOk, All, Some, length, slice_get, ℕ};
+ghost use Rattle.std.specs.Prelude.{◌≡◌, ◌<◌, ◌+◌, IfOk, All, Some, length, slice_get, ℕ};
 ghost use Rattle.policy_history.specs.Values.{entry_trees};
 ghost use Rattle.audit_check.specs.Audits.{IsAudited, IsWithin, IsWrongRecord};
 ghost use Rattle.audit_check.specs.Records.{IsRightRecord};
@@ -86,7 +86,9 @@ fn lowest_wrong(
     requires begun { IsBeginning part.old whole.now 0 }
     requires within { All (IsWithin whole.now.head (entry_trees whole.now.entries)) records.now }
     requires order { AreInOrder records.now places.now }
-    ensures wrong { IfOk result (λ lowest. lowest < length records.now → IsWrongRecord whole.now.head (entry_trees whole.now.entries) records.now (lowest + 1)) }
+    ensures wrong { IfOk result
+        (λ lowest. lowest < length records.now
+        → IsWrongRecord whole.now.head (entry_trees whole.now.entries) records.now (lowest + 1)) }
     ensures right { IfOk result (λ lowest. (j : ℕ) (r : model.Record) → j < lowest → slice_get records.now j ≡ Some r
         → IsRightRecord whole.now.head (entry_trees whole.now.entries) r) }
 {

@@ -48,7 +48,8 @@ pub fn replay_to(
 fn append_copy(alloc: Global, journal: &mut Journal, entry: &Entry) -> Result<(), AllocError>
     requires { IsAccepted journal.old.head (state_after journal.old) (entry_tree entry.now) }
     ensures head { OnOk result (journal.new.head ≡ journal.old.head) }
-    ensures entries { OnOk result (entry_trees journal.new.entries ≡ entry_trees journal.old.entries ++ entry_tree entry.now ∷ []) }
+    ensures entries { OnOk result
+        (entry_trees journal.new.entries ≡ entry_trees journal.old.entries ++ entry_tree entry.now ∷ []) }
     ensures count { OnOk result (length journal.new.entries ≡ length journal.old.entries + 1) }
 {
     let spare = journal.reserve(&entry.event)?;

@@ -62,7 +62,9 @@ impl Connection {
     pub fn exchange(self, question: &[u8], answer: &mut [u8]) -> (usize, Option<Connection>)
         requires { length answer.old ≡ 16 }
         ensures within { result.0 ≤ 16 }
-        ensures kept { IfSome result.1 (λ now. (affirmed : Bool) × (take result.0 answer.new ≡ answer_line affirmed) × HasAnswered self now question.now affirmed) }
+        ensures kept { IfSome result.1
+            (λ now. (affirmed : Bool) × (take result.0 answer.new ≡ answer_line affirmed)
+            × HasAnswered self now question.now affirmed) }
     {
         let Connection {
             mut source,

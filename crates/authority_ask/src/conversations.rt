@@ -50,7 +50,8 @@ pub fn converse<S: Source, K: Sink>(
     ensures within { result ≤ 16 }
     ensures given { S.given source.new ≡ S.given source.old ++ take result answer.new }
     ensures sent { 0 < result → K.sent sink.new ≡ K.sent sink.old ++ question.now }
-    ensures cause { Rose (K.faults sink.old) (K.faults sink.new) ⊎ HasStopped (take result answer.new) (S.over source.new) (S.faults source.old) (S.faults source.new) }
+    ensures cause { Rose (K.faults sink.old) (K.faults sink.new)
+        ⊎ HasStopped (take result answer.new) (S.over source.new) (S.faults source.old) (S.faults source.new) }
 {
     match send_all(sink, question) {
         Reach::Ready => read_line(source, answer),
@@ -63,7 +64,8 @@ fn read_line<S: Source>(source: &mut S, answer: &mut [u8]) -> usize
     requires { length answer.old ≡ 16 }
     ensures within { result ≤ 16 }
     ensures given { S.given source.new ≡ S.given source.old ++ take result answer.new }
-    ensures cause { HasStopped (take result answer.new) (S.over source.new) (S.faults source.old) (S.faults source.new) }
+    ensures cause { HasStopped (take result answer.new) (S.over source.new) (S.faults source.old)
+        (S.faults source.new) }
 {
     let mut filled = 0;
     while filled < ROOM && !answer[..filled].contains(&b'\n') {

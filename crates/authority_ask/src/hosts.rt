@@ -94,7 +94,8 @@ impl<C: Clock + Drop, W: Wires + Drop> AuthorityPanel<C, W> {
     // A panel with a share of the clock and of the wires, and with these addresses.
     fn shared(&self) -> Result<AuthorityPanel<C, W>, AllocError>
         ensures history { IfOk result (λ share. share.history ≡ share_of self.now.history) }
-        ensures clock { IfOk result (λ share. (C.given share.clock ≡ None) × (C.calls share.clock ≡ 0) × (C.faults share.clock ≡ 0)) }
+        ensures clock { IfOk result
+            (λ share. (C.given share.clock ≡ None) × (C.calls share.clock ≡ 0) × (C.faults share.clock ≡ 0)) }
         ensures wires { IfOk result (λ share. W.calls share.wires ≡ []) }
     {
         let addresses = copies(self.alloc, self.addresses.as_slice())?;
@@ -116,12 +117,17 @@ impl<C: Clock + Drop, W: Wires + Drop> AuthorityPanel<C, W> {
         statement: &Formula,
     ) -> Ask
         ensures others { self.new ≡ record self.old { clock = self.new.clock; wires = self.new.wires } }
-        ensures over_wires { IsAskedAt (reached_in self.old.history) port (formula_tree statement.now) (W.calls self.old.wires) (W.calls self.new.wires) result }
+        ensures over_wires { IsAskedAt (reached_in self.old.history) port (formula_tree statement.now)
+            (W.calls self.old.wires) (W.calls self.new.wires) result }
         ensures unreached { address_at (reached_in self.old.history) port ≡ None → result ≡ Ask.Down }
-        ensures by_clock { address_at (reached_in self.old.history) port ≡ Some (codes "clock") → result ≡ clock_answer (C.given self.new.clock) (formula_tree statement.now) }
-        ensures clock_down { address_at (reached_in self.old.history) port ≡ Some (codes "clock") → result ≡ Ask.Down → Rose (C.faults self.old.clock) (C.faults self.new.clock) }
-        ensures clock_called { NeedsClock (reached_in self.old.history) port (formula_tree statement.now) → C.calls self.new.clock ≡ one_more (C.calls self.old.clock) }
-        ensures clock_rests { ¬ NeedsClock (reached_in self.old.history) port (formula_tree statement.now) → self.new.clock ≡ self.old.clock }
+        ensures by_clock { address_at (reached_in self.old.history) port ≡ Some (codes "clock")
+            → result ≡ clock_answer (C.given self.new.clock) (formula_tree statement.now) }
+        ensures clock_down { address_at (reached_in self.old.history) port ≡ Some (codes "clock") → result ≡ Ask.Down
+            → Rose (C.faults self.old.clock) (C.faults self.new.clock) }
+        ensures clock_called { NeedsClock (reached_in self.old.history) port (formula_tree statement.now)
+            → C.calls self.new.clock ≡ one_more (C.calls self.old.clock) }
+        ensures clock_rests { ¬ NeedsClock (reached_in self.old.history) port (formula_tree statement.now)
+            → self.new.clock ≡ self.old.clock }
     {
         let Some(address) = address_in(self.addresses.as_slice(), port) else {
             return Ask::Down;
@@ -167,13 +173,20 @@ impl<C: Clock + Drop, W: Wires + Drop> Panel for AuthorityPanel<C, W> {
         port: u64,
         statement: &Formula,
     ) -> Ask
-        ensures history { self.new.history ≡ with_call self.old.history (asked (record { port = port; statement = formula_tree statement.now; answer = result })) }
-        ensures over_wires { IsAskedAt (reached_in self.old.history) port (formula_tree statement.now) (W.calls self.old.wires) (W.calls self.new.wires) result }
+        ensures history { self.new.history
+            ≡ with_call self.old.history
+            (asked (record { port = port; statement = formula_tree statement.now; answer = result })) }
+        ensures over_wires { IsAskedAt (reached_in self.old.history) port (formula_tree statement.now)
+            (W.calls self.old.wires) (W.calls self.new.wires) result }
         ensures unreached { address_at (reached_in self.old.history) port ≡ None → result ≡ Ask.Down }
-        ensures by_clock { address_at (reached_in self.old.history) port ≡ Some (codes "clock") → result ≡ clock_answer (C.given self.new.clock) (formula_tree statement.now) }
-        ensures clock_down { address_at (reached_in self.old.history) port ≡ Some (codes "clock") → result ≡ Ask.Down → Rose (C.faults self.old.clock) (C.faults self.new.clock) }
-        ensures clock_called { NeedsClock (reached_in self.old.history) port (formula_tree statement.now) → C.calls self.new.clock ≡ one_more (C.calls self.old.clock) }
-        ensures clock_rests { ¬ NeedsClock (reached_in self.old.history) port (formula_tree statement.now) → self.new.clock ≡ self.old.clock }
+        ensures by_clock { address_at (reached_in self.old.history) port ≡ Some (codes "clock")
+            → result ≡ clock_answer (C.given self.new.clock) (formula_tree statement.now) }
+        ensures clock_down { address_at (reached_in self.old.history) port ≡ Some (codes "clock") → result ≡ Ask.Down
+            → Rose (C.faults self.old.clock) (C.faults self.new.clock) }
+        ensures clock_called { NeedsClock (reached_in self.old.history) port (formula_tree statement.now)
+            → C.calls self.new.clock ≡ one_more (C.calls self.old.clock) }
+        ensures clock_rests { ¬ NeedsClock (reached_in self.old.history) port (formula_tree statement.now)
+            → self.new.clock ≡ self.old.clock }
     {
         let answer = self.answer(rt, port, statement);
         let statement = Snapshot::of(statement);
@@ -189,7 +202,8 @@ impl<C: Clock + Drop, W: Wires + Drop> Panel for AuthorityPanel<C, W> {
     fn share(&mut self) -> Shared<AuthorityPanel<C, W>>
         ensures fresh { IfMade result (λ share. share.history ≡ share_of self.old.history) }
         ensures history { self.new.history ≡ with_call self.old.history (share_call result) }
-        ensures clock { IfMade result (λ share. (C.given share.clock ≡ None) × (C.calls share.clock ≡ 0) × (C.faults share.clock ≡ 0)) }
+        ensures clock { IfMade result
+            (λ share. (C.given share.clock ≡ None) × (C.calls share.clock ≡ 0) × (C.faults share.clock ≡ 0)) }
         ensures clock_rests { self.new.clock ≡ self.old.clock }
         ensures wires { IfMade result (λ share. W.calls share.wires ≡ []) }
         ensures wires_rest { self.new.wires ≡ self.old.wires }
@@ -228,7 +242,8 @@ fn connect<W: Wires, R: Net<Listener = TcpListener, Stream = TcpStream> + System
     address: &[u8],
 ) -> Reach
     requires { length addresses.old.items ≡ 16 }
-    ensures kept { map address_bytes addresses.new.items ≡ kept_after result port address.now (map address_bytes addresses.old.items) }
+    ensures kept { map address_bytes addresses.new.items
+        ≡ kept_after result port address.now (map address_bytes addresses.old.items) }
     ensures count { length addresses.new.items ≡ 16 }
     ensures wires_called { IsReachedOver port address.now (W.calls wires.old) (W.calls wires.new) result }
     ensures outside { 16 ≤ port → result ≡ Reach.Failed }

@@ -147,7 +147,8 @@ impl Panel for MemPanel {
     ) -> Reach
         ensures history { self.new.history ≡ with_call self.old.history (reach_call port address.now result) }
         ensures failed { (result ≡ Reach.Failed) ↔ Contains self.old.reach_fails self.new.reaches }
-        ensures others { self.new ≡ record self.old { reaches = one_more self.old.reaches; history = self.new.history } }
+        ensures others { self.new
+            ≡ record self.old { reaches = one_more self.old.reaches; history = self.new.history } }
     {
         let told = History::of(address);
         if self.reaches.next_fails() {
@@ -172,7 +173,9 @@ impl Panel for MemPanel {
         port: u64,
         statement: &Formula,
     ) -> Ask
-        ensures history { self.new.history ≡ with_call self.old.history (asked (record { port = port; statement = formula_tree statement.now; answer = result })) }
+        ensures history { self.new.history
+            ≡ with_call self.old.history
+            (asked (record { port = port; statement = formula_tree statement.now; answer = result })) }
         ensures answer { result ≡ answer_at self.old.answers (asks_in self.old.history.calls) }
         ensures others { self.new ≡ record self.old { history = self.new.history } }
     {
@@ -191,7 +194,9 @@ impl Panel for MemPanel {
     fn share(&mut self) -> Shared<MemPanel>
         ensures fresh { IfMade result (λ share. share.history ≡ share_of self.old.history) }
         ensures history { self.new.history ≡ with_call self.old.history (share_call result) }
-        ensures same { IfMade result (λ share. share ≡ rehearsed self.old.answers self.old.reach_fails self.old.share_fails (share_of self.old.history)) }
+        ensures same { IfMade result
+            (λ share. share
+            ≡ rehearsed self.old.answers self.old.reach_fails self.old.share_fails (share_of self.old.history)) }
         ensures failed { (result ≡ Shared.Failed) ↔ Contains self.old.share_fails self.new.shares }
         ensures others { self.new ≡ record self.old { shares = one_more self.old.shares; history = self.new.history } }
     {

@@ -50,7 +50,9 @@ pub trait Panel {
         port: u64,
         statement: &Formula,
     ) -> Ask
-        ensures history { history self.new ≡ with_call (history self.old) (asked (record { port = port; statement = formula_tree statement.now; answer = result })) };
+        ensures history { history self.new
+            ≡ with_call (history self.old)
+            (asked (record { port = port; statement = formula_tree statement.now; answer = result })) };
 
     /// A panel of the same addresses, of which nothing was asked yet.
     ///

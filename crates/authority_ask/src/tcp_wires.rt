@@ -1,5 +1,5 @@
 // Connections to authorities over TCP.
-ghost use Rattle.std.specs.Prelude.{◌≡◌, ◌<◌, ◌≤◌, ◌∷◌, ◌++◌, [], IfOk, length, take};
+ghost use Rattle.std.specs.Prelude.{◌≡◌, ◌<◌, [], IfOk, length, take};
 ghost use Rattle.authority_ask.specs.WireLogs.{wire_calls_of};
 
 use crate::connections::Connection;

@@ -2,7 +2,7 @@
 ghost use Rattle.std.specs.Prelude.{◌≡◌};
 ghost use Rattle.nal_term.specs.Trees.{formula_tree, term_tree};
 ghost use Rattle.nal_term.specs.TreeKeys.{same_terms};
-ghost use Rattle.authority_ask.specs.TimeTests.{clock_answer, compares, is_true_at, time_now, time_test};
+ghost use Rattle.authority_ask.specs.TimeTests.{compares, is_true_at, time_now, time_test};
 
 use crate::panels::Ask;
 use nal_term::{Compare, Formula, Term};

@@ -19,7 +19,9 @@ pub fn drive(
 ) -> Result<Outcome, AllocError>
     requires principals { All (λ p. p < length journal.head.principals) actors.now.items }
     requires sessions { greatest_of (entry_trees journal.entries) + length actors.now.items < 2 ^ 64 }
-    ensures { IfOk result (IsOutcome (first_state journal.head (entry_trees journal.entries) actors.now.items) (map step_tree steps.now.items)) }
+    ensures { IfOk result
+        (IsOutcome (first_state journal.head (entry_trees journal.entries) actors.now.items)
+        (map step_tree steps.now.items)) }
 {
     let _few = journal.head().principals.count();
     let mut machine = Machine::new(alloc, journal, actors)?;

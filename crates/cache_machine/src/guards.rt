@@ -23,7 +23,10 @@ impl World {
     /// Raise finds the region that an accepted event touches.
     pub fn raise(&self, actor: &Actor, event: &Event) -> Result<Move, AllocError>
         requires principal { actor.now.principal < length self.now.journal.head.principals }
-        ensures { IfOk result (λ m. move_tree m ≡ raise_move (state_of self.now) (actor_tree actor.now) (stage_tree actor.now.stage) (event_tree event.now)) }
+        ensures { IfOk result
+            (λ m. move_tree m
+            ≡ raise_move (state_of self.now) (actor_tree actor.now) (stage_tree actor.now.stage)
+            (event_tree event.now)) }
     {
         match &actor.stage {
             Stage::Resting { .. } => self.raised(actor, event),
@@ -33,7 +36,9 @@ impl World {
 
     fn raised(&self, actor: &Actor, event: &Event) -> Result<Move, AllocError>
         requires principal { actor.now.principal < length self.now.journal.head.principals }
-        ensures { IfOk result (λ m. move_tree m ≡ raise_free (state_of self.now) (actor_tree actor.now) (event_tree event.now) self.now.holder) }
+        ensures { IfOk result
+            (λ m. move_tree m
+            ≡ raise_free (state_of self.now) (actor_tree actor.now) (event_tree event.now) self.now.holder) }
     {
         match self.holder {
             Some(_) => Ok(Move::Idle),
@@ -50,7 +55,9 @@ impl World {
     /// Write adds the event for which the actor raised a region, or one that touches none.
     pub fn write(&self, actor: &Actor, event: &Event) -> Result<Move, AllocError>
         requires principal { actor.now.principal < length self.now.journal.head.principals }
-        ensures { IfOk result (λ m. IsWritten (state_of self.now) (actor_tree actor.now) (stage_tree actor.now.stage) (event_tree event.now) (move_tree m)) }
+        ensures { IfOk result
+            (λ m. IsWritten (state_of self.now) (actor_tree actor.now) (stage_tree actor.now.stage)
+            (event_tree event.now) (move_tree m)) }
     {
         match &actor.stage {
             Stage::Resting { .. } => self.written(actor, event),
@@ -61,7 +68,9 @@ impl World {
 
     fn written(&self, actor: &Actor, event: &Event) -> Result<Move, AllocError>
         requires principal { actor.now.principal < length self.now.journal.head.principals }
-        ensures { IfOk result (λ m. move_tree m ≡ write_free (state_of self.now) (actor_tree actor.now) (event_tree event.now) self.now.holder) }
+        ensures { IfOk result
+            (λ m. move_tree m
+            ≡ write_free (state_of self.now) (actor_tree actor.now) (event_tree event.now) self.now.holder) }
     {
         match self.holder {
             Some(_) => Ok(Move::Idle),
@@ -88,7 +97,9 @@ impl World {
     /// Snap copies the case at the end of the journal.
     pub fn snap(&self, actor: &Actor, op: &Name, object: &Name) -> Result<Move, AllocError>
         requires principal { actor.now.principal < length self.now.journal.head.principals }
-        ensures { IfOk result (λ m. move_tree m ≡ snap_move (state_of self.now) actor.now.principal (stage_tree actor.now.stage) op.now object.now) }
+        ensures { IfOk result
+            (λ m. move_tree m
+            ≡ snap_move (state_of self.now) actor.now.principal (stage_tree actor.now.stage) op.now object.now) }
     {
         match &actor.stage {
             Stage::Resting { .. } => self.snapped(actor.principal, op, object),
@@ -99,7 +110,8 @@ impl World {
 
     fn snapped(&self, principal: u32, op: &Name, object: &Name) -> Result<Move, AllocError>
         requires { principal < length self.now.journal.head.principals }
-        ensures { IfOk result (λ m. move_tree m ≡ snap_free (state_of self.now) principal op.now object.now self.now.holder) }
+        ensures { IfOk result
+            (λ m. move_tree m ≡ snap_free (state_of self.now) principal op.now object.now self.now.holder) }
     {
         if self.holder.is_some() {
             return Ok(Move::Idle);

@@ -15,7 +15,9 @@ impl World {
     pub fn look(&self, actor: &Actor, op: &Name, object: &Name) -> Result<Move, AllocError>
         requires principal { actor.now.principal < length self.now.journal.head.principals }
         requires slots { length self.now.slots.items ≡ 4096 }
-        ensures { IfOk result (λ m. move_tree m ≡ look_move (state_of self.now) actor.now.principal (stage_tree actor.now.stage) op.now object.now) }
+        ensures { IfOk result
+            (λ m. move_tree m
+            ≡ look_move (state_of self.now) actor.now.principal (stage_tree actor.now.stage) op.now object.now) }
     {
         match &actor.stage {
             Stage::Resting { .. } => Ok(self.looked(self.place(actor.principal, op, object)?)),
@@ -89,7 +91,8 @@ impl World {
     pub fn store(&self, number: u64, actor: &Actor) -> Move
         requires principal { actor.now.principal < length self.now.journal.head.principals }
         requires regions { length self.now.regions.items ≡ 512 }
-        ensures { move_tree result ≡ store_move (state_of self.now) number actor.now.principal (stage_tree actor.now.stage) }
+        ensures { move_tree result
+            ≡ store_move (state_of self.now) number actor.now.principal (stage_tree actor.now.stage) }
     {
         let _few = self.journal.head().principals.count();
         match &actor.stage {

@@ -43,7 +43,8 @@ impl Machine {
     pub fn new(alloc: Global, journal: Journal, actors: &Vec<u32>) -> Result<Machine, AllocError>
         requires principals { All (λ p. p < length journal.head.principals) actors.now.items }
         requires sessions { greatest_of (entry_trees journal.entries) + length actors.now.items < 2 ^ 64 }
-        ensures state { IfOk result (λ machine. state_in machine ≡ first_state journal.head (entry_trees journal.entries) actors.now.items) }
+        ensures state { IfOk result
+            (λ machine. state_in machine ≡ first_state journal.head (entry_trees journal.entries) actors.now.items) }
         ensures told { IfOk result (λ machine. machine.told ≡ []) }
         ensures idle { IfOk result (λ machine. machine.idle ≡ 0) }
     {
@@ -121,7 +122,9 @@ impl Beginning {
         requires sessions { greatest_of (entry_trees journal.now.entries) + length actors.now.items < 2 ^ 64 }
         ensures slots { IfOk result (λ made. made.slots.items ≡ replicate 4096 None) }
         ensures regions { IfOk result (λ made. made.regions.items ≡ replicate 512 (length journal.now.entries)) }
-        ensures actors { IfOk result (λ made. map actor_tree made.actors.items ≡ first_actors (greatest_of (entry_trees journal.now.entries) + 1) actors.now.items) }
+        ensures actors { IfOk result
+            (λ made. map actor_tree made.actors.items
+            ≡ first_actors (greatest_of (entry_trees journal.now.entries) + 1) actors.now.items) }
         ensures few { OnOk result (length journal.now.head.principals ≤ 64) }
     {
         let _few = journal.head().principals.count();

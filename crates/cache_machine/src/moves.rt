@@ -15,7 +15,9 @@ impl World {
     /// What a step comes to; it changes nothing.
     pub fn plan(&self, step: &Step) -> Result<Move, AllocError>
         requires { IsWorded (state_of self.now) }
-        ensures { IfOk result (λ m. MovesAt (state_of self.now) step.now.actor (slice_get (state_of self.now).actors step.now.actor) (act_tree step.now.act) (move_tree m)) }
+        ensures { IfOk result
+            (λ m. MovesAt (state_of self.now) step.now.actor (slice_get (state_of self.now).actors step.now.actor)
+            (act_tree step.now.act) (move_tree m)) }
     {
         if step.actor >= self.actors.len() as u64 {
             return Ok(Move::Idle);
@@ -34,7 +36,8 @@ impl World {
         requires principal { actor.now.principal < length self.now.journal.head.principals }
         requires slots { length self.now.slots.items ≡ 4096 }
         requires regions { length self.now.regions.items ≡ 512 }
-        ensures { IfOk result (λ m. Moves (state_of self.now) number (actor_tree actor.now) (act_tree act.now) (move_tree m)) }
+        ensures { IfOk result
+            (λ m. Moves (state_of self.now) number (actor_tree actor.now) (act_tree act.now) (move_tree m)) }
     {
         match act {
             Act::Write { event } => self.write(actor, event),
@@ -65,7 +68,8 @@ impl World {
         ensures state { OnOk result (state_of self.new ≡ after_move (state_of self.old) number (move_tree planned)) }
         ensures told { OnOk result (told.new ≡ told.old ++ told_in (move_tree planned)) }
         ensures idle { OnOk result (idle.new ≡ idle_after (move_tree planned) idle.old) }
-        ensures err { OnErr result ((state_of self.new ≡ state_of self.old) × (told.new ≡ told.old) × (idle.new ≡ idle.old)) }
+        ensures err { OnErr result
+            ((state_of self.new ≡ state_of self.old) × (told.new ≡ told.old) × (idle.new ≡ idle.old)) }
     {
         match planned {
             Move::Idle => *idle = idle.saturating_add(1),
@@ -117,8 +121,10 @@ impl World {
     /// An event becomes the journal's next entry. An `Err` says that there was no memory, and changes nothing.
     fn add(&mut self, number: u64, event: Event) -> Result<(), AllocError>
         requires number { number < length self.old.actors.items }
-        requires accepted { IsNextOf (state_of self.old) (slice_get (state_of self.old).actors number) (event_tree event) }
-        ensures ok { OnOk result (state_of self.new ≡ after_move (state_of self.old) number (writes (event_tree event))) }
+        requires accepted { IsNextOf (state_of self.old) (slice_get (state_of self.old).actors number)
+            (event_tree event) }
+        ensures ok { OnOk result
+            (state_of self.new ≡ after_move (state_of self.old) number (writes (event_tree event))) }
         ensures err { OnErr result (state_of self.new ≡ state_of self.old) }
     {
         let Ok(spare) = self.journal.reserve(&event) else {

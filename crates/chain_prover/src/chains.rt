@@ -27,14 +27,23 @@ pub fn find_chain(
     goal: &Formula,
 ) -> Result<Option<Proof>, ChainError>
     ensures not_says { (result ≡ Err ChainError.NotSays) ↔ ¬ IsSays (formula_tree goal.now) }
-    ensures none { IfOk result (λ found. found ≡ None → HasNoChain (map formula_tree labels.now.items) (formula_tree goal.now)) }
-    ensures chain { IfOk result (λ found. IfSome found (λ proof. IsChainProof (map formula_tree labels.now.items) (formula_tree goal.now) (line_trees proof))) }
-    ensures shortest { IfOk result (λ found. IfSome found (λ proof. IsShortest (map formula_tree labels.now.items) (formula_tree goal.now) (line_trees proof))) }
+    ensures none { IfOk result
+        (λ found. found ≡ None → HasNoChain (map formula_tree labels.now.items) (formula_tree goal.now)) }
+    ensures chain { IfOk result
+        (λ found. IfSome found
+        (λ proof. IsChainProof (map formula_tree labels.now.items) (formula_tree goal.now) (line_trees proof))) }
+    ensures shortest { IfOk result
+        (λ found. IfSome found
+        (λ proof. IsShortest (map formula_tree labels.now.items) (formula_tree goal.now) (line_trees proof))) }
     ensures faultless { All IsClosed (map formula_tree labels.now.items)
-        → IfOk result (λ found. IfSome found (λ proof. (k : ℕ) → IsFaultless (line_trees proof) (formula_tree goal.now) k)) }
+        → IfOk result
+        (λ found. IfSome found (λ proof. (k : ℕ) → IsFaultless (line_trees proof) (formula_tree goal.now) k)) }
     ensures derives { All IsClosed (map formula_tree labels.now.items)
-        → IfOk result (λ found. IfSome found (λ _. Derives (map formula_tree labels.now.items) [] (formula_tree goal.now))) }
-    ensures labels { IfOk result (λ found. IfSome found (λ proof. All (Contains (map formula_tree labels.now.items)) (formulas_where is_label (line_trees proof)))) }
+        → IfOk result
+        (λ found. IfSome found (λ _. Derives (map formula_tree labels.now.items) [] (formula_tree goal.now))) }
+    ensures labels { IfOk result
+        (λ found. IfSome found
+        (λ proof. All (Contains (map formula_tree labels.now.items)) (formulas_where is_label (line_trees proof)))) }
 {
     let Formula::Says(principal, statement) = goal else {
         return Err(ChainError::NotSays);

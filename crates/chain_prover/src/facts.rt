@@ -1,6 +1,6 @@
 //! What labels tell of principals, worked out once before a search.
-ghost use Rattle.std.specs.Prelude.{◌≡◌, ◌<◌, Contains, IfOk, IsTrue, List, MatchOption, OnOk, Some, length, map, slice_get, true, ℕ};
-ghost use Rattle.nal_term.specs.Trees.{FormulaTree, TermTree, formula_tree, term_tree, says};
+ghost use Rattle.std.specs.Prelude.{◌≡◌, ◌<◌, Contains, IfOk, OnOk, Some, map, true};
+ghost use Rattle.nal_term.specs.Trees.{TermTree, formula_tree, term_tree, says};
 ghost use Rattle.chain_prover.specs.Chains.{IsStep, Step, next};
 ghost use Rattle.chain_prover.specs.Inner.Numbers.{IsNumber};
 ghost use Rattle.chain_prover.specs.Inner.Knowing.{AreFacts, AreRight, Covers, IsDelegated, IsStating, Keeps, labels_of, statement_of, terms_of};
@@ -95,7 +95,8 @@ impl<'a> Facts<'a> {
         requires among { Contains (labels_of self.old) (says (term_tree owner.now) (formula_tree said.now)) }
         ensures right { OnOk result (AreRight self.new) }
         ensures keeps { OnOk result (Keeps self.old self.new) }
-        ensures states { OnOk result (formula_tree said.now ≡ statement_of self.new → IsStating self.new (term_tree owner.now)) }
+        ensures states { OnOk result
+            (formula_tree said.now ≡ statement_of self.new → IsStating self.new (term_tree owner.now)) }
     {
         if !equal(said, self.statement) {
             return Ok(());
@@ -111,7 +112,9 @@ impl<'a> Facts<'a> {
         requires among { Contains (labels_of self.old) (says (term_tree owner.now) (formula_tree said.now)) }
         ensures right { OnOk result (AreRight self.new) }
         ensures keeps { OnOk result (Keeps self.old self.new) }
-        ensures grants { OnOk result ((x : TermTree) (s : Step) → Grants (statement_of self.new) (says (term_tree owner.now) (formula_tree said.now)) x s
+        ensures grants { OnOk result
+            ((x : TermTree) (s : Step)
+            → Grants (statement_of self.new) (says (term_tree owner.now) (formula_tree said.now)) x s
             → IsDelegated self.new (next x s) x) }
     {
         let Some(grant) = granted(said, owner, self.statement) else {
@@ -123,10 +126,12 @@ impl<'a> Facts<'a> {
     /// Adds that the owner lets another principal state the statement. An `Err` is want of memory.
     fn add_delegation(&mut self, owner: &'a Term, grant: Grant<'a>) -> Result<(), AllocError>
         requires right { AreRight self.old }
-        requires step { IsStep (labels_of self.old) (statement_of self.old) (term_tree grant.speaker.now) (grant_step (term_tree owner.now) grant.scope) }
+        requires step { IsStep (labels_of self.old) (statement_of self.old) (term_tree grant.speaker.now)
+            (grant_step (term_tree owner.now) grant.scope) }
         ensures right { OnOk result (AreRight self.new) }
         ensures keeps { OnOk result (Keeps self.old self.new) }
-        ensures delegates { OnOk result (IsDelegated self.new (term_tree owner.now) (term_tree grant.entry.speaker.now)) }
+        ensures delegates { OnOk result
+            (IsDelegated self.new (term_tree owner.now) (term_tree grant.entry.speaker.now)) }
     {
         let owner = self.number(owner)?;
         let speaker = self.number(grant.speaker)?;

@@ -23,8 +23,10 @@ pub fn granted<'a>(
     statement: &Formula,
 ) -> Option<Grant<'a>>
     ensures { MatchOption result
-        ((x : TermTree) (s : Step) → next x s ≡ term_tree principal.now → ¬ Grants (formula_tree statement.now) (says (term_tree principal.now) (formula_tree delegation.now)) x s)
-        (λ g. Grants (formula_tree statement.now) (says (term_tree principal.now) (formula_tree delegation.now)) (term_tree g.speaker.now) (grant_step (term_tree principal.now) g.scope)) }
+        ((x : TermTree) (s : Step) → next x s ≡ term_tree principal.now
+        → ¬ Grants (formula_tree statement.now) (says (term_tree principal.now) (formula_tree delegation.now)) x s)
+        (λ g. Grants (formula_tree statement.now) (says (term_tree principal.now) (formula_tree delegation.now))
+        (term_tree g.speaker.now) (grant_step (term_tree principal.now) g.scope)) }
 {
     match delegation {
         Formula::SpeaksFor(speaker, other) if equal_terms(other, principal) => Some(Grant {

@@ -14,8 +14,11 @@ use std::alloc::{AllocError, Global};
 
 /// The proof of the chain along the path. An `Err` is want of memory.
 pub fn proof_of(alloc: Global, path: &Path<'_>, statement: &Formula) -> Result<Proof, AllocError>
-    requires { (labels : List FormulaTree) × (b : TermTree) × (n : ℕ) × IsPath labels (formula_tree statement.now) b path.now.nodes.items path.now.first n × (n < 256) }
-    ensures { IfOk result (λ proof. (labels : List FormulaTree) (b : TermTree) (n : ℕ) → IsPath labels (formula_tree statement.now) b path.now.nodes.items path.now.first n
+    requires { (labels : List FormulaTree) × (b : TermTree) × (n : ℕ)
+        × IsPath labels (formula_tree statement.now) b path.now.nodes.items path.now.first n × (n < 256) }
+    ensures { IfOk result
+        (λ proof. (labels : List FormulaTree) (b : TermTree) (n : ℕ)
+        → IsPath labels (formula_tree statement.now) b path.now.nodes.items path.now.first n
         → IsProofAlong labels (formula_tree statement.now) b (line_trees proof) n) }
 {
     let mut proof = Proof::new(alloc);
@@ -52,7 +55,8 @@ fn add_grant(
 ) -> Result<(), AllocError>
     requires { length proof.old ≤ 253 }
     ensures { OnOk result (line_trees proof.new ≡ line_trees proof.old
-        ++ step_lines (formula_tree statement.now) (length proof.old) (term_tree speaker.now) (grant_step (term_tree owner.now) scope.entry)) }
+        ++ step_lines (formula_tree statement.now) (length proof.old) (term_tree speaker.now)
+        (grant_step (term_tree owner.now) scope.entry)) }
 {
     let last = proof.count();
     let (handoff, says) = match scope {
@@ -79,7 +83,9 @@ fn add_part(
     statement: &Formula,
 ) -> Result<(), AllocError>
     requires { length proof.old ≤ 254 }
-    ensures { OnOk result ((n : List ℕ) → term_tree part.now ≡ subprincipal (term_tree whole.now) n → line_trees proof.new ≡ line_trees proof.old
+    ensures { OnOk result
+        ((n : List ℕ) → term_tree part.now ≡ subprincipal (term_tree whole.now) n
+        → line_trees proof.new ≡ line_trees proof.old
         ++ step_lines (formula_tree statement.now) (length proof.old) (term_tree whole.now) (chains.part n)) }
 {
     let last = proof.count();
@@ -99,7 +105,8 @@ fn add(proof: &mut Proof, rule: Rule, refs: &[u64], formula: Formula) -> Result<
     requires count { length refs.now ≡ reference_count rule }
     requires term { takes_term rule ≡ false }
     requires room { length proof.old < 256 }
-    ensures { OnOk result (line_trees proof.new ≡ line_trees proof.old ++ line rule refs.now (formula_tree formula) ∷ []) }
+    ensures { OnOk result
+        (line_trees proof.new ≡ line_trees proof.old ++ line rule refs.now (formula_tree formula) ∷ []) }
 {
     let Some(refs) = Refs::of(refs) else {
         unreachable!()
@@ -124,7 +131,8 @@ fn delegation(
     owner: &Term,
     scope: Option<&Scope>,
 ) -> Result<Formula, AllocError>
-    ensures { IfOk result (λ f. formula_tree f ≡ delegation_tree (term_tree speaker.now) (term_tree owner.now) scope.entry) }
+    ensures { IfOk result
+        (λ f. formula_tree f ≡ delegation_tree (term_tree speaker.now) (term_tree owner.now) scope.entry) }
 {
     let speaker = speaker.copy(alloc)?;
     let owner = owner.copy(alloc)?;

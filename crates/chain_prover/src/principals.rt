@@ -2,7 +2,7 @@
 ghost use Rattle.std.specs.Prelude.{◌≡◌, ◌≤◌, ◌+◌, ◌++◌, ◌↔◌, IfOk, IsTrue, List, MatchOption, OnOk, [], ℕ, length};
 ghost use Rattle.std.specs.Borrow.{Bor};
 ghost use Rattle.nal_term.specs.declared.terms.Term.{Term};
-ghost use Rattle.nal_term.specs.Trees.{TermTree, term_tree};
+ghost use Rattle.nal_term.specs.Trees.{term_tree};
 ghost use Rattle.chain_prover.specs.Inner.Numbers.{AreNumbered, IsNumber, size_of, with_one_more};
 
 use nal_term::{Term, equal_terms, term_size};
@@ -56,7 +56,8 @@ impl<'a> Principals<'a> {
     pub fn find(&self, term: &'a Term, size: u64) -> Option<usize>
         requires numbered { AreNumbered self.now.terms.items self.now.numbers self.now.sizes.items }
         requires size { size ≡ size_of (term_tree term.now) }
-        ensures { MatchOption result ((i : ℕ) → ¬ IsNumber self.now.terms.items i (term_tree term.now)) (λ i. IsNumber self.now.terms.items i (term_tree term.now)) }
+        ensures { MatchOption result ((i : ℕ) → ¬ IsNumber self.now.terms.items i (term_tree term.now))
+            (λ i. IsNumber self.now.terms.items i (term_tree term.now)) }
     {
         match self.sizes[size as usize % SIZES] {
             OfSize::Nobody => None,

@@ -2,14 +2,14 @@
 //!
 //! The nodes with the fewest lines are expanded first, so the first one whose principal states it by a label has the
 //! fewest lines of all. Of the principals that labels name each is expanded once: its first node has the fewest lines.
-ghost use Rattle.std.specs.Prelude.{◌≡◌, ◌<◌, ◌≤◌, ◌+◌, ◌-◌, ◌^◌, ◌↔◌, Contains, IfOk, IsTrue, MatchOption, OnOk, length, min, slice_get, true, ℕ, List, Some};
+ghost use Rattle.std.specs.Prelude.{◌≡◌, ◌<◌, ◌+◌, ◌-◌, ◌^◌, ◌↔◌, Contains, IfOk, IsTrue, MatchOption, OnOk, length, min, slice_get, true, ℕ, List, Some};
 ghost use Rattle.nal_term.specs.Size.{term_node_count};
 ghost use Rattle.nal_term.specs.Trees.{FormulaTree, TermTree, says, subprincipal, term_tree};
 ghost use Rattle.chain_prover.specs.declared.facts.Delegation.{Delegation};
-ghost use Rattle.chain_prover.specs.Chains.{IsStep, Step, next};
+ghost use Rattle.chain_prover.specs.Chains.{next};
 ghost use Rattle.chain_prover.specs.Inner.Numbers.{IsNumber, size_of};
 ghost use Rattle.chain_prover.specs.Inner.Knowing.{AreFacts, labels_of, statement_of, terms_of};
-ghost use Rattle.chain_prover.specs.Inner.Paths.{AreBelow, AreDone, AreExpandedBelow, AreKnown, AreLinked, Extends, IsExpanded, IsFound, IsKnown, IsReached, IsReachedWithin, IsShortestPath, NeedsMore, step_count};
+ghost use Rattle.chain_prover.specs.Inner.Paths.{AreBelow, AreDone, AreExpandedBelow, AreKnown, AreLinked, Extends, IsExpanded, IsFound, IsKnown, IsReached, IsReachedWithin, IsShortestPath, NeedsMore};
 
 use crate::facts::Facts;
 use crate::paths::{Lead, Node, Path};
@@ -37,7 +37,9 @@ pub fn shortest_path<'a>(
     requires { AreFacts facts.now }
     ensures { IfOk result (λ found. MatchOption found
         (NeedsMore (labels_of facts.now) (statement_of facts.now) (term_tree principal.now) 256)
-        (λ path. (n : ℕ) × IsShortestPath (labels_of facts.now) (statement_of facts.now) (term_tree principal.now) path.nodes.items path.first n)) }
+        (λ path. (n : ℕ)
+        × IsShortestPath (labels_of facts.now) (statement_of facts.now) (term_tree principal.now) path.nodes.items
+        path.first n)) }
 {
     let mut search = Search::new(alloc, facts, principal)?;
     let mut from = 0;
@@ -57,10 +59,14 @@ impl<'a> Search<'a> {
     /// The goal's principal alone.
     fn new(alloc: Global, facts: &Facts<'a>, principal: &'a Term) -> Result<Search<'a>, AllocError>
         requires { AreFacts facts.now }
-        ensures linked { IfOk result (λ search. (ls : List FormulaTree) (f : FormulaTree) → AreLinked ls f (term_tree principal.now) search.nodes.items) }
+        ensures linked { IfOk result
+            (λ search. (ls : List FormulaTree) (f : FormulaTree)
+            → AreLinked ls f (term_tree principal.now) search.nodes.items) }
         ensures known { IfOk result (λ search. AreKnown (terms_of facts.now) search.nodes.items) }
         ensures goal { IfOk result (λ search. IsReached search.nodes.items (term_tree principal.now) 0) }
-        ensures done { IfOk result (λ search. AreDone (terms_of facts.now) (labels_of facts.now) (statement_of facts.now) search.nodes.items search.expanded.items 0) }
+        ensures done { IfOk result
+            (λ search. AreDone (terms_of facts.now) (labels_of facts.now) (statement_of facts.now) search.nodes.items
+            search.expanded.items 0) }
     {
         let size = term_size(principal);
         let mut nodes = Vec::new(alloc);
@@ -100,11 +106,17 @@ impl<'a> Search<'a> {
         requires bound { lines < 256 }
         requires passed { AreBelow self.old.nodes.items from lines }
         requires known { AreKnown (terms_of facts.now) self.old.nodes.items }
-        requires done { AreDone (terms_of facts.now) (labels_of facts.now) (statement_of facts.now) self.old.nodes.items self.old.expanded.items lines }
+        requires done { AreDone (terms_of facts.now) (labels_of facts.now) (statement_of facts.now) self.old.nodes.items
+            self.old.expanded.items lines }
         requires expanded { AreExpandedBelow (labels_of facts.now) (statement_of facts.now) self.old.nodes.items lines }
-        ensures extends { OnOk result (Extends (terms_of facts.now) (labels_of facts.now) (statement_of facts.now) self.old.nodes.items self.new.nodes.items lines) }
-        ensures done { OnOk result (AreDone (terms_of facts.now) (labels_of facts.now) (statement_of facts.now) self.new.nodes.items self.new.expanded.items lines) }
-        ensures expanded { OnOk result (AreExpandedBelow (labels_of facts.now) (statement_of facts.now) self.new.nodes.items lines) }
+        ensures extends { OnOk result
+            (Extends (terms_of facts.now) (labels_of facts.now) (statement_of facts.now) self.old.nodes.items
+            self.new.nodes.items lines) }
+        ensures done { OnOk result
+            (AreDone (terms_of facts.now) (labels_of facts.now) (statement_of facts.now) self.new.nodes.items
+            self.new.expanded.items lines) }
+        ensures expanded { OnOk result
+            (AreExpandedBelow (labels_of facts.now) (statement_of facts.now) self.new.nodes.items lines) }
         ensures found { IfOk result (λ found. MatchOption found
             (AreExpandedBelow (labels_of facts.now) (statement_of facts.now) self.new.nodes.items (lines + 1))
             (λ place. IsFound (labels_of facts.now) (statement_of facts.now) self.new.nodes.items place lines)) }
@@ -124,7 +136,8 @@ impl<'a> Search<'a> {
     /// Whether labels name the principal of the node, and a node of it was expanded.
     fn is_expanded(&self, node: Node<'a>) -> bool
         requires { (i : ℕ) → node.number ≡ Some i → i < length self.now.expanded.items }
-        ensures { IsTrue result → (i : ℕ) × (node.entry.number ≡ Some i) × (slice_get self.now.expanded.items i ≡ Some true) }
+        ensures { IsTrue result
+            → (i : ℕ) × (node.entry.number ≡ Some i) × (slice_get self.now.expanded.items i ≡ Some true) }
     {
         match node.number {
             Some(number) => self.expanded[number],
@@ -138,11 +151,19 @@ impl<'a> Search<'a> {
         requires known { IsKnown (terms_of facts.now) node }
         requires bound { node.lines < 256 }
         requires stands { slice_get self.old.nodes.items place ≡ Some node }
-        requires unsaid { ¬ Contains (labels_of facts.now) (says (term_tree node.principal.now) (statement_of facts.now)) }
-        requires done { AreDone (terms_of facts.now) (labels_of facts.now) (statement_of facts.now) self.old.nodes.items self.old.expanded.items node.lines }
-        ensures extends { OnOk result (Extends (terms_of facts.now) (labels_of facts.now) (statement_of facts.now) self.old.nodes.items self.new.nodes.items node.entry.lines) }
-        ensures done { OnOk result (AreDone (terms_of facts.now) (labels_of facts.now) (statement_of facts.now) self.new.nodes.items self.new.expanded.items node.entry.lines) }
-        ensures expanded { OnOk result (IsExpanded (labels_of facts.now) (statement_of facts.now) self.new.nodes.items (term_tree node.entry.principal.now) node.entry.lines) }
+        requires unsaid { ¬ Contains (labels_of facts.now)
+            (says (term_tree node.principal.now) (statement_of facts.now)) }
+        requires done { AreDone (terms_of facts.now) (labels_of facts.now) (statement_of facts.now) self.old.nodes.items
+            self.old.expanded.items node.lines }
+        ensures extends { OnOk result
+            (Extends (terms_of facts.now) (labels_of facts.now) (statement_of facts.now) self.old.nodes.items
+            self.new.nodes.items node.entry.lines) }
+        ensures done { OnOk result
+            (AreDone (terms_of facts.now) (labels_of facts.now) (statement_of facts.now) self.new.nodes.items
+            self.new.expanded.items node.entry.lines) }
+        ensures expanded { OnOk result
+            (IsExpanded (labels_of facts.now) (statement_of facts.now) self.new.nodes.items
+            (term_tree node.entry.principal.now) node.entry.lines) }
     {
         self.add_whole(facts, node, place)?;
         let Some(number) = node.number else {
@@ -164,9 +185,12 @@ impl<'a> Search<'a> {
         requires size { node.size ≡ size_of (term_tree node.principal.now) }
         requires bound { node.lines < 256 }
         requires stands { slice_get self.old.nodes.items place ≡ Some node }
-        ensures extends { OnOk result (Extends (terms_of facts.now) (labels_of facts.now) (statement_of facts.now) self.old.nodes.items self.new.nodes.items node.entry.lines) }
+        ensures extends { OnOk result
+            (Extends (terms_of facts.now) (labels_of facts.now) (statement_of facts.now) self.old.nodes.items
+            self.new.nodes.items node.entry.lines) }
         ensures expanded { self.new.expanded ≡ self.old.expanded }
-        ensures reached { OnOk result ((x : TermTree) (n : List ℕ) → term_tree node.entry.principal.now ≡ subprincipal x n
+        ensures reached { OnOk result
+            ((x : TermTree) (n : List ℕ) → term_tree node.entry.principal.now ≡ subprincipal x n
             → IsReachedWithin self.new.nodes.items x (node.entry.lines + 2)) }
     {
         if let Term::Sub(whole, _) = node.principal {
@@ -194,10 +218,14 @@ impl<'a> Search<'a> {
         requires number { IsNumber (terms_of facts.now) number (term_tree node.principal.now) }
         requires bound { node.lines < 256 }
         requires stands { slice_get self.old.nodes.items place ≡ Some node }
-        ensures extends { OnOk result (Extends (terms_of facts.now) (labels_of facts.now) (statement_of facts.now) self.old.nodes.items self.new.nodes.items node.entry.lines) }
+        ensures extends { OnOk result
+            (Extends (terms_of facts.now) (labels_of facts.now) (statement_of facts.now) self.old.nodes.items
+            self.new.nodes.items node.entry.lines) }
         ensures expanded { self.new.expanded ≡ self.old.expanded }
-        ensures reached { OnOk result ((j : ℕ) (d : Delegation) → slice_get facts.now.delegations.items j ≡ Some d → d.owner ≡ number
-            → (x : TermTree) → IsNumber (terms_of facts.now) d.speaker x → IsReachedWithin self.new.nodes.items x (node.entry.lines + 3)) }
+        ensures reached { OnOk result
+            ((j : ℕ) (d : Delegation) → slice_get facts.now.delegations.items j ≡ Some d → d.owner ≡ number
+            → (x : TermTree) → IsNumber (terms_of facts.now) d.speaker x
+            → IsReachedWithin self.new.nodes.items x (node.entry.lines + 3)) }
     {
         if !facts.granting[number] {
             return Ok(());
@@ -222,10 +250,14 @@ impl<'a> Search<'a> {
         requires number { IsNumber (terms_of facts.now) number (term_tree node.principal.now) }
         requires bound { node.lines < 256 }
         requires stands { slice_get self.old.nodes.items place ≡ Some node }
-        ensures extends { OnOk result (Extends (terms_of facts.now) (labels_of facts.now) (statement_of facts.now) self.old.nodes.items self.new.nodes.items node.entry.lines) }
+        ensures extends { OnOk result
+            (Extends (terms_of facts.now) (labels_of facts.now) (statement_of facts.now) self.old.nodes.items
+            self.new.nodes.items node.entry.lines) }
         ensures expanded { self.new.expanded ≡ self.old.expanded }
-        ensures reached { OnOk result ((d : Delegation) → slice_get facts.now.delegations.items delegation ≡ Some d → d.owner ≡ number
-            → (x : TermTree) → IsNumber (terms_of facts.now) d.speaker x → IsReachedWithin self.new.nodes.items x (node.entry.lines + 3)) }
+        ensures reached { OnOk result
+            ((d : Delegation) → slice_get facts.now.delegations.items delegation ≡ Some d → d.owner ≡ number
+            → (x : TermTree) → IsNumber (terms_of facts.now) d.speaker x
+            → IsReachedWithin self.new.nodes.items x (node.entry.lines + 3)) }
     {
         let made = facts.delegations[delegation];
         if made.owner != number {
@@ -250,7 +282,8 @@ impl<'a> Search<'a> {
 fn states(facts: &Facts<'_>, node: Node<'_>) -> bool
     requires facts { AreFacts facts.now }
     requires known { IsKnown (terms_of facts.now) node }
-    ensures { IsTrue result ↔ Contains (labels_of facts.now) (says (term_tree node.entry.principal.now) (statement_of facts.now)) }
+    ensures { IsTrue result ↔ Contains (labels_of facts.now)
+        (says (term_tree node.entry.principal.now) (statement_of facts.now)) }
 {
     match node.number {
         Some(number) => facts.stating[number],

@@ -1,6 +1,6 @@
 //! Reading the lines of an input one by one.
 ghost use Rattle.std.specs.Prelude.{◌≡◌, ◌≢◌, ◌<◌, ◌^◌, IfErr, IfOk, length};
-ghost use Rattle.form_lines.specs.Reading.{IsWrongAt, LeadsThrough};
+ghost use Rattle.form_lines.specs.Reading.{LeadsThrough};
 ghost use Rattle.form_lines.specs.Inner.Errors.{IsFormError};
 
 use crate::statements::LineError;

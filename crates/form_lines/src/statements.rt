@@ -97,7 +97,8 @@ pub fn goal_for_subject(
     goal: &Formula,
     subject: &Name,
 ) -> Result<Formula, AllocError>
-    ensures { IfOk result (λ g. formula_with (codes "subject") (tree.name subject.now) (formula_tree goal.now) ≡ Some (formula_tree g)) }
+    ensures { IfOk result
+        (λ g. formula_with (codes "subject") (tree.name subject.now) (formula_tree goal.now) ≡ Some (formula_tree g)) }
 {
     let Some(variable) = subject_variable(alloc) else {
         return Err(AllocError);

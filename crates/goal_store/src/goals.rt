@@ -73,8 +73,10 @@ impl GoalStore {
     /// last. It takes no memory.
     pub fn set(&mut self, op: Name, object: u64, goal: Formula)
         requires room { 1 ≤ self.old.spare }
-        ensures known { (k : ℕ) → goal_place (goals self.old) op object ≡ Some k → goals self.new ≡ slice_set (goals self.old) k (op, object, formula_tree goal) }
-        ensures fresh { goal_place (goals self.old) op object ≡ None → goals self.new ≡ goals self.old ++ (op, object, formula_tree goal) ∷ [] }
+        ensures known { (k : ℕ) → goal_place (goals self.old) op object ≡ Some k
+            → goals self.new ≡ slice_set (goals self.old) k (op, object, formula_tree goal) }
+        ensures fresh { goal_place (goals self.old) op object ≡ None
+            → goals self.new ≡ goals self.old ++ (op, object, formula_tree goal) ∷ [] }
         ensures ports { ports self.new ≡ ports self.old }
         ensures spare { self.old.spare ≤ self.new.spare + 1 }
     {
@@ -86,7 +88,9 @@ impl GoalStore {
     /// there was none, and nothing changes then.
     pub fn clear(&mut self, op: &Name, object: u64) -> bool
         ensures had { result ≡ is_some (goal_of (goals self.old) op.now object) }
-        ensures removed { IsTrue result → (k : ℕ) × (goal_place (goals self.old) op.now object ≡ Some k) × (goals self.new ≡ remove (goals self.old) k) }
+        ensures removed { IsTrue result
+            → (k : ℕ) × (goal_place (goals self.old) op.now object ≡ Some k)
+            × (goals self.new ≡ remove (goals self.old) k) }
         ensures unchanged { result ≡ false → goals self.new ≡ goals self.old }
         ensures ports { ports self.new ≡ ports self.old }
         ensures spare { self.old.spare ≤ self.new.spare }
@@ -118,8 +122,10 @@ impl GoalStore {
     /// memory.
     pub fn bind(&mut self, principal: Term, port: u64)
         requires room { 1 ≤ self.old.spare }
-        ensures known { (k : ℕ) → port_place (ports self.old) (term_tree principal) ≡ Some k → ports self.new ≡ slice_set (ports self.old) k (term_tree principal, port) }
-        ensures fresh { port_place (ports self.old) (term_tree principal) ≡ None → ports self.new ≡ ports self.old ++ (term_tree principal, port) ∷ [] }
+        ensures known { (k : ℕ) → port_place (ports self.old) (term_tree principal) ≡ Some k
+            → ports self.new ≡ slice_set (ports self.old) k (term_tree principal, port) }
+        ensures fresh { port_place (ports self.old) (term_tree principal) ≡ None
+            → ports self.new ≡ ports self.old ++ (term_tree principal, port) ∷ [] }
         ensures goals { goals self.new ≡ goals self.old }
         ensures spare { self.old.spare ≤ self.new.spare + 1 }
     {
@@ -130,7 +136,9 @@ impl GoalStore {
     /// nothing changes then.
     pub fn unbind(&mut self, principal: &Term) -> bool
         ensures had { result ≡ is_some (port_of (ports self.old) (term_tree principal.now)) }
-        ensures removed { IsTrue result → (k : ℕ) × (port_place (ports self.old) (term_tree principal.now) ≡ Some k) × (ports self.new ≡ remove (ports self.old) k) }
+        ensures removed { IsTrue result
+            → (k : ℕ) × (port_place (ports self.old) (term_tree principal.now) ≡ Some k)
+            × (ports self.new ≡ remove (ports self.old) k) }
         ensures unchanged { result ≡ false → ports self.new ≡ ports self.old }
         ensures goals { goals self.new ≡ goals self.old }
         ensures spare { self.old.spare ≤ self.new.spare }

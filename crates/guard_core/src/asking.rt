@@ -25,7 +25,8 @@ pub fn ask_lines<P: Panel, R: Net<Listener = TcpListener, Stream = TcpStream> + 
 ) -> Result<Finding, GuardError>
     requires askable { AreAskable (line_trees proof.now) (map binding_tree bound.now) }
     ensures asked { HasOnlyAsked (P.history panel.old) (P.history panel.new) }
-    ensures answered { HaveAnswered (line_trees proof.now) (map binding_tree bound.now) (asked_since (P.history panel.old) (P.history panel.new)) result }
+    ensures answered { HaveAnswered (line_trees proof.now) (map binding_tree bound.now)
+        (asked_since (P.history panel.old) (P.history panel.new)) result }
 {
     let mut asks = 0;
     for index in 0..proof.count() {
@@ -52,7 +53,9 @@ fn ask_line<P: Panel, R: Net<Listener = TcpListener, Stream = TcpStream> + Clock
     requires askable { AreAskable (line_trees proof.now) (map binding_tree bound.now) }
     ensures none { IfNone result ((p : TermTree) (s : FormulaTree) → ¬ IsAskOf (line_trees proof.now) number p s) }
     ensures silent { IfNone result (asked_since (P.history panel.old) (P.history panel.new) ≡ []) }
-    ensures told { IfSome result (λ answer. IsAskedAt (line_trees proof.now) (map binding_tree bound.now) number answer [] (asked_since (P.history panel.old) (P.history panel.new))) }
+    ensures told { IfSome result
+        (λ answer. IsAskedAt (line_trees proof.now) (map binding_tree bound.now) number answer []
+        (asked_since (P.history panel.old) (P.history panel.new))) }
     ensures asked { HasOnlyAsked (P.history panel.old) (P.history panel.new) }
 {
     let (principal, statement) = question(proof, number)?;

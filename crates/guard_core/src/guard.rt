@@ -26,8 +26,10 @@ pub fn judge<P: Panel, R: Net<Listener = TcpListener, Stream = TcpStream> + Cloc
     panel: &mut P,
 ) -> Result<Finding, GuardError>
     ensures asked { HasOnlyAsked (P.history panel.old) (P.history panel.new) }
-    ensures judged { IfOk result (λ finding. IsJudged (case_tree case.now) (asked_since (P.history panel.old) (P.history panel.new)) finding) }
-    ensures broken_off { IfErr result (λ error. IsBrokenOff (case_tree case.now) (asked_since (P.history panel.old) (P.history panel.new)) error) }
+    ensures judged { IfOk result
+        (λ finding. IsJudged (case_tree case.now) (asked_since (P.history panel.old) (P.history panel.new)) finding) }
+    ensures broken_off { IfErr result
+        (λ error. IsBrokenOff (case_tree case.now) (asked_since (P.history panel.old) (P.history panel.new)) error) }
 {
     let Some(goal) = &case.goal else {
         return Ok(Finding::Denied(Cause::GoalUnset));

@@ -49,7 +49,8 @@ pub fn holding_of(
 
 /// Whether the entry said the formula, and its label is the principal's by the tenure.
 fn holds(entry: &Entry, tenure: Tenure, principal: u32, formula: &Formula) -> bool
-    ensures { IsTrue result ↔ ((tenure.holder ≡ Some principal) × (label_of (entry_tree entry.now).event ≡ Some (formula_tree formula.now))) }
+    ensures { IsTrue result ↔
+        ((tenure.holder ≡ Some principal) × (label_of (entry_tree entry.now).event ≡ Some (formula_tree formula.now))) }
 {
     tenure.holder == Some(principal) && says(entry, formula)
 }

@@ -62,7 +62,8 @@ fn first_holder(entry: &Entry) -> Option<u32>
 fn hand_over(journal: &Journal, tenures: &mut Vec<Tenure>, index: usize)
     requires within { index < length journal.now.entries }
     requires before { AreTenures journal.now.head (take index (entry_trees journal.now.entries)) tenures.old.items }
-    ensures { AreHandedOver journal.now.head (take (index + 1) (entry_trees journal.now.entries)) index tenures.new.items }
+    ensures { AreHandedOver journal.now.head (take (index + 1) (entry_trees journal.now.entries)) index
+        tenures.new.items }
 {
     let _legal = journal.count();
     let entry = &journal.entries()[index];

@@ -3,7 +3,7 @@
 //! are made anew from the rows.
 ghost use Rattle.std.specs.Prelude.{ℕ, ◌≡◌, ◌+◌, ◌<◌, ◌≤◌, ◌^◌, None, length, cond};
 ghost use Rattle.indexmap.specs.IndexMap.{get, index_map_len, spare};
-ghost use Rattle.label_store.specs.Inner.Kept.{same_key, count_of, counted, AreCounted};
+ghost use Rattle.label_store.specs.Inner.Kept.{same_key, count_of, counted};
 
 use crate::rows::Rows;
 use indexmap::IndexMap;

@@ -105,8 +105,12 @@ impl LabelStore {
     /// `Err` changes nothing.
     pub fn transfer(&mut self, number: u64, from: u32, to: u32) -> Result<(), LabelRefusal>
         ensures no_label { (result ≡ Err LabelRefusal.NoSuchLabel) ↔ (holder_of (rows self.old) number ≡ None) }
-        ensures not_holder { (result ≡ Err LabelRefusal.NotHolder) ↔ ((h : ℕ) × (holder_of (rows self.old) number ≡ Some h) × (h ≢ from)) }
-        ensures moved { OnOk result ((k : ℕ) × (row : LabelRow) × (label_place (rows self.old) number ≡ Some k) × (slice_get (rows self.old) k ≡ Some row) × (rows self.new ≡ slice_set (rows self.old) k (number, to, row.2))) }
+        ensures not_holder { (result ≡ Err LabelRefusal.NotHolder) ↔
+            ((h : ℕ) × (holder_of (rows self.old) number ≡ Some h) × (h ≢ from)) }
+        ensures moved { OnOk result
+            ((k : ℕ) × (row : LabelRow) × (label_place (rows self.old) number ≡ Some k)
+            × (slice_get (rows self.old) k ≡ Some row)
+            × (rows self.new ≡ slice_set (rows self.old) k (number, to, row.2))) }
         ensures err { OnErr result (rows self.new ≡ rows self.old) }
         ensures spare { self.old.spare ≤ self.new.spare }
     {
@@ -124,8 +128,10 @@ impl LabelStore {
     /// `NotHolder` exactly where another than `from` holds it. An `Err` changes nothing.
     pub fn delete(&mut self, number: u64, from: u32) -> Result<(), LabelRefusal>
         ensures no_label { (result ≡ Err LabelRefusal.NoSuchLabel) ↔ (holder_of (rows self.old) number ≡ None) }
-        ensures not_holder { (result ≡ Err LabelRefusal.NotHolder) ↔ ((h : ℕ) × (holder_of (rows self.old) number ≡ Some h) × (h ≢ from)) }
-        ensures removed { OnOk result ((k : ℕ) × (label_place (rows self.old) number ≡ Some k) × (rows self.new ≡ remove (rows self.old) k)) }
+        ensures not_holder { (result ≡ Err LabelRefusal.NotHolder) ↔
+            ((h : ℕ) × (holder_of (rows self.old) number ≡ Some h) × (h ≢ from)) }
+        ensures removed { OnOk result
+            ((k : ℕ) × (label_place (rows self.old) number ≡ Some k) × (rows self.new ≡ remove (rows self.old) k)) }
         ensures err { OnErr result (rows self.new ≡ rows self.old) }
         ensures spare { self.old.spare ≤ self.new.spare }
     {
@@ -179,7 +185,8 @@ impl LabelStore {
     /// more than one.
     pub fn label(&self, holder: u32, k: u64) -> Option<&Formula>
         ensures zero { k ≡ 0 → option_copied result ≡ None }
-        ensures value { 0 < k → option_map formula_tree (option_copied result) ≡ slice_get (labels_of (rows self.now) holder) (k - 1) }
+        ensures value { 0 < k
+            → option_map formula_tree (option_copied result) ≡ slice_get (labels_of (rows self.now) holder) (k - 1) }
     {
         if k == 0 {
             return None;
@@ -198,8 +205,10 @@ impl LabelStore {
 // The index of the label's row and the place of its formula, where `from` holds it.
 fn held_row(rows: &Rows, number: u64, from: u32) -> Result<(usize, usize), LabelRefusal>
     ensures no_label { (result ≡ Err LabelRefusal.NoSuchLabel) ↔ (holder_in rows.now.entries number ≡ None) }
-    ensures not_holder { (result ≡ Err LabelRefusal.NotHolder) ↔ ((h : ℕ) × (holder_in rows.now.entries number ≡ Some h) × (h ≢ from)) }
-    ensures row { IfOk result (λ r. IsRowOf rows.now.entries number r.0 (record { holder = from; place = r.1; live = true })) }
+    ensures not_holder { (result ≡ Err LabelRefusal.NotHolder) ↔
+        ((h : ℕ) × (holder_in rows.now.entries number ≡ Some h) × (h ≢ from)) }
+    ensures row { IfOk result
+        (λ r. IsRowOf rows.now.entries number r.0 (record { holder = from; place = r.1; live = true })) }
     ensures within { IfOk result (λ r. r.0 < length rows.now.entries) }
 {
     let (index, row) = match find_row(rows, number) {

@@ -38,7 +38,8 @@ pub fn find_row(rows: &Rows, number: u64) -> Option<(usize, Holding)>
 
 /// The first row of this principal from an index on, and the index after it.
 pub fn next_held(rows: &Rows, holder: u32, first: usize) -> Option<(usize, Holding)>
-    ensures next { IfSome result (λ r. (n : ℕ) × (held_from rows.now.entries holder first ≡ (n, r.1) ∷ held_from rows.now.entries holder r.0)) }
+    ensures next { IfSome result
+        (λ r. (n : ℕ) × (held_from rows.now.entries holder first ≡ (n, r.1) ∷ held_from rows.now.entries holder r.0)) }
     ensures row { IfSome result (λ r. (k : ℕ) × (slice_get (values rows.now) k ≡ Some r.1)) }
     ensures none { IfNone result (held_from rows.now.entries holder first ≡ []) }
 {
@@ -76,7 +77,8 @@ pub fn push_row(rows: &mut Rows, number: u64, row: Holding)
 /// them.
 pub fn remove_row(rows: &mut Rows, holes: &mut usize, index: usize)
     requires within { index < length rows.old.entries }
-    ensures removed { (w : Holding) × (slice_get (values rows.old) index ≡ Some w) × IsTidied (set_value_at rows.old.entries index (hole w)) rows.new.entries }
+    ensures removed { (w : Holding) × (slice_get (values rows.old) index ≡ Some w)
+        × IsTidied (set_value_at rows.old.entries index (hole w)) rows.new.entries }
     ensures spare { spare rows.old ≤ spare rows.new }
 {
     rows[index].live = false;

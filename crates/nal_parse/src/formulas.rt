@@ -1,9 +1,9 @@
-ghost use Rattle.std.specs.Prelude.{◌≡◌, ◌≢◌, ◌<◌, ◌≤◌, ◌-◌, ◌+◌, ℕ, List, [], length, Some, None, IfOk, IfErr, IsTrue};
+ghost use Rattle.std.specs.Prelude.{◌≡◌, ◌≢◌, ◌<◌, ◌≤◌, ◌-◌, ℕ, List, [], length, Some, None, IfOk};
 ghost use Rattle.nal_term.specs.Names.{IsName};
 ghost use Rattle.nal_term.specs.Trees.{term_tree};
 ghost use Rattle.nal_term.specs.Trees as tree;
 ghost use Rattle.nal_parse.specs.Tokens as lexeme;
-ghost use Rattle.nal_parse.specs.Tokens.{lexeme_of, next_cut};
+ghost use Rattle.nal_parse.specs.Tokens.{lexeme_of};
 ghost use Rattle.nal_parse.specs.Grammar.{ReadsFormula, ReadsImplication, ReadsDisjunction, ReadsConjunction, ReadsUnary};
 ghost use Rattle.nal_parse.specs.Inner.Reading.{IsReading, ReadsContinued, ReadsMade, ReadsQuantified, ReadsRest, ReadsThen, ends_formula, ends_disjunction, ends_conjunction, ends_unary, part_tree};
 
@@ -20,7 +20,8 @@ use std::alloc::{AllocError, Global};
 /// formula = ("forall" | "exists") variable ":" formula | implication
 #[cycle(formula)]
 pub fn read_formula(alloc: Global, levels: u8, reader: &mut Reader) -> Result<Part, Stop>
-    ensures reading { IsReading part_tree ends_formula ReadsFormula levels reader.old.text.now reader.new.text.now result }
+    ensures reading { IsReading part_tree ends_formula ReadsFormula levels reader.old.text.now reader.new.text.now
+        result }
     ensures shorter { IfOk result (λ _. length reader.new.text.now < length reader.old.text.now) }
 {
     match makers::quantifier(&reader.token) {
@@ -43,7 +44,8 @@ fn read_quantified(
     levels: u8,
     reader: &mut Reader,
 ) -> Result<Part, Stop>
-    ensures reading { IsReading part_tree ends_formula (ReadsQuantified quantifier) levels reader.old.text.now reader.new.text.now result }
+    ensures reading { IsReading part_tree ends_formula (ReadsQuantified quantifier) levels reader.old.text.now
+        reader.new.text.now result }
     ensures shorter { IfOk result (λ _. length reader.new.text.now < length reader.old.text.now) }
 {
     let Token::Variable(variable) = reader.token else {
@@ -66,7 +68,8 @@ fn read_quantified(
 /// implication = disjunction [ "=>" formula ]
 #[cycle(formula)]
 fn read_implication(alloc: Global, levels: u8, reader: &mut Reader) -> Result<Part, Stop>
-    ensures reading { IsReading part_tree ends_formula ReadsImplication levels reader.old.text.now reader.new.text.now result }
+    ensures reading { IsReading part_tree ends_formula ReadsImplication levels reader.old.text.now reader.new.text.now
+        result }
     ensures shorter { IfOk result (λ _. length reader.new.text.now < length reader.old.text.now) }
 {
     let left = match read_disjunction(alloc, levels, reader) {
@@ -92,7 +95,8 @@ fn read_implication(alloc: Global, levels: u8, reader: &mut Reader) -> Result<Pa
 /// disjunction = conjunction { "or" conjunction }, grouped to the left
 #[cycle(formula)]
 fn read_disjunction(alloc: Global, levels: u8, reader: &mut Reader) -> Result<Part, Stop>
-    ensures reading { IsReading part_tree ends_disjunction ReadsDisjunction levels reader.old.text.now reader.new.text.now result }
+    ensures reading { IsReading part_tree ends_disjunction ReadsDisjunction levels reader.old.text.now
+        reader.new.text.now result }
     ensures shorter { IfOk result (λ _. length reader.new.text.now < length reader.old.text.now) }
 {
     let mut left = match read_conjunction(alloc, levels, reader) {
@@ -116,7 +120,8 @@ fn read_disjunction(alloc: Global, levels: u8, reader: &mut Reader) -> Result<Pa
 /// conjunction = unary { "and" unary }, grouped to the left
 #[cycle(formula)]
 fn read_conjunction(alloc: Global, levels: u8, reader: &mut Reader) -> Result<Part, Stop>
-    ensures reading { IsReading part_tree ends_conjunction ReadsConjunction levels reader.old.text.now reader.new.text.now result }
+    ensures reading { IsReading part_tree ends_conjunction ReadsConjunction levels reader.old.text.now
+        reader.new.text.now result }
     ensures shorter { IfOk result (λ _. length reader.new.text.now < length reader.old.text.now) }
 {
     let mut left = match read_unary(alloc, levels, reader) {
@@ -226,7 +231,8 @@ fn read_word(alloc: Global, levels: u8, keyword: Keyword, reader: &mut Reader) -
 /// unary, after `not`
 #[cycle(formula)]
 fn read_negated(alloc: Global, levels: u8, reader: &mut Reader) -> Result<Part, Stop>
-    ensures reading { IsReading part_tree ends_unary (ReadsMade (λ f. tree.implies f tree.falsum) ReadsUnary) levels reader.old.text.now reader.new.text.now result }
+    ensures reading { IsReading part_tree ends_unary (ReadsMade (λ f. tree.implies f tree.falsum) ReadsUnary) levels
+        reader.old.text.now reader.new.text.now result }
     ensures shorter { IfOk result (λ _. length reader.new.text.now < length reader.old.text.now) }
 {
     match read_unary(alloc, levels, reader) {
@@ -241,7 +247,8 @@ fn read_negated(alloc: Global, levels: u8, reader: &mut Reader) -> Result<Part, 
 /// formula ")", after the opening bracket
 #[cycle(formula)]
 fn read_group(alloc: Global, levels: u8, reader: &mut Reader) -> Result<Part, Stop>
-    ensures reading { IsReading part_tree ends_unary (ReadsThen ReadsFormula lexeme.closes) levels reader.old.text.now reader.new.text.now result }
+    ensures reading { IsReading part_tree ends_unary (ReadsThen ReadsFormula lexeme.closes) levels reader.old.text.now
+        reader.new.text.now result }
     ensures shorter { IfOk result (λ _. length reader.new.text.now < length reader.old.text.now) }
 {
     let part = match read_formula(alloc, levels, reader) {
@@ -259,7 +266,8 @@ fn read_group(alloc: Global, levels: u8, reader: &mut Reader) -> Result<Part, St
 #[cycle(formula)]
 fn read_subject(alloc: Global, levels: u8, name: &[u8], reader: &mut Reader) -> Result<Part, Stop>
     requires { IsName name.now }
-    ensures reading { IsReading part_tree ends_unary (ReadsContinued (tree.name name.now)) levels reader.old.text.now reader.new.text.now result }
+    ensures reading { IsReading part_tree ends_unary (ReadsContinued (tree.name name.now)) levels reader.old.text.now
+        reader.new.text.now result }
     ensures bound { IfOk result (λ _. length reader.new.text.now ≤ length reader.old.text.now) }
 {
     if reader.token.goes_on() {
@@ -276,7 +284,8 @@ fn read_subject(alloc: Global, levels: u8, name: &[u8], reader: &mut Reader) -> 
 #[cycle(formula)]
 fn read_saying(alloc: Global, levels: u8, name: &[u8], reader: &mut Reader) -> Result<Part, Stop>
     requires { IsName name.now }
-    ensures reading { IsReading part_tree ends_unary (ReadsContinued (tree.name name.now)) levels reader.old.text.now reader.new.text.now result }
+    ensures reading { IsReading part_tree ends_unary (ReadsContinued (tree.name name.now)) levels reader.old.text.now
+        reader.new.text.now result }
     ensures bound { IfOk result (λ _. length reader.new.text.now ≤ length reader.old.text.now) }
 {
     match Name::copy_of(alloc, name) {
@@ -288,7 +297,8 @@ fn read_saying(alloc: Global, levels: u8, name: &[u8], reader: &mut Reader) -> R
 /// { "." name } predicate, or nothing after a name alone: a statement after its first token, which is a term
 #[cycle(formula)]
 fn read_continued(alloc: Global, levels: u8, first: Term, reader: &mut Reader) -> Result<Part, Stop>
-    ensures reading { IsReading part_tree ends_unary (ReadsContinued (term_tree first)) levels reader.old.text.now reader.new.text.now result }
+    ensures reading { IsReading part_tree ends_unary (ReadsContinued (term_tree first)) levels reader.old.text.now
+        reader.new.text.now result }
     ensures bound { IfOk result (λ _. length reader.new.text.now ≤ length reader.old.text.now) }
 {
     let Token::Dot = reader.token else {
@@ -301,7 +311,8 @@ fn read_continued(alloc: Global, levels: u8, first: Term, reader: &mut Reader) -
 #[inline(never)]
 #[cycle(formula)]
 fn read_longer(alloc: Global, levels: u8, first: Term, reader: &mut Reader) -> Result<Part, Stop>
-    ensures reading { IsReading part_tree ends_unary (ReadsContinued (term_tree first)) levels reader.old.text.now reader.new.text.now result }
+    ensures reading { IsReading part_tree ends_unary (ReadsContinued (term_tree first)) levels reader.old.text.now
+        reader.new.text.now result }
     ensures bound { IfOk result (λ _. length reader.new.text.now ≤ length reader.old.text.now) }
 {
     match read_parts(alloc, first, reader) {
@@ -314,7 +325,8 @@ fn read_longer(alloc: Global, levels: u8, first: Term, reader: &mut Reader) -> R
 /// after its term
 #[cycle(formula)]
 fn read_rest(alloc: Global, levels: u8, term: Term, reader: &mut Reader) -> Result<Part, Stop>
-    ensures reading { IsReading part_tree ends_unary (ReadsRest (term_tree term)) levels reader.old.text.now reader.new.text.now result }
+    ensures reading { IsReading part_tree ends_unary (ReadsRest (term_tree term)) levels reader.old.text.now
+        reader.new.text.now result }
     ensures bound { IfOk result (λ _. length reader.new.text.now ≤ length reader.old.text.now) }
 {
     if reader.token.is(Keyword::Says) {
@@ -330,7 +342,8 @@ fn read_rest(alloc: Global, levels: u8, term: Term, reader: &mut Reader) -> Resu
 /// unary, after `says`
 #[cycle(formula)]
 fn read_said(alloc: Global, levels: u8, speaker: Term, reader: &mut Reader) -> Result<Part, Stop>
-    ensures reading { IsReading part_tree ends_unary (ReadsMade (λ f. tree.says (term_tree speaker) f) ReadsUnary) levels reader.old.text.now reader.new.text.now result }
+    ensures reading { IsReading part_tree ends_unary (ReadsMade (λ f. tree.says (term_tree speaker) f) ReadsUnary)
+        levels reader.old.text.now reader.new.text.now result }
     ensures shorter { IfOk result (λ _. length reader.new.text.now < length reader.old.text.now) }
 {
     match read_unary(alloc, levels, reader) {

@@ -1,8 +1,8 @@
-ghost use Rattle.std.specs.Prelude.{◌≡◌, ◌≤◌, ◌+◌, ◌-◌, ◌^◌, ◌↔◌, ◌∷◌, [], min, map, IsTrue, length};
+ghost use Rattle.std.specs.Prelude.{◌≡◌, ◌≤◌, ◌+◌, ◌-◌, ◌^◌, ◌↔◌, [], min, map, IsTrue, length};
 ghost use Rattle.std.specs.Fmt.{decimal};
 ghost use Rattle.nal_term.specs.Trees.{formula_tree, term_tree, term_trees};
 ghost use Rattle.nal_term.specs.Trees as tree;
-ghost use Rattle.nal_parse.specs.Canonical.{FormulaFits, TermFits, comparison_sign, formula_levels, formula_text, joined, part_levels, part_text, scope_levels, scope_text, term_text};
+ghost use Rattle.nal_parse.specs.Canonical.{FormulaFits, TermFits, comparison_sign, formula_levels, formula_text, joined, part_levels, part_text, scope_text, term_text};
 
 use crate::printer::strength;
 use nal_term::{Args, Compare, Formula, Name, Scope, Term};
@@ -141,7 +141,8 @@ pub fn text_length(f: &Formula) -> u64
 /// asked for.
 #[cycle(lengths)]
 fn part_length(asked: u8, part: &Formula) -> u64
-    ensures { result ≡ min (length (part_text asked (formula_tree part.now) (formula_text (formula_tree part.now)))) (2 ^ 64 - 1) }
+    ensures { result
+        ≡ min (length (part_text asked (formula_tree part.now) (formula_text (formula_tree part.now)))) (2 ^ 64 - 1) }
 {
     if strength(part) < asked {
         text_length(part).saturating_add(2)
@@ -151,7 +152,8 @@ fn part_length(asked: u8, part: &Formula) -> u64
 }
 
 fn delegation_length(speaker: &Term, principal: &Term) -> u64
-    ensures { result ≡ min (length (formula_text (tree.speaks_for (term_tree speaker.now) (term_tree principal.now)))) (2 ^ 64 - 1) }
+    ensures { result
+        ≡ min (length (formula_text (tree.speaks_for (term_tree speaker.now) (term_tree principal.now)))) (2 ^ 64 - 1) }
 {
     term_length(speaker)
         .saturating_add(11)
@@ -180,7 +182,8 @@ pub fn level_count(f: &Formula) -> u64
 /// The levels of a part, one more where it stands in brackets.
 #[cycle(levels)]
 fn part_level_count(asked: u8, part: &Formula) -> u64
-    ensures { result ≡ min (part_levels asked (formula_tree part.now) (formula_levels (formula_tree part.now))) (2 ^ 64 - 1) }
+    ensures { result
+        ≡ min (part_levels asked (formula_tree part.now) (formula_levels (formula_tree part.now))) (2 ^ 64 - 1) }
 {
     if strength(part) < asked {
         level_count(part).saturating_add(1)

@@ -19,7 +19,11 @@ pub struct Part {
 impl Part {
     /// How many bytes its text has with the brackets that stand round it where its strength is below the one asked for.
     pub fn bytes_within(&self, asked: u8) -> u64
-        ensures { result ≡ min (length (part_text asked (formula_tree self.now.formula.value) (formula_text (formula_tree self.now.formula.value)))) (2 ^ 64 - 1) }
+        ensures { result
+            ≡ min
+            (length
+            (part_text asked (formula_tree self.now.formula.value)
+            (formula_text (formula_tree self.now.formula.value)))) (2 ^ 64 - 1) }
     {
         if strength(&self.formula) < asked {
             self.bytes.saturating_add(2)
@@ -30,7 +34,10 @@ impl Part {
 
     /// How many levels it opens, one more where it stands in brackets.
     pub fn levels_within(&self, asked: u8) -> u64
-        ensures { result ≡ min (part_levels asked (formula_tree self.now.formula.value) (formula_levels (formula_tree self.now.formula.value))) (2 ^ 64 - 1) }
+        ensures { result
+            ≡ min
+            (part_levels asked (formula_tree self.now.formula.value)
+            (formula_levels (formula_tree self.now.formula.value))) (2 ^ 64 - 1) }
     {
         if strength(&self.formula) < asked {
             self.levels.saturating_add(1)

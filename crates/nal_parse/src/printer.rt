@@ -1,4 +1,4 @@
-ghost use Rattle.std.specs.Prelude.{◌≡◌, ◌≢◌, ◌<◌, ◌≤◌, ◌+◌, ◌++◌, ◌∷◌, [], ℕ, All, IfOk, OnOk, IsTrue, codes, length, map};
+ghost use Rattle.std.specs.Prelude.{◌≡◌, ◌<◌, ◌≤◌, ◌+◌, ◌++◌, [], ℕ, All, IfOk, OnOk, codes, length, map};
 ghost use Rattle.std.specs.Fmt.{decimal};
 ghost use Rattle.nal_term.specs.Names.{IsName};
 ghost use Rattle.nal_term.specs.Trees.{formula_tree, term_tree, term_trees};
@@ -126,7 +126,8 @@ impl Printer {
     }
 
     fn atom(&mut self, predicate: &Name, args: &Args) -> Result<(), AllocError>
-        ensures text { OnOk result (self.new.text ≡ self.old.text ++ formula_text (tree.atom predicate.now (term_trees args.now))) }
+        ensures text { OnOk result
+            (self.new.text ≡ self.old.text ++ formula_text (tree.atom predicate.now (term_trees args.now))) }
         ensures spellable { OnOk result (IsSpellable (tree.atom predicate.now (term_trees args.now))) }
     {
         self.piece(predicate.as_slice())?;
@@ -209,7 +210,9 @@ impl Printer {
     /// Appends a part's text, in brackets where its strength is below the one asked for.
     #[cycle(printing)]
     fn part(&mut self, asked: u8, part: &Formula) -> Result<(), AllocError>
-        ensures text { OnOk result (self.new.text ≡ self.old.text ++ part_text asked (formula_tree part.now) (formula_text (formula_tree part.now))) }
+        ensures text { OnOk result
+            (self.new.text ≡ self.old.text
+            ++ part_text asked (formula_tree part.now) (formula_text (formula_tree part.now))) }
         ensures spellable { OnOk result (IsSpellable (formula_tree part.now)) }
     {
         if strength(part) < asked {
@@ -228,7 +231,9 @@ impl Printer {
         variable: &Name,
         body: &Formula,
     ) -> Result<(), AllocError>
-        ensures text { OnOk result (self.new.text ≡ self.old.text ++ quantifier.now ++ variable.now ++ codes " : " ++ formula_text (formula_tree body.now)) }
+        ensures text { OnOk result
+            (self.new.text ≡ self.old.text ++ quantifier.now ++ variable.now ++ codes " : "
+            ++ formula_text (formula_tree body.now)) }
         ensures spellable { OnOk result (IsName variable.now × IsSpellable (formula_tree body.now)) }
     {
         self.piece(quantifier)?;
@@ -238,8 +243,11 @@ impl Printer {
     }
 
     fn delegation(&mut self, speaker: &Term, principal: &Term) -> Result<(), AllocError>
-        ensures text { OnOk result (self.new.text ≡ self.old.text ++ formula_text (tree.speaks_for (term_tree speaker.now) (term_tree principal.now))) }
-        ensures spellable { OnOk result (IsSpellableTerm (term_tree speaker.now) × IsSpellableTerm (term_tree principal.now)) }
+        ensures text { OnOk result
+            (self.new.text ≡ self.old.text
+            ++ formula_text (tree.speaks_for (term_tree speaker.now) (term_tree principal.now))) }
+        ensures spellable { OnOk result
+            (IsSpellableTerm (term_tree speaker.now) × IsSpellableTerm (term_tree principal.now)) }
     {
         self.term(speaker)?;
         self.piece(b" speaksfor ")?;
@@ -251,7 +259,8 @@ impl Printer {
 /// `docs/FORMATS.md`, "Canonical text", states the text.
 pub fn print_formula(alloc: Global, f: &Formula) -> Result<Bytes, AllocError>
     ensures text { IfOk result (λ b. b ≡ formula_text (formula_tree f.now)) }
-    ensures spelled { IfOk result (λ b. (n : ℕ) → formula_levels (formula_tree f.now) ≤ n → SpellsFormula n b (formula_tree f.now)) }
+    ensures spelled { IfOk result
+        (λ b. (n : ℕ) → formula_levels (formula_tree f.now) ≤ n → SpellsFormula n b (formula_tree f.now)) }
     ensures spellable { OnOk result (IsSpellable (formula_tree f.now)) }
     ensures read_again { IfOk result (λ b. FormulaFits (formula_tree f.now) → IsFormulaText b (formula_tree f.now)) }
 {

@@ -1,5 +1,5 @@
 ghost use Rattle.std.specs.Prelude.{◌≡◌, ◌≢◌, ◌<◌, ◌≤◌, length};
-ghost use Rattle.nal_parse.specs.Tokens.{after_blanks, lexeme_of, next_cut};
+ghost use Rattle.nal_parse.specs.Tokens.{after_blanks, lexeme_of};
 ghost use Rattle.nal_parse.specs.Tokens as lexeme;
 ghost use Rattle.nal_parse.specs.Inner.Reading.{IsFront, IsStopAt};
 ghost use Rattle.nal_parse.specs.declared.stops.Stop.TheVariants.{Refused};

@@ -1,4 +1,4 @@
-ghost use Rattle.std.specs.Prelude.{◌≡◌, ◌≢◌, ◌<◌, ◌≤◌, ◌-◌, ◌+◌, [], length, Some, None, IfOk, IfErr, IsTrue};
+ghost use Rattle.std.specs.Prelude.{◌≢◌, ◌<◌, ◌≤◌, ◌-◌, [], length, Some, None, IfOk};
 ghost use Rattle.nal_term.specs.Names.{IsName};
 ghost use Rattle.nal_term.specs.Trees.{term_tree};
 ghost use Rattle.nal_term.specs.Trees as tree;
@@ -19,7 +19,8 @@ use std::alloc::{AllocError, Global};
 /// term { "," term } ")", after the predicate of an atom and its opening bracket
 pub fn read_atom(alloc: Global, predicate: &[u8], reader: &mut Reader) -> Result<Part, Stop>
     requires { IsName predicate.now }
-    ensures reading { IsReading part_tree anything (ReadsMade (λ ts. tree.atom predicate.now ts) Arguments) 0 reader.old.text.now reader.new.text.now result }
+    ensures reading { IsReading part_tree anything (ReadsMade (λ ts. tree.atom predicate.now ts) Arguments) 0
+        reader.old.text.now reader.new.text.now result }
     ensures shorter { IfOk result (λ _. length reader.new.text.now < length reader.old.text.now) }
 {
     match read_arguments(alloc, Args::new(alloc), reader) {
@@ -38,7 +39,8 @@ fn read_compared(
     left: Term,
     reader: &mut Reader,
 ) -> Result<Part, Stop>
-    ensures reading { IsReading part_tree ends_unary (ReadsMade (λ u. tree.test compare (term_tree left) u) Terms) 0 reader.old.text.now reader.new.text.now result }
+    ensures reading { IsReading part_tree ends_unary (ReadsMade (λ u. tree.test compare (term_tree left) u) Terms) 0
+        reader.old.text.now reader.new.text.now result }
     ensures shorter { IfOk result (λ _. length reader.new.text.now < length reader.old.text.now) }
 {
     match read_term(alloc, reader) {
@@ -57,7 +59,8 @@ fn read_delegation(
     delegate: Term,
     reader: &mut Reader,
 ) -> Result<Part, Stop>
-    ensures reading { IsReading part_tree ends_unary (ReadsDelegation (term_tree delegate)) levels reader.old.text.now reader.new.text.now result }
+    ensures reading { IsReading part_tree ends_unary (ReadsDelegation (term_tree delegate)) levels reader.old.text.now
+        reader.new.text.now result }
     ensures shorter { IfOk result (λ _. length reader.new.text.now < length reader.old.text.now) }
 {
     let delegator = match read_term(alloc, reader) {
@@ -85,7 +88,8 @@ fn read_delegation(
 #[inline(never)]
 pub fn read_judged(alloc: Global, levels: u8, term: Term, reader: &mut Reader) -> Result<Part, Stop>
     requires { lexeme_of reader.old.token ≢ lexeme.keyword word.Says }
-    ensures reading { IsReading part_tree ends_unary (ReadsRest (term_tree term)) levels reader.old.text.now reader.new.text.now result }
+    ensures reading { IsReading part_tree ends_unary (ReadsRest (term_tree term)) levels reader.old.text.now
+        reader.new.text.now result }
     ensures bound { IfOk result (λ _. length reader.new.text.now ≤ length reader.old.text.now) }
 {
     if reader.token.is(Keyword::SpeaksFor) {

@@ -1,6 +1,6 @@
-ghost use Rattle.std.specs.Prelude.{◌≡◌, ◌≢◌, ◌<◌, ◌≤◌, ◌-◌, ◌+◌, ◌++◌, ◌∷◌, [], length, Some, None, IfOk, IfErr, IsTrue, option_map};
+ghost use Rattle.std.specs.Prelude.{◌≡◌, ◌<◌, ◌≤◌, ◌-◌, ◌+◌, ◌++◌, ◌∷◌, [], length, Some, None, IfOk, option_map};
 ghost use Rattle.nal_term.specs.Names.{IsName};
-ghost use Rattle.nal_term.specs.Trees.{TermTree, subprincipal, term_tree, term_trees};
+ghost use Rattle.nal_term.specs.Trees.{subprincipal, term_tree, term_trees};
 ghost use Rattle.nal_parse.specs.Tokens.{lexeme_of};
 ghost use Rattle.nal_parse.specs.Grammar.{ReadsTerm, ReadsName, ReadsScope};
 ghost use Rattle.nal_parse.specs.Inner.Reading.{IsReading, Parts, ReadsMore, Terms, IsWellFormed, anything, ends_term, first_term, names_so_far};
@@ -45,7 +45,8 @@ pub fn first_term(alloc: Global, token: &Token) -> Result<Option<Term>, AllocErr
 
 /// { "." name } after a term: the subprincipals of the term so far.
 pub fn read_parts(alloc: Global, first: Term, reader: &mut Reader) -> Result<Term, Stop>
-    ensures reading { IsReading term_tree ends_term (Parts (term_tree first)) 0 reader.old.text.now reader.new.text.now result }
+    ensures reading { IsReading term_tree ends_term (Parts (term_tree first)) 0 reader.old.text.now reader.new.text.now
+        result }
     ensures bound { IfOk result (λ _. length reader.new.text.now ≤ length reader.old.text.now) }
 {
     let mut term = first;
@@ -75,7 +76,8 @@ fn part_of(alloc: Global, term: Term, name: &[u8]) -> Result<Term, AllocError>
 /// term { "," term } ")": the arguments of an atom after its opening bracket, `args` being those so far.
 pub fn read_arguments(alloc: Global, args: Args, reader: &mut Reader) -> Result<Args, Stop>
     requires { length args < 8 }
-    ensures reading { IsReading term_trees anything (ReadsMore ReadsTerm (term_trees args)) 0 reader.old.text.now reader.new.text.now result }
+    ensures reading { IsReading term_trees anything (ReadsMore ReadsTerm (term_trees args)) 0 reader.old.text.now
+        reader.new.text.now result }
     ensures shorter { IfOk result (λ _. length reader.new.text.now < length reader.old.text.now) }
 {
     let term = match read_term(alloc, reader) {
@@ -112,7 +114,8 @@ fn with_argument(mut args: Args, term: Term) -> Result<Args, AllocError>
 /// name { "," name } ")": the names of a scope after its opening bracket, `scope` being those so far.
 pub fn read_names(alloc: Global, scope: Option<Scope>, reader: &mut Reader) -> Result<Scope, Stop>
     requires { length (names_so_far scope) < 8 }
-    ensures reading { IsReading (λ s. s) anything (ReadsMore ReadsName (names_so_far scope)) 0 reader.old.text.now reader.new.text.now result }
+    ensures reading { IsReading (λ s. s) anything (ReadsMore ReadsName (names_so_far scope)) 0 reader.old.text.now
+        reader.new.text.now result }
     ensures shorter { IfOk result (λ _. length reader.new.text.now < length reader.old.text.now) }
 {
     let Token::Name(name) = reader.token else {

@@ -1,4 +1,4 @@
-ghost use Rattle.std.specs.Prelude.{◌≡◌, ◌↔◌, ◌≢◌, ◌<◌, ◌^◌, ◌≤◌, ◌+◌, ◌*◌, ◌-◌, length, take, drop, IfSome, SomeIff, OnSome, IsTrue, option_map};
+ghost use Rattle.std.specs.Prelude.{◌≡◌, ◌↔◌, ◌≢◌, ◌<◌, ◌^◌, ◌≤◌, ◌+◌, ◌*◌, ◌-◌, length, SomeIff, IsTrue};
 ghost use Rattle.std.specs.List.{prefix_len, list_all};
 ghost use Rattle.nal_term.specs.Names.{is_word, is_word_byte, is_digit};
 ghost use Rattle.nal_parse.specs.Tokens.{keyword_of, is_blank, run_length, quoted_length, is_number, value_of_digits};

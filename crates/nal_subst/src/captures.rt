@@ -32,7 +32,8 @@ fn is_captured_uncounted<L: Ledger>(f: &Formula, x: &Name, t: &Term, blank: Blan
 pub fn is_captured_counted<L: Ledger>(f: &Formula, x: &Name, t: &Term, steps: &mut Steps<L>) -> bool
     ensures value { IsTrue result ↔ (formula_with x.now (term_tree t.now) (formula_tree f.now) ≡ None) }
     ensures least { steps.old + 1 ≤ steps.new }
-    ensures most { steps.new + 1 ≤ steps.old + node_count (formula_tree f.now) * (1 + term_node_count (term_tree t.now)) }
+    ensures most { steps.new + 1
+        ≤ steps.old + node_count (formula_tree f.now) * (1 + term_node_count (term_tree t.now)) }
 {
     steps.tick();
     match f {

@@ -29,7 +29,8 @@ pub enum Match {
 /// builds no formula and takes no memory.
 pub fn instance(f: &Formula, x: &Name, t: &Term, g: &Formula) -> Match
     ensures capture { (result ≡ Match.Capture) ↔ (formula_with x.now (term_tree t.now) (formula_tree f.now) ≡ None) }
-    ensures yes { (result ≡ Match.Yes) ↔ (formula_with x.now (term_tree t.now) (formula_tree f.now) ≡ Some (formula_tree g.now)) }
+    ensures yes { (result ≡ Match.Yes) ↔
+        (formula_with x.now (term_tree t.now) (formula_tree f.now) ≡ Some (formula_tree g.now)) }
 {
     instance_uncounted::<Brand>(f, x, t, g, Blank::new(1))
 }
@@ -46,7 +47,8 @@ fn instance_uncounted<L: Ledger>(
     requires parts { blank.parts ≡ L.parts }
     requires some { 0 < blank.parts }
     ensures capture { (result ≡ Match.Capture) ↔ (formula_with x.now (term_tree t.now) (formula_tree f.now) ≡ None) }
-    ensures yes { (result ≡ Match.Yes) ↔ (formula_with x.now (term_tree t.now) (formula_tree f.now) ≡ Some (formula_tree g.now)) }
+    ensures yes { (result ≡ Match.Yes) ↔
+        (formula_with x.now (term_tree t.now) (formula_tree f.now) ≡ Some (formula_tree g.now)) }
 {
     let mut steps = Steps::<L>::start(blank);
     instance_counted(f, x, t, g, &mut steps)
@@ -65,7 +67,8 @@ pub fn instance_counted<L: Ledger>(
     steps: &mut Steps<L>,
 ) -> Match
     ensures capture { (result ≡ Match.Capture) ↔ (formula_with x.now (term_tree t.now) (formula_tree f.now) ≡ None) }
-    ensures yes { (result ≡ Match.Yes) ↔ (formula_with x.now (term_tree t.now) (formula_tree f.now) ≡ Some (formula_tree g.now)) }
+    ensures yes { (result ≡ Match.Yes) ↔
+        (formula_with x.now (term_tree t.now) (formula_tree f.now) ≡ Some (formula_tree g.now)) }
     ensures least { steps.old + 1 ≤ steps.new }
     ensures most { steps.new ≤ steps.old + node_count (formula_tree f.now) * (1 + term_node_count (term_tree t.now)) }
     ensures all { (result ≡ Match.Yes) → steps.old + node_count (formula_tree g.now) ≤ steps.new }
@@ -117,9 +120,11 @@ fn part_matches<L: Ledger>(
     steps: &mut Steps<L>,
 ) -> Match
     ensures capture { (result ≡ Match.Capture) ↔ (part_with x.now (term_tree t.now) y.now (formula_tree a.now) ≡ None) }
-    ensures yes { (result ≡ Match.Yes) ↔ (part_with x.now (term_tree t.now) y.now (formula_tree a.now) ≡ Some (formula_tree b.now)) }
+    ensures yes { (result ≡ Match.Yes) ↔
+        (part_with x.now (term_tree t.now) y.now (formula_tree a.now) ≡ Some (formula_tree b.now)) }
     ensures least { steps.old ≤ steps.new }
-    ensures most { steps.new + 1 ≤ steps.old + (1 + node_count (formula_tree a.now)) * (1 + term_node_count (term_tree t.now)) }
+    ensures most { steps.new + 1
+        ≤ steps.old + (1 + node_count (formula_tree a.now)) * (1 + term_node_count (term_tree t.now)) }
     ensures all { (result ≡ Match.Yes) → steps.old + node_count (formula_tree b.now) ≤ steps.new }
 {
     if x.as_slice() == y.as_slice() {
@@ -139,7 +144,8 @@ fn unlike<L: Ledger>(f: &Formula, x: &Name, t: &Term, steps: &mut Steps<L>) -> M
     ensures capture { (result ≡ Match.Capture) ↔ (formula_with x.now (term_tree t.now) (formula_tree f.now) ≡ None) }
     ensures no { result ≢ Match.Yes }
     ensures least { steps.old + 1 ≤ steps.new }
-    ensures most { steps.new + 1 ≤ steps.old + node_count (formula_tree f.now) * (1 + term_node_count (term_tree t.now)) }
+    ensures most { steps.new + 1
+        ≤ steps.old + node_count (formula_tree f.now) * (1 + term_node_count (term_tree t.now)) }
 {
     if is_captured_counted(f, x, t, steps) {
         Match::Capture
@@ -184,10 +190,15 @@ fn pair_matches<L: Ledger>(
     z: &Term,
     steps: &mut Steps<L>,
 ) -> bool
-    ensures value { IsTrue result ↔ ((term_with x.now (term_tree t.now) (term_tree u.now) ≡ term_tree w.now) × (term_with x.now (term_tree t.now) (term_tree v.now) ≡ term_tree z.now)) }
+    ensures value { IsTrue result ↔
+        ((term_with x.now (term_tree t.now) (term_tree u.now) ≡ term_tree w.now)
+        × (term_with x.now (term_tree t.now) (term_tree v.now) ≡ term_tree z.now)) }
     ensures least { steps.old + 1 ≤ steps.new }
-    ensures most { steps.new ≤ steps.old + (term_node_count (term_tree u.now) + term_node_count (term_tree v.now)) * (1 + term_node_count (term_tree t.now)) }
-    ensures all { IsTrue result → steps.old + term_node_count (term_tree w.now) + term_node_count (term_tree z.now) ≤ steps.new }
+    ensures most { steps.new
+        ≤ steps.old + (term_node_count (term_tree u.now) + term_node_count (term_tree v.now)) *
+        (1 + term_node_count (term_tree t.now)) }
+    ensures all { IsTrue result
+        → steps.old + term_node_count (term_tree w.now) + term_node_count (term_tree z.now) ≤ steps.new }
 {
     term_matches(u, x, t, w, steps) && term_matches(v, x, t, z, steps)
 }
@@ -215,9 +226,11 @@ fn term_matches<L: Ledger>(u: &Term, x: &Name, t: &Term, v: &Term, steps: &mut S
 
 // Whether the arguments of one atom are those of another with `t` in place of each `x`.
 fn args_match<L: Ledger>(us: &Args, x: &Name, t: &Term, vs: &Args, steps: &mut Steps<L>) -> bool
-    ensures value { IsTrue result ↔ (map (λ u. term_with x.now (term_tree t.now) u) (term_trees us.now) ≡ term_trees vs.now) }
+    ensures value { IsTrue result ↔
+        (map (λ u. term_with x.now (term_tree t.now) u) (term_trees us.now) ≡ term_trees vs.now) }
     ensures least { steps.old ≤ steps.new }
-    ensures most { steps.new ≤ steps.old + term_list_node_count (term_trees us.now) * (1 + term_node_count (term_tree t.now)) }
+    ensures most { steps.new
+        ≤ steps.old + term_list_node_count (term_trees us.now) * (1 + term_node_count (term_tree t.now)) }
     ensures all { IsTrue result → steps.old + term_list_node_count (term_trees vs.now) ≤ steps.new }
 {
     terms_match(us.as_slice(), x, t, vs.as_slice(), steps)
@@ -231,9 +244,11 @@ fn terms_match<L: Ledger>(
     vs: &[Term],
     steps: &mut Steps<L>,
 ) -> bool
-    ensures value { IsTrue result ↔ (map (λ u. term_with x.now (term_tree t.now) u) (term_trees us.now) ≡ term_trees vs.now) }
+    ensures value { IsTrue result ↔
+        (map (λ u. term_with x.now (term_tree t.now) u) (term_trees us.now) ≡ term_trees vs.now) }
     ensures least { steps.old ≤ steps.new }
-    ensures most { steps.new ≤ steps.old + term_list_node_count (term_trees us.now) * (1 + term_node_count (term_tree t.now)) }
+    ensures most { steps.new
+        ≤ steps.old + term_list_node_count (term_trees us.now) * (1 + term_node_count (term_tree t.now)) }
     ensures all { IsTrue result → steps.old + term_list_node_count (term_trees vs.now) ≤ steps.new }
 {
     match (us.split_first(), vs.split_first()) {

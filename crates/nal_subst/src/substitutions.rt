@@ -23,7 +23,8 @@ pub enum SubstError {
 /// `docs/LOGIC.md`, "Substitution", states the rule.
 pub fn substitute(alloc: Global, f: &Formula, x: &Name, t: &Term) -> Result<Formula, SubstError>
     ensures ok { IfOk result (λ g. formula_with x.now (term_tree t.now) (formula_tree f.now) ≡ Some (formula_tree g)) }
-    ensures capture { (result ≡ Err SubstError.Capture) ↔ (formula_with x.now (term_tree t.now) (formula_tree f.now) ≡ None) }
+    ensures capture { (result ≡ Err SubstError.Capture) ↔
+        (formula_with x.now (term_tree t.now) (formula_tree f.now) ≡ None) }
 {
     if is_captured(f, x, t) {
         return Err(SubstError::Capture);
@@ -91,7 +92,8 @@ fn boxed_replaced(
     t: &Term,
 ) -> Result<Box<Formula>, AllocError>
     requires { formula_with x.now (term_tree t.now) (formula_tree f.now) ≢ None }
-    ensures { IfOk result (λ g. formula_with x.now (term_tree t.now) (formula_tree f.now) ≡ Some (formula_tree g.value)) }
+    ensures { IfOk result
+        (λ g. formula_with x.now (term_tree t.now) (formula_tree f.now) ≡ Some (formula_tree g.value)) }
 {
     let replaced = replaced(alloc, f, x, t)?;
     Ok(Box::new(alloc, replaced)?)
@@ -108,7 +110,8 @@ fn part_replaced(
     t: &Term,
 ) -> Result<Box<Formula>, AllocError>
     requires { part_with x.now (term_tree t.now) y.now (formula_tree a.now) ≢ None }
-    ensures { IfOk result (λ b. part_with x.now (term_tree t.now) y.now (formula_tree a.now) ≡ Some (formula_tree b.value)) }
+    ensures { IfOk result
+        (λ b. part_with x.now (term_tree t.now) y.now (formula_tree a.now) ≡ Some (formula_tree b.value)) }
 {
     if x.as_slice() == y.as_slice() {
         let copy = a.copy(alloc)?;
@@ -128,7 +131,8 @@ fn atom_replaced(
     x: &Name,
     t: &Term,
 ) -> Result<Formula, AllocError>
-    ensures { IfOk result (λ g. formula_with x.now (term_tree t.now) (tree.atom p.now (term_trees ts.now)) ≡ Some (formula_tree g)) }
+    ensures { IfOk result
+        (λ g. formula_with x.now (term_tree t.now) (tree.atom p.now (term_trees ts.now)) ≡ Some (formula_tree g)) }
 {
     Ok(Formula::Atom(p.copy(alloc)?, args_replaced(alloc, ts, x, t)?))
 }
@@ -142,7 +146,9 @@ fn test_replaced(
     x: &Name,
     t: &Term,
 ) -> Result<Formula, AllocError>
-    ensures { IfOk result (λ g. formula_with x.now (term_tree t.now) (tree.test c (term_tree u.now) (term_tree v.now)) ≡ Some (formula_tree g)) }
+    ensures { IfOk result
+        (λ g. formula_with x.now (term_tree t.now) (tree.test c (term_tree u.now) (term_tree v.now))
+        ≡ Some (formula_tree g)) }
 {
     let u = term_replaced(alloc, u, x, t)?;
     Ok(Formula::Test(c, u, term_replaced(alloc, v, x, t)?))
@@ -156,7 +162,9 @@ fn delegation_replaced(
     x: &Name,
     t: &Term,
 ) -> Result<Formula, AllocError>
-    ensures { IfOk result (λ g. formula_with x.now (term_tree t.now) (tree.speaks_for (term_tree u.now) (term_tree v.now)) ≡ Some (formula_tree g)) }
+    ensures { IfOk result
+        (λ g. formula_with x.now (term_tree t.now) (tree.speaks_for (term_tree u.now) (term_tree v.now))
+        ≡ Some (formula_tree g)) }
 {
     let u = term_replaced(alloc, u, x, t)?;
     Ok(Formula::SpeaksFor(u, term_replaced(alloc, v, x, t)?))
@@ -171,7 +179,9 @@ fn delegation_on_replaced(
     x: &Name,
     t: &Term,
 ) -> Result<Formula, AllocError>
-    ensures { IfOk result (λ g. formula_with x.now (term_tree t.now) (tree.speaks_for_on (term_tree u.now) (term_tree v.now) s.now) ≡ Some (formula_tree g)) }
+    ensures { IfOk result
+        (λ g. formula_with x.now (term_tree t.now) (tree.speaks_for_on (term_tree u.now) (term_tree v.now) s.now)
+        ≡ Some (formula_tree g)) }
 {
     let u = term_replaced(alloc, u, x, t)?;
     Ok(Formula::SpeaksForOn(u, term_replaced(alloc, v, x, t)?, s.copy(alloc)?))

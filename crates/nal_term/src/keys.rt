@@ -127,7 +127,8 @@ fn hash_terms<H: Hasher>(terms: &[Term], state: &mut H)
 }
 
 fn hash_two_terms<H: Hasher>(t: &Term, u: &Term, kind: u8, state: &mut H)
-    ensures { state.new ≡ fold H.write state.old (fed.u8 kind ++ term_writes (term_tree t.now) ++ term_writes (term_tree u.now)) }
+    ensures { state.new
+        ≡ fold H.write state.old (fed.u8 kind ++ term_writes (term_tree t.now) ++ term_writes (term_tree u.now)) }
 {
     state.write_u8(kind);
     hash_term(t, state);

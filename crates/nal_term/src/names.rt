@@ -1,4 +1,4 @@
-ghost use Rattle.std.specs.Prelude.{◌≡◌, ◌↔◌, length, IfOk, IsTrue};
+ghost use Rattle.std.specs.Prelude.{◌≡◌, ◌↔◌, IfOk};
 ghost use Rattle.std.specs.List.{list_all};
 ghost use Rattle.nal_term.specs.Names.{IsName, IsText, is_letter, is_word_byte, is_reserved, is_word, is_name, is_text_byte, is_text};
 ghost use Rattle.nal_term.specs.declared.names.NameError.TheVariants.{Bad};

@@ -109,7 +109,8 @@ fn held_after(held: Option<u64>, before: u64, after: u64) -> Option<u64>
 fn load_line(alloc: Global, steps: u64, outcome: Outcome) -> Result<String, AllocError>
     requires { 4 ≤ length outcome.journal.entries }
     ensures { IfOk result (λ text. string_bytes text ≡
-        line_of steps outcome.idle (length outcome.journal.entries - 4) (count_by is_allowed outcome.told) (count_by is_denied outcome.told) (length outcome.journal.entries)) }
+        line_of steps outcome.idle (length outcome.journal.entries - 4) (count_by is_allowed outcome.told)
+        (count_by is_denied outcome.told) (length outcome.journal.entries)) }
 {
     let idle = outcome.idle;
     let length = outcome.journal.count();

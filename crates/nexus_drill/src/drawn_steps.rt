@@ -1,5 +1,5 @@
 // The step of a draw.
-ghost use Rattle.std.specs.Prelude.{◌≡◌, ◌<◌, ◌%◌, ◌/◌, IfOk, OnOk};
+ghost use Rattle.std.specs.Prelude.{◌≡◌, ◌<◌, ◌%◌, ◌/◌, IfOk};
 ghost use Rattle.policy_history.specs.Events.{event_tree};
 ghost use Rattle.cache_machine.specs.Views.{act_tree, step_tree};
 ghost use Rattle.nexus_drill.specs.Loads.{act_of, change_of};
@@ -12,7 +12,8 @@ use std::alloc::{AllocError, Global};
 /// The step of a draw, where the journal holds the label with this number. `docs/FORMATS.md`, "Generated load", states it.
 /// An `Err` is want of memory.
 pub fn step_of(alloc: Global, draw: u64, held: Option<u64>) -> Result<Step, AllocError>
-    ensures { IfOk result (λ step. step_tree step ≡ record { actor = draw % 4; act = act_of ((draw / 4) % 10) (change_of held) }) }
+    ensures { IfOk result
+        (λ step. step_tree step ≡ record { actor = draw % 4; act = act_of ((draw / 4) % 10) (change_of held) }) }
 {
     Ok(Step {
         actor: draw % 4,

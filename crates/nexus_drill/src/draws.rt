@@ -1,5 +1,5 @@
 // The generator of draws.
-ghost use Rattle.std.specs.Prelude.{◌≡◌, ◌<◌, ◌^◌};
+ghost use Rattle.std.specs.Prelude.{◌≡◌};
 ghost use Rattle.nexus_drill.specs.Draws.{draw_of, next};
 
 /// The state of the generator after one more draw. `docs/FORMATS.md`, "Generated load", states it.

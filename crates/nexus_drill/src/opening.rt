@@ -75,7 +75,9 @@ fn registered(alloc: Global) -> Result<Event, AllocError>
 fn add(journal: &mut Journal, event: Event) -> Result<(), AllocError>
     requires principal { 0 < length journal.old.head.principals }
     ensures head { journal.new.head ≡ journal.old.head }
-    ensures entries { OnOk result (entry_trees journal.new.entries ≡ entry_trees journal.old.entries ++ (record { session = 1; principal = 0; event = event_tree event }) ∷ []) }
+    ensures entries { OnOk result
+        (entry_trees journal.new.entries ≡ entry_trees journal.old.entries
+        ++ (record { session = 1; principal = 0; event = event_tree event }) ∷ []) }
 {
     if journal.decide(1, 0, &event).is_err() {
         drop(event);

@@ -1,5 +1,5 @@
 // The requests of a worker of the service's load.
-ghost use Rattle.std.specs.Prelude.{◌≡◌, ◌<◌, ◌++◌, ◌∷◌, IfOk, Some, slice_get};
+ghost use Rattle.std.specs.Prelude.{◌≡◌, ◌<◌, ◌++◌, IfOk, Some, slice_get};
 ghost use Rattle.std.specs.Fmt.{decimal};
 ghost use Rattle.session_wire.specs.declared.requests.Request.TheVariants.{Call, Say, SetGoal, SetProof};
 ghost use Rattle.nexus_drill.specs.Drills.{drill_principal, first_requests, goal_text, object, principal, proof_text, request_of, secret, set_after, turning};

@@ -1,6 +1,6 @@
 //! Labels that a peer says.
 ghost use Rattle.std.specs.Prelude.{◌≡◌, ◌<◌, ◌++◌, ℕ, IfErr, IfOk, List, OnErr, length, map, take};
-ghost use Rattle.nal_term.specs.Trees.{FormulaTree, formula_tree};
+ghost use Rattle.nal_term.specs.Trees.{formula_tree};
 ghost use Rattle.policy_history.specs.Events.{EntryTree};
 ghost use Rattle.policy_history.specs.Values.{entry_trees, greatest_of};
 ghost use Rattle.peer_labels.specs.Carrying.{AreSaidByPeer, Carries};

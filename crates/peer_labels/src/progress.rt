@@ -1,5 +1,5 @@
 //! Which line may follow which in a bundle.
-ghost use Rattle.std.specs.Prelude.{◌≡◌, ◌≢◌, List, codes, IfErr, IfOk, map, ℕ};
+ghost use Rattle.std.specs.Prelude.{◌≡◌, ◌≢◌, IfErr, IfOk, map};
 ghost use Rattle.nal_term.specs.Trees.{formula_tree};
 ghost use Rattle.peer_labels.specs.Bundles.{Follows, Stage, header_due, label_due};
 ghost use Rattle.peer_labels.specs.Inner.Reading.{stage_of};

@@ -1,5 +1,5 @@
 //! The book: how it is made, opened and given up, and how sessions get their passes.
-ghost use Rattle.std.specs.Prelude.{◌≡◌, ◌≢◌, ℕ, ◌+◌, ◌-◌, ◌^◌, ◌<◌, ◌≤◌, List, [], false, map, true, All, IfErr, IfOk, OnOk};
+ghost use Rattle.std.specs.Prelude.{◌≡◌, ◌≢◌, ◌+◌, ◌-◌, ◌^◌, ◌<◌, ◌≤◌, [], false, map, true, All, IfErr, IfOk, OnOk};
 ghost use Rattle.nx_io.specs.Streams.{SendsAll, faults_after_reach};
 ghost use Rattle.policy_history.specs.PolicyTexts.{front};
 ghost use Rattle.policy_history.specs.Values.{entry_trees, greatest_of};
@@ -53,7 +53,14 @@ impl<K: Sink> Book<K> {
         sink: K,
     ) -> Result<(Board<NalMatter>, Book<K>), (Journal, K, AllocError)>
         requires { greatest_of (entry_trees journal.entries) < 2 ^ 64 - 1 }
-        ensures board { IfOk result (λ r. r.0.origin ≡ record { setting = journal.head; opening = journal.entries; first = greatest_of (entry_trees journal.entries) + 1 }) }
+        ensures board { IfOk result
+            (λ r. r.0.origin
+            ≡ record {
+              setting = journal.head;
+              opening = journal.entries;
+              first = greatest_of
+                  (entry_trees journal.entries) + 1;
+            }) }
         ensures book { IfOk result (λ r. r.1 ≡ new_book K.sent K.faults r.0 sink) }
         ensures kept { IfErr result (λ r. (r.0 ≡ journal) × (r.1 ≡ sink)) }
     {
@@ -84,7 +91,8 @@ impl<K: Sink> Book<K> {
         requires closed { self.old.is_open ≡ false }
         requires unbroken { self.old.is_broken ≡ false }
         requires text { text.now ≡ front (head_of self.old) (trees_of self.old) }
-        ensures book { self.new ≡ record self.old { sink = self.new.sink; is_open = is_ready result; is_broken = is_failed result } }
+        ensures book { self.new
+            ≡ record self.old { sink = self.new.sink; is_open = is_ready result; is_broken = is_failed result } }
         ensures bytes { SendsAll result (K.sent self.old.sink) (K.sent self.new.sink) text.now }
         ensures count { K.faults self.new.sink ≡ faults_after_reach result (K.faults self.old.sink) }
     {
@@ -115,7 +123,14 @@ impl<K: Sink> Book<K> {
     pub fn enter(&mut self, board: &Board<NalMatter>) -> Pass<NalMatter>
         requires board { self.old.board ≡ board.now }
         requires room { self.old.next < 2 ^ 64 - 1 }
-        ensures pass { result ≡ record { board = board.now; session = self.old.next; seen = self.old.entries; trail = []; known = self.old.known } }
+        ensures pass { result
+            ≡ record {
+              board = board.now;
+              session = self.old.next;
+              seen = self.old.entries;
+              trail = [];
+              known = self.old.known;
+            } }
         ensures unused { All (λ entry. entry.session ≢ self.old.next) self.old.entries }
         ensures book { self.new ≡ record self.old { next = self.old.next + 1 } }
     {

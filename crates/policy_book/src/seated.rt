@@ -1,5 +1,5 @@
 //! The journal, with the seat of its board.
-ghost use Rattle.std.specs.Prelude.{◌≡◌, ◌≢◌, ℕ, ◌+◌, ◌-◌, ◌^◌, ◌<◌, ◌≤◌, List, [], ◌∷◌, ◌++◌, length, map, All, IfOk, IfSome, IsOk, None, OnOk};
+ghost use Rattle.std.specs.Prelude.{◌≡◌, ◌≢◌, ◌+◌, ◌-◌, ◌^◌, ◌<◌, ◌≤◌, [], ◌∷◌, ◌++◌, length, map, All, IfOk, IfSome, IsOk, None, OnOk};
 ghost use Rattle.policy_history.specs.Events.{admitted, event_tree};
 ghost use Rattle.policy_history.specs.Judged.{region_in};
 ghost use Rattle.policy_history.specs.Machine.{IsLegal};

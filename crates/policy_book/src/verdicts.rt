@@ -1,5 +1,5 @@
 //! Verdicts as a board keeps them.
-ghost use Rattle.std.specs.Prelude.{◌≡◌, ◌≤◌, IfNone, IfSome};
+ghost use Rattle.std.specs.Prelude.{IfNone, IfSome};
 ghost use Rattle.policy_book.specs.Matter.{IsOfProof, StandsFor};
 ghost use Rattle.verdict_words.specs.Words.{IsHeld};
 ghost use Rattle.verdict_words.specs.declared.places.Held.{Held};

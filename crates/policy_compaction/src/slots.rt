@@ -1,5 +1,5 @@
 //! What an entry leaves, and whose earlier deeds it undoes, as the keys of a set.
-ghost use Rattle.std.specs.Prelude.{◌≡◌, IfOk, Some, fold, option_map};
+ghost use Rattle.std.specs.Prelude.{◌≡◌, IfOk, Some, option_map};
 ghost use Rattle.std.specs.Cmp.{partial_equiv_from_equiv};
 ghost use Rattle.nal_term.specs.Trees.{term_tree};
 ghost use Rattle.policy_history.specs.Events.{entry_tree};

@@ -88,7 +88,8 @@ impl Policy {
         object: u64,
     ) -> Result<Option<Formula>, AllocError>
         requires { subject < length head.now.principals }
-        ensures { IfOk result (λ goal. option_map formula_tree goal ≡ goal_for head.now (state_of self.now) subject op.now object) }
+        ensures { IfOk result
+            (λ goal. option_map formula_tree goal ≡ goal_for head.now (state_of self.now) subject op.now object) }
     {
         let Some(goal) = self.goals.goal(op, object) else {
             return Ok(None);
@@ -119,7 +120,8 @@ fn held_labels(
     holder: u32,
     lines: &[Line],
 ) -> Result<Labels, AllocError>
-    ensures { IfOk result (λ labels. map formula_tree labels ≡ labels_for (label_rows store.now) holder (line_trees lines.now)) }
+    ensures { IfOk result
+        (λ labels. map formula_tree labels ≡ labels_for (label_rows store.now) holder (line_trees lines.now)) }
 {
     let mut labels = Labels::new(alloc);
     for line in lines {
@@ -135,7 +137,9 @@ fn push_label(
     holder: u32,
     line: &Line,
 ) -> Result<(), AllocError>
-    ensures { OnOk result (map formula_tree labels.new ≡ map formula_tree labels.old ++ label_of_line (label_rows store.now) holder (line_tree line.now)) }
+    ensures { OnOk result
+        (map formula_tree labels.new ≡ map formula_tree labels.old
+        ++ label_of_line (label_rows store.now) holder (line_tree line.now)) }
 {
     if is_label(line) && store.holds(holder, &line.formula) {
         push(labels, line.formula.copy(alloc)?)?;
@@ -160,7 +164,9 @@ fn push_binding(
     store: &GoalStore,
     line: &Line,
 ) -> Result<(), AllocError>
-    ensures { OnOk result (map binding_tree bound.new ≡ map binding_tree bound.old ++ bindings_of_line (ports store.now) (line_tree line.now)) }
+    ensures { OnOk result
+        (map binding_tree bound.new ≡ map binding_tree bound.old
+        ++ bindings_of_line (ports store.now) (line_tree line.now)) }
 {
     if is_ask(line) {
         push_binding_of(alloc, bound, store, &line.formula)
@@ -175,7 +181,9 @@ fn push_binding_of(
     store: &GoalStore,
     formula: &Formula,
 ) -> Result<(), AllocError>
-    ensures { OnOk result (map binding_tree bound.new ≡ map binding_tree bound.old ++ binding_for (ports store.now) (formula_tree formula.now)) }
+    ensures { OnOk result
+        (map binding_tree bound.new ≡ map binding_tree bound.old
+        ++ binding_for (ports store.now) (formula_tree formula.now)) }
 {
     let Formula::Says(principal, _) = formula else {
         return Ok(());

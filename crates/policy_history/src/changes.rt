@@ -1,5 +1,5 @@
 //! What accepted events do to the tables.
-ghost use Rattle.std.specs.Prelude.{◌≡◌, ◌<◌, ◌≤◌, ◌+◌, ◌^◌, ℕ, length, option_map, All};
+ghost use Rattle.std.specs.Prelude.{◌≡◌, ◌<◌, ◌≤◌, ◌+◌, ◌^◌, length, option_map, All};
 ghost use Rattle.nal_term.specs.Trees.{formula_tree, term_tree};
 ghost use Rattle.proof_lines.specs.Lines.{line_trees};
 ghost use Rattle.label_store.specs.LabelRows.{LabelRow};
@@ -40,11 +40,14 @@ impl Policy {
         formula: &Option<Formula>,
         copies: Copies,
     )
-        requires copies { AreCopies copies (tree.say (option_map term_tree principal.now) (option_map formula_tree formula.now)) }
+        requires copies { AreCopies copies
+            (tree.say (option_map term_tree principal.now) (option_map formula_tree formula.now)) }
         requires room { 1 ≤ spare_of self.old }
         requires entries { self.old.entries + 1 < 2 ^ 64 }
         requires numbers { All (λ (row : LabelRow). row.0 < self.old.entries + 1) (state_of self.old).labels }
-        ensures state { state_of self.new ≡ changed head.now (state_of self.old) caller (tree.say (option_map term_tree principal.now) (option_map formula_tree formula.now)) }
+        ensures state { state_of self.new
+            ≡ changed head.now (state_of self.old) caller
+            (tree.say (option_map term_tree principal.now) (option_map formula_tree formula.now)) }
         ensures spare { spare_of self.old ≤ spare_of self.new + 1 }
     {
         if let Copies::Label(label) = copies {
@@ -94,7 +97,9 @@ impl Policy {
     )
         requires copies { AreCopies copies (tree.set_goal op.now object.now (option_map formula_tree goal.now)) }
         requires room { 1 ≤ spare_of self.old }
-        ensures state { state_of self.new ≡ changed head.now (state_of self.old) caller (tree.set_goal op.now object.now (option_map formula_tree goal.now)) }
+        ensures state { state_of self.new
+            ≡ changed head.now (state_of self.old) caller
+            (tree.set_goal op.now object.now (option_map formula_tree goal.now)) }
         ensures spare { spare_of self.old ≤ spare_of self.new + 1 }
     {
         let number = self.object_or_0(object);
@@ -105,7 +110,8 @@ impl Policy {
 
     fn clear_goal(&mut self, head: &Head, session: u64, caller: u32, op: &Name, object: &Name)
         requires { IsUnopposed head.now (state_of self.old) session caller (tree.clear_goal op.now object.now) }
-        ensures state { state_of self.new ≡ changed head.now (state_of self.old) caller (tree.clear_goal op.now object.now) }
+        ensures state { state_of self.new
+            ≡ changed head.now (state_of self.old) caller (tree.clear_goal op.now object.now) }
         ensures spare { spare_of self.old ≤ spare_of self.new + 1 }
     {
         let number = self.object_or_0(object);
@@ -124,8 +130,11 @@ impl Policy {
     )
         requires copies { AreCopies copies (tree.set_proof op.now object.now (option_map line_trees proof.now)) }
         requires room { 1 ≤ spare_of self.old }
-        requires accepted { IsUnopposed head.now (state_of self.old) session caller (tree.set_proof op.now object.now (option_map line_trees proof.now)) }
-        ensures state { state_of self.new ≡ changed head.now (state_of self.old) caller (tree.set_proof op.now object.now (option_map line_trees proof.now)) }
+        requires accepted { IsUnopposed head.now (state_of self.old) session caller
+            (tree.set_proof op.now object.now (option_map line_trees proof.now)) }
+        ensures state { state_of self.new
+            ≡ changed head.now (state_of self.old) caller
+            (tree.set_proof op.now object.now (option_map line_trees proof.now)) }
         ensures spare { spare_of self.old ≤ spare_of self.new + 1 }
     {
         let number = self.object_or_0(object);
@@ -136,7 +145,8 @@ impl Policy {
 
     fn clear_proof(&mut self, head: &Head, session: u64, caller: u32, op: &Name, object: &Name)
         requires { IsUnopposed head.now (state_of self.old) session caller (tree.clear_proof op.now object.now) }
-        ensures state { state_of self.new ≡ changed head.now (state_of self.old) caller (tree.clear_proof op.now object.now) }
+        ensures state { state_of self.new
+            ≡ changed head.now (state_of self.old) caller (tree.clear_proof op.now object.now) }
         ensures spare { spare_of self.old ≤ spare_of self.new + 1 }
     {
         let number = self.object_or_0(object);
@@ -153,7 +163,8 @@ impl Policy {
     )
         requires copies { AreCopies copies (tree.bind (option_map term_tree principal.now) port) }
         requires room { 1 ≤ spare_of self.old }
-        ensures state { state_of self.new ≡ changed head.now (state_of self.old) caller (tree.bind (option_map term_tree principal.now) port) }
+        ensures state { state_of self.new
+            ≡ changed head.now (state_of self.old) caller (tree.bind (option_map term_tree principal.now) port) }
         ensures spare { spare_of self.old ≤ spare_of self.new + 1 }
     {
         if let Copies::Port(principal) = copies {
@@ -162,8 +173,10 @@ impl Policy {
     }
 
     fn unbind(&mut self, head: &Head, session: u64, caller: u32, principal: &Option<Term>)
-        requires { IsUnopposed head.now (state_of self.old) session caller (tree.unbind (option_map term_tree principal.now)) }
-        ensures state { state_of self.new ≡ changed head.now (state_of self.old) caller (tree.unbind (option_map term_tree principal.now)) }
+        requires { IsUnopposed head.now (state_of self.old) session caller
+            (tree.unbind (option_map term_tree principal.now)) }
+        ensures state { state_of self.new
+            ≡ changed head.now (state_of self.old) caller (tree.unbind (option_map term_tree principal.now)) }
         ensures spare { spare_of self.old ≤ spare_of self.new + 1 }
     {
         let Some(principal) = principal else {
@@ -232,10 +245,12 @@ impl Policy {
         requires accepted { IsUnopposed head.now (state_of self.old) session caller (event_tree event.now) }
         requires sound { IsSound head.now (state_of self.old) }
         requires entries { self.old.entries + 1 < 2 ^ 64 }
-        ensures state { state_of self.new ≡ accepted head.now (state_of self.old) session caller (event_tree event.now) }
+        ensures state { state_of self.new
+            ≡ accepted head.now (state_of self.old) session caller (event_tree event.now) }
         ensures spare { spare_of self.old ≤ spare_of self.new + 1 }
         ensures number { result.number ≡ reply_number (state_of self.old) caller (event_tree event.now) }
-        ensures bytes { result.bytes ≡ length (entry_line session (name_of head.now.principals caller) (event_tree event.now)) }
+        ensures bytes { result.bytes
+            ≡ length (entry_line session (name_of head.now.principals caller) (event_tree event.now)) }
     {
         let number = self.reply_number(caller, event);
         let bytes = line_length(session, head.principals.name(caller), event);

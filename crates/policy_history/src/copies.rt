@@ -54,7 +54,9 @@ impl Copies {
         principal: &Option<Term>,
         formula: &Option<Formula>,
     ) -> Result<Copies, AllocError>
-        ensures { IfOk result (λ copies. AreCopies copies (tree.say (option_map term_tree principal.now) (option_map formula_tree formula.now))) }
+        ensures { IfOk result
+            (λ copies. AreCopies copies
+            (tree.say (option_map term_tree principal.now) (option_map formula_tree formula.now))) }
     {
         match (principal, formula) {
             (Some(principal), Some(formula)) => Ok(Copies::Label(label(
@@ -66,7 +68,9 @@ impl Copies {
     }
 
     fn of_goal(alloc: Global, op: &Name, goal: &Option<Formula>) -> Result<Copies, AllocError>
-        ensures { IfOk result (λ copies. (object : List ℕ) → AreCopies copies (tree.set_goal op.now object (option_map formula_tree goal.now))) }
+        ensures { IfOk result
+            (λ copies. (object : List ℕ)
+            → AreCopies copies (tree.set_goal op.now object (option_map formula_tree goal.now))) }
     {
         match goal {
             None => Ok(Copies::Nothing),
@@ -75,7 +79,9 @@ impl Copies {
     }
 
     fn of_proof(alloc: Global, op: &Name, proof: &Option<Proof>) -> Result<Copies, AllocError>
-        ensures { IfOk result (λ copies. (object : List ℕ) → AreCopies copies (tree.set_proof op.now object (option_map line_trees proof.now))) }
+        ensures { IfOk result
+            (λ copies. (object : List ℕ)
+            → AreCopies copies (tree.set_proof op.now object (option_map line_trees proof.now))) }
     {
         match proof {
             None => Ok(Copies::Nothing),
@@ -84,7 +90,8 @@ impl Copies {
     }
 
     fn of_port(alloc: Global, principal: &Option<Term>) -> Result<Copies, AllocError>
-        ensures { IfOk result (λ copies. (port : ℕ) → AreCopies copies (tree.bind (option_map term_tree principal.now) port)) }
+        ensures { IfOk result
+            (λ copies. (port : ℕ) → AreCopies copies (tree.bind (option_map term_tree principal.now) port)) }
     {
         match principal {
             None => Ok(Copies::Nothing),

@@ -1,5 +1,5 @@
 //! The journal: every accepted change, and the state that these lead to.
-ghost use Rattle.std.specs.Prelude.{◌≡◌, ◌<◌, ◌≤◌, ◌+◌, ◌-◌, ◌++◌, ◌∷◌, [], ℕ, length, IfOk, IfSome, IsOk, OnOk, OnErr, Some, None, map, option_map, slice_get};
+ghost use Rattle.std.specs.Prelude.{◌≡◌, ◌<◌, ◌≤◌, ◌+◌, ◌-◌, ◌++◌, ◌∷◌, [], length, IfOk, IfSome, IsOk, OnOk, Some, None, map, option_map, slice_get};
 ghost use Rattle.std.specs.Option.{option_copied};
 ghost use Rattle.nal_term.specs.Trees.{formula_tree};
 ghost use Rattle.object_table.specs.Objects.{number_of};
@@ -149,7 +149,8 @@ impl Journal {
     /// replied and the length of its line. It takes no memory. `docs/FORMATS.md`, "Events and refusals", states both.
     pub fn decide(&self, session: u64, principal: u32, event: &Event) -> Result<Due, Refusal>
         requires { principal < length self.now.head.principals }
-        ensures decision { result ≡ decision self.now.head (state_after self.now) session principal (event_tree event.now) }
+        ensures decision { result
+            ≡ decision self.now.head (state_after self.now) session principal (event_tree event.now) }
         ensures fewer { OnOk result (length self.now.entries < 262144) }
     {
         self.policy.decide(&self.head, session, principal, event)
@@ -180,8 +181,10 @@ impl Journal {
         requires room { 1 ≤ self.old.room }
         requires spare { event_tree spare ≡ event_tree event }
         ensures head { self.new.head ≡ self.old.head }
-        ensures entries { self.new.entries ≡ self.old.entries ++ (record { session = session; principal = principal; event = event }) ∷ [] }
-        ensures decision { Ok result ≡ decision self.old.head (state_after self.old) session principal (event_tree event) }
+        ensures entries { self.new.entries ≡ self.old.entries
+            ++ (record { session = session; principal = principal; event = event }) ∷ [] }
+        ensures decision { Ok result
+            ≡ decision self.old.head (state_after self.old) session principal (event_tree event) }
         ensures room { self.old.room ≤ self.new.room + 1 }
     {
         let _principals = self.head.principals.count();
@@ -230,7 +233,9 @@ impl Journal {
     /// fewer. It takes no memory.
     pub fn label(&self, holder: u32, k: u64) -> Option<&Formula>
         ensures zero { k ≡ 0 → option_copied result ≡ None }
-        ensures value { 0 < k → option_map formula_tree (option_copied result) ≡ slice_get (labels_of (state_after self.now).labels holder) (k - 1) }
+        ensures value { 0 < k
+            → option_map formula_tree (option_copied result)
+            ≡ slice_get (labels_of (state_after self.now).labels holder) (k - 1) }
     {
         self.policy.labels.label(holder, k)
     }

@@ -57,7 +57,10 @@ fn pair_length(op: &Name, object: &Name) -> u64
 }
 
 fn say_length(principal: &Option<Term>, formula: &Option<Formula>) -> u64
-    ensures { result ≡ min (length (event_text (tree.say (option_map term_tree principal.now) (option_map formula_tree formula.now)))) (2 ^ 64 - 1) }
+    ensures { result
+        ≡ min
+        (length (event_text (tree.say (option_map term_tree principal.now) (option_map formula_tree formula.now))))
+        (2 ^ 64 - 1) }
 {
     match (principal, formula) {
         (Some(principal), Some(formula)) => term_length(principal)
@@ -68,7 +71,8 @@ fn say_length(principal: &Option<Term>, formula: &Option<Formula>) -> u64
 }
 
 fn goal_length(op: &Name, object: &Name, goal: &Option<Formula>) -> u64
-    ensures { result ≡ min (length (event_text (tree.set_goal op.now object.now (option_map formula_tree goal.now)))) (2 ^ 64 - 1) }
+    ensures { result
+        ≡ min (length (event_text (tree.set_goal op.now object.now (option_map formula_tree goal.now)))) (2 ^ 64 - 1) }
 {
     match goal {
         None => 0,
@@ -79,7 +83,8 @@ fn goal_length(op: &Name, object: &Name, goal: &Option<Formula>) -> u64
 }
 
 fn set_proof_length(op: &Name, object: &Name, proof: &Option<Proof>) -> u64
-    ensures { result ≡ min (length (event_text (tree.set_proof op.now object.now (option_map line_trees proof.now)))) (2 ^ 64 - 1) }
+    ensures { result
+        ≡ min (length (event_text (tree.set_proof op.now object.now (option_map line_trees proof.now)))) (2 ^ 64 - 1) }
 {
     match proof {
         None => 0,

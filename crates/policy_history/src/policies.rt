@@ -1,5 +1,5 @@
 //! The tables of the policy, and what each event does to them.
-ghost use Rattle.std.specs.Prelude.{◌≡◌, ◌<◌, ◌≤◌, codes, length, map, IfOk, OnOk};
+ghost use Rattle.std.specs.Prelude.{◌≡◌, ◌<◌, ◌≤◌, codes, map, IfOk, OnOk};
 ghost use Rattle.policy_history.specs.declared.heads.Principal.{Principal};
 ghost use Rattle.policy_history.specs.States.{empty_state};
 ghost use Rattle.policy_history.specs.Tables.{state_of, spare_of};
@@ -51,7 +51,8 @@ impl Policy {
 
 // A tally for each principal, of nothing.
 fn no_tallies(alloc: Global, principals: &Principals) -> Result<Vec<Tally>, AllocError>
-    ensures { IfOk result (λ tallies. tallies.items ≡ map (λ (x : Principal). record { entries = 0; bytes = 0 }) principals.now) }
+    ensures { IfOk result
+        (λ tallies. tallies.items ≡ map (λ (x : Principal). record { entries = 0; bytes = 0 }) principals.now) }
 {
     let nothing = Tally {
         entries: 0,

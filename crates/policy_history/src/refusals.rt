@@ -100,7 +100,10 @@ impl Policy {
         formula: &Option<Formula>,
     ) -> Option<Refusal>
         requires { caller < length head.now.principals }
-        ensures { (n : ℕ) → result ≡ early_refusal head.now (state_of self.now) n caller (tree.say (option_map term_tree principal.now) (option_map formula_tree formula.now)) }
+        ensures { (n : ℕ)
+            → result
+            ≡ early_refusal head.now (state_of self.now) n caller
+            (tree.say (option_map term_tree principal.now) (option_map formula_tree formula.now)) }
     {
         if is_foreign(head.principals.name(caller), principal) {
             Some(Refusal::NotYourPrincipal)
@@ -157,7 +160,10 @@ impl Policy {
         object: &Name,
         goal: &Option<Formula>,
     ) -> Option<Refusal>
-        ensures { (n : ℕ) → result ≡ early_refusal head.now (state_of self.now) n caller (tree.set_goal op.now object.now (option_map formula_tree goal.now)) }
+        ensures { (n : ℕ)
+            → result
+            ≡ early_refusal head.now (state_of self.now) n caller
+            (tree.set_goal op.now object.now (option_map formula_tree goal.now)) }
     {
         if self.objects.number(object).is_none() {
             Some(Refusal::NoSuchObject)
@@ -177,7 +183,8 @@ impl Policy {
         op: &Name,
         object: &Name,
     ) -> Option<Refusal>
-        ensures { (n : ℕ) → result ≡ early_refusal head.now (state_of self.now) n caller (tree.clear_goal op.now object.now) }
+        ensures { (n : ℕ)
+            → result ≡ early_refusal head.now (state_of self.now) n caller (tree.clear_goal op.now object.now) }
     {
         if self.objects.number(object).is_none() {
             Some(Refusal::NoSuchObject)
@@ -198,7 +205,10 @@ impl Policy {
         object: &Name,
         proof: &Option<Proof>,
     ) -> Option<Refusal>
-        ensures { (n : ℕ) → result ≡ early_refusal head.now (state_of self.now) n caller (tree.set_proof op.now object.now (option_map line_trees proof.now)) }
+        ensures { (n : ℕ)
+            → result
+            ≡ early_refusal head.now (state_of self.now) n caller
+            (tree.set_proof op.now object.now (option_map line_trees proof.now)) }
     {
         if self.objects.number(object).is_none() {
             Some(Refusal::NoSuchObject)
@@ -216,7 +226,8 @@ impl Policy {
         op: &Name,
         object: &Name,
     ) -> Option<Refusal>
-        ensures { (n : ℕ) → result ≡ early_refusal head.now (state_of self.now) n caller (tree.clear_proof op.now object.now) }
+        ensures { (n : ℕ)
+            → result ≡ early_refusal head.now (state_of self.now) n caller (tree.clear_proof op.now object.now) }
     {
         if self.objects.number(object).is_none() {
             Some(Refusal::NoSuchObject)
@@ -235,7 +246,10 @@ impl Policy {
         port: u64,
     ) -> Option<Refusal>
         requires { caller < length head.now.principals }
-        ensures { (n : ℕ) → result ≡ early_refusal head.now (state_of self.now) n caller (tree.bind (option_map term_tree principal.now) port) }
+        ensures { (n : ℕ)
+            → result
+            ≡ early_refusal head.now (state_of self.now) n caller
+            (tree.bind (option_map term_tree principal.now) port) }
     {
         if is_foreign(head.principals.name(caller), principal) {
             Some(Refusal::NotYourPrincipal)
@@ -250,7 +264,9 @@ impl Policy {
 
     fn unbind_refusal(&self, head: &Head, caller: u32, principal: &Option<Term>) -> Option<Refusal>
         requires { caller < length head.now.principals }
-        ensures { (n : ℕ) → result ≡ early_refusal head.now (state_of self.now) n caller (tree.unbind (option_map term_tree principal.now)) }
+        ensures { (n : ℕ)
+            → result
+            ≡ early_refusal head.now (state_of self.now) n caller (tree.unbind (option_map term_tree principal.now)) }
     {
         if is_foreign(head.principals.name(caller), principal) {
             Some(Refusal::NotYourPrincipal)
@@ -288,7 +304,10 @@ impl Policy {
 
     // The refusal of an event for which there is no room in a table.
     fn full_refusal(&self, head: &Head, caller: u32, event: &Event) -> Option<Refusal>
-        ensures { (n : ℕ) → result ≡ find (applies head.now (state_of self.now) n caller (event_tree event.now)) (ObjectsFull ∷ CasesFull ∷ []) }
+        ensures { (n : ℕ)
+            → result
+            ≡ find (applies head.now (state_of self.now) n caller (event_tree event.now))
+            (ObjectsFull ∷ CasesFull ∷ []) }
     {
         match event {
             Event::NewObject { name: _ } => {

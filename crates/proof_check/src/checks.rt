@@ -1,4 +1,4 @@
-ghost use Rattle.std.specs.Prelude.{◌≡◌, ◌≢◌, ◌↔◌, ◌+◌, ◌*◌, ◌<◌, ◌≤◌, ℕ, [], length, map, IfErr, IfOk, IsNone, IsOk, OnOk, MatchOption};
+ghost use Rattle.std.specs.Prelude.{◌≡◌, ◌≢◌, ◌↔◌, ◌+◌, ◌<◌, ◌≤◌, ℕ, [], length, IfErr, IfOk, IsNone, IsOk, OnOk, MatchOption};
 ghost use Rattle.nal_term.specs.Size.{node_count};
 ghost use Rattle.nal_term.specs.Trees.{formula_tree};
 ghost use Rattle.proof_lines.specs.Lines.{line_trees};
@@ -6,7 +6,7 @@ ghost use Rattle.nal_rules.specs.Derivation.{Derives};
 ghost use Rattle.nal_rules.specs.Faults.{HasFault, HasLowestFault, IsFaultless, formulas_where, is_ask, is_label, numbers_from};
 ghost use Rattle.proof_check.specs.Inner.LineSets.{AreHypothesisSets};
 ghost use Rattle.proof_check.specs.Results.{IsRightError};
-ghost use Rattle.proof_check.specs.Sizes.{greatest_in, greatest_size, line_steps, proof_steps};
+ghost use Rattle.proof_check.specs.Sizes.{greatest_in, greatest_size, proof_steps};
 ghost use Rattle.proof_check.specs.Inner.Sound.{IsSoundAt};
 
 use crate::faults::line_fault;
@@ -57,11 +57,13 @@ pub fn check(alloc: Global, proof: &Proof, goal: &Formula) -> Result<Checked, Ch
     ensures line { IfErr result (λ e. IsRightError (line_trees proof.now) (formula_tree goal.now) e) }
     ensures faultless { OnOk result
         ((k : ℕ) → IsFaultless (line_trees proof.now) (formula_tree goal.now) k) }
-    ensures complete { proof.now ≢ [] → ((k : ℕ) → IsFaultless (line_trees proof.now) (formula_tree goal.now) k) → IsOk result }
+    ensures complete { proof.now ≢ [] → ((k : ℕ) → IsFaultless (line_trees proof.now) (formula_tree goal.now) k)
+        → IsOk result }
     ensures labels { IfOk result (λ c. c.labels ≡ numbers_from is_label 1 (line_trees proof.now)) }
     ensures asks { IfOk result (λ c. c.asks ≡ numbers_from is_ask 1 (line_trees proof.now)) }
     ensures derives { OnOk result
-        (Derives (formulas_where is_label (line_trees proof.now)) (formulas_where is_ask (line_trees proof.now)) (formula_tree goal.now)) }
+        (Derives (formulas_where is_label (line_trees proof.now)) (formulas_where is_ask (line_trees proof.now))
+        (formula_tree goal.now)) }
 {
     check_uncounted::<Brand>(alloc, proof, goal, Blank::new(1))
 }
@@ -81,11 +83,13 @@ fn check_uncounted<L: Ledger>(
     ensures line { IfErr result (λ e. IsRightError (line_trees proof.now) (formula_tree goal.now) e) }
     ensures faultless { OnOk result
         ((k : ℕ) → IsFaultless (line_trees proof.now) (formula_tree goal.now) k) }
-    ensures complete { proof.now ≢ [] → ((k : ℕ) → IsFaultless (line_trees proof.now) (formula_tree goal.now) k) → IsOk result }
+    ensures complete { proof.now ≢ [] → ((k : ℕ) → IsFaultless (line_trees proof.now) (formula_tree goal.now) k)
+        → IsOk result }
     ensures labels { IfOk result (λ c. c.labels ≡ numbers_from is_label 1 (line_trees proof.now)) }
     ensures asks { IfOk result (λ c. c.asks ≡ numbers_from is_ask 1 (line_trees proof.now)) }
     ensures derives { OnOk result
-        (Derives (formulas_where is_label (line_trees proof.now)) (formulas_where is_ask (line_trees proof.now)) (formula_tree goal.now)) }
+        (Derives (formulas_where is_label (line_trees proof.now)) (formulas_where is_ask (line_trees proof.now))
+        (formula_tree goal.now)) }
 {
     let mut steps = Steps::<L>::start(blank);
     check_counted(alloc, proof, goal, &mut steps)
@@ -137,12 +141,15 @@ pub fn check_counted<L: Ledger>(
     ensures line { IfErr result (λ e. IsRightError (line_trees proof.now) (formula_tree goal.now) e) }
     ensures faultless { OnOk result
         ((k : ℕ) → IsFaultless (line_trees proof.now) (formula_tree goal.now) k) }
-    ensures complete { proof.now ≢ [] → ((k : ℕ) → IsFaultless (line_trees proof.now) (formula_tree goal.now) k) → IsOk result }
+    ensures complete { proof.now ≢ [] → ((k : ℕ) → IsFaultless (line_trees proof.now) (formula_tree goal.now) k)
+        → IsOk result }
     ensures labels { IfOk result (λ c. c.labels ≡ numbers_from is_label 1 (line_trees proof.now)) }
     ensures asks { IfOk result (λ c. c.asks ≡ numbers_from is_ask 1 (line_trees proof.now)) }
     ensures derives { OnOk result
-        (Derives (formulas_where is_label (line_trees proof.now)) (formulas_where is_ask (line_trees proof.now)) (formula_tree goal.now)) }
-    ensures most { steps.new ≤ steps.old + proof_steps (length proof.now) (greatest_size (line_trees proof.now) (formula_tree goal.now)) }
+        (Derives (formulas_where is_label (line_trees proof.now)) (formulas_where is_ask (line_trees proof.now))
+        (formula_tree goal.now)) }
+    ensures most { steps.new
+        ≤ steps.old + proof_steps (length proof.now) (greatest_size (line_trees proof.now) (formula_tree goal.now)) }
     ensures least { OnOk result (steps.old + node_count (formula_tree goal.now) ≤ steps.new) }
 {
     if proof.count() == 0 {

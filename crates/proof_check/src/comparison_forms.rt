@@ -46,7 +46,8 @@ pub fn has_eq_trans_form<L: Ledger>(
     conclusion: &Formula,
     steps: &mut Steps<L>,
 ) -> bool
-    ensures form { IsTrue result ↔ HasForm EqTrans (formula_tree first.now ∷ formula_tree second.now ∷ []) None (formula_tree conclusion.now) }
+    ensures form { IsTrue result ↔ HasForm EqTrans (formula_tree first.now ∷ formula_tree second.now ∷ []) None
+        (formula_tree conclusion.now) }
     ensures least { steps.old ≤ steps.new }
     ensures most { steps.new ≤ steps.old + node_count (formula_tree first.now) + node_count (formula_tree second.now) }
 {
@@ -65,7 +66,8 @@ pub fn has_lt_trans_form<L: Ledger>(
     conclusion: &Formula,
     steps: &mut Steps<L>,
 ) -> bool
-    ensures form { IsTrue result ↔ HasForm LtTrans (formula_tree first.now ∷ formula_tree second.now ∷ []) None (formula_tree conclusion.now) }
+    ensures form { IsTrue result ↔ HasForm LtTrans (formula_tree first.now ∷ formula_tree second.now ∷ []) None
+        (formula_tree conclusion.now) }
     ensures least { steps.old ≤ steps.new }
     ensures most { steps.new ≤ steps.old + node_count (formula_tree first.now) + node_count (formula_tree second.now) }
 {

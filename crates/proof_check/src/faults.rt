@@ -1,4 +1,4 @@
-ghost use Rattle.std.specs.Prelude.{◌≡◌, ◌≢◌, ◌↔◌, ◌+◌, ◌*◌, ◌≤◌, ◌<◌, true, IsFalse, IsNone, IsTrue, MatchOption, ℕ, length, map, take};
+ghost use Rattle.std.specs.Prelude.{◌≡◌, ◌≢◌, ◌↔◌, ◌+◌, ◌*◌, ◌≤◌, ◌<◌, true, IsFalse, IsNone, IsTrue, MatchOption, ℕ, length, take};
 ghost use Rattle.std.specs.List.{filter};
 ghost use Rattle.nal_term.specs.Size.{node_count};
 ghost use Rattle.nal_term.specs.Trees.{formula_tree};
@@ -41,7 +41,8 @@ pub fn line_fault<L: Ledger>(
         (λ fault. HasFault (line_trees proof.now) (formula_tree goal.now) number fault) }
     ensures least { steps.old ≤ steps.new }
     ensures most { steps.new ≤ steps.old + line_steps (length proof.now) (greatest_in (line_trees proof.now)) }
-    ensures goal { IsNone result → 0 < number → number ≡ length proof.now → steps.old + node_count (formula_tree goal.now) ≤ steps.new }
+    ensures goal { IsNone result → 0 < number → number ≡ length proof.now
+        → steps.old + node_count (formula_tree goal.now) ≤ steps.new }
 {
     let line = line_at(proof, number)?;
     let found = line_match(proof, line, steps);
@@ -100,7 +101,8 @@ fn is_met<L: Ledger>(
         → Applies (line_trees proof.now) (formula_tree goal.now) number (line_tree line.now) fault }
     ensures least { steps.old ≤ steps.new }
     ensures most { steps.new ≤ steps.old + fault_steps (length proof.now) (greatest_in (line_trees proof.now)) fault }
-    ensures goal { IsTrue result → fault ≡ Fault.NotGoal → number ≡ length proof.now → steps.old + node_count (formula_tree goal.now) ≤ steps.new }
+    ensures goal { IsTrue result → fault ≡ Fault.NotGoal → number ≡ length proof.now
+        → steps.old + node_count (formula_tree goal.now) ≤ steps.new }
 {
     match fault {
         Fault::NoSuchRef => are_earlier(line.refs.as_slice(), number),
@@ -222,7 +224,8 @@ fn is_goal_where_last<L: Ledger>(
         ↔ (number ≡ length proof.now → formula_tree line.now.formula ≡ formula_tree goal.now) }
     ensures least { steps.old ≤ steps.new }
     ensures most { steps.new ≤ steps.old + node_count (formula_tree line.now.formula) }
-    ensures all { IsTrue result → number ≡ length proof.now → steps.new ≡ steps.old + node_count (formula_tree goal.now) }
+    ensures all { IsTrue result → number ≡ length proof.now
+        → steps.new ≡ steps.old + node_count (formula_tree goal.now) }
 {
     number != proof.count() || equal_counted(&line.formula, goal, steps)
 }

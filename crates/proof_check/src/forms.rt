@@ -44,9 +44,11 @@ pub fn has_form_of_one<L: Ledger>(line: &Line, first: &Formula, steps: &mut Step
     requires form { HasRuleForm (line_tree line.now) }
     requires plain { takes_term line.now.rule ≡ false }
     ensures form { IsTrue result
-        ↔ HasForm line.now.rule (formula_tree first.now ∷ []) (option_map term_tree line.now.term) (formula_tree line.now.formula) }
+        ↔ HasForm line.now.rule (formula_tree first.now ∷ []) (option_map term_tree line.now.term)
+        (formula_tree line.now.formula) }
     ensures least { steps.old ≤ steps.new }
-    ensures most { steps.new ≤ steps.old + node_count (formula_tree first.now) + node_count (formula_tree line.now.formula) }
+    ensures most { steps.new
+        ≤ steps.old + node_count (formula_tree first.now) + node_count (formula_tree line.now.formula) }
 {
     match line.rule {
         Rule::AndL => has_and_l_form(first, &line.formula, steps),
@@ -74,9 +76,12 @@ pub fn has_form_of_two<L: Ledger>(
 ) -> bool
     requires form { HasRuleForm (line_tree line.now) }
     ensures form { IsTrue result
-        ↔ HasForm line.now.rule (formula_tree first.now ∷ formula_tree second.now ∷ []) (option_map term_tree line.now.term) (formula_tree line.now.formula) }
+        ↔ HasForm line.now.rule (formula_tree first.now ∷ formula_tree second.now ∷ [])
+        (option_map term_tree line.now.term) (formula_tree line.now.formula) }
     ensures least { steps.old ≤ steps.new }
-    ensures most { steps.new ≤ steps.old + node_count (formula_tree first.now) + node_count (formula_tree second.now) + node_count (formula_tree line.now.formula) }
+    ensures most { steps.new
+        ≤ steps.old + node_count (formula_tree first.now) + node_count (formula_tree second.now) + node_count
+        (formula_tree line.now.formula) }
 {
     match line.rule {
         Rule::AndI => has_and_i_form(first, second, &line.formula, steps),
@@ -102,7 +107,8 @@ pub fn has_form_of_three<L: Ledger>(
 ) -> bool
     requires form { HasRuleForm (line_tree line.now) }
     ensures form { IsTrue result
-        ↔ HasForm line.now.rule (formula_tree first.now ∷ formula_tree second.now ∷ formula_tree third.now ∷ []) (option_map term_tree line.now.term) (formula_tree line.now.formula) }
+        ↔ HasForm line.now.rule (formula_tree first.now ∷ formula_tree second.now ∷ formula_tree third.now ∷ [])
+        (option_map term_tree line.now.term) (formula_tree line.now.formula) }
     ensures least { steps.old ≤ steps.new }
     ensures most { steps.new ≤ steps.old + node_count (formula_tree first.now) + node_count (formula_tree third.now) }
 {
@@ -124,9 +130,13 @@ pub fn has_form_of_five<L: Ledger>(
 ) -> bool
     requires form { HasRuleForm (line_tree line.now) }
     ensures form { IsTrue result
-        ↔ HasForm line.now.rule (formula_tree first.now ∷ formula_tree second.now ∷ formula_tree third.now ∷ formula_tree fourth.now ∷ formula_tree fifth.now ∷ []) (option_map term_tree line.now.term) (formula_tree line.now.formula) }
+        ↔ HasForm line.now.rule
+        (formula_tree first.now ∷ formula_tree second.now ∷ formula_tree third.now ∷ formula_tree fourth.now
+        ∷ formula_tree fifth.now ∷ []) (option_map term_tree line.now.term) (formula_tree line.now.formula) }
     ensures least { steps.old ≤ steps.new }
-    ensures most { steps.new ≤ steps.old + node_count (formula_tree first.now) + node_count (formula_tree third.now) + node_count (formula_tree fifth.now) }
+    ensures most { steps.new
+        ≤ steps.old + node_count (formula_tree first.now) + node_count (formula_tree third.now) + node_count
+        (formula_tree fifth.now) }
 {
     match line.rule {
         Rule::OrE => has_or_e_form(first, second, third, fourth, fifth, &line.formula, steps),

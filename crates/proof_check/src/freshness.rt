@@ -1,4 +1,4 @@
-ghost use Rattle.std.specs.Prelude.{◌≡◌, ◌↔◌, ◌+◌, ◌*◌, ◌≤◌, Some, None, true, length, map, IsTrue};
+ghost use Rattle.std.specs.Prelude.{◌≡◌, ◌↔◌, ◌+◌, ◌*◌, ◌≤◌, Some, None, true, length, IsTrue};
 ghost use Rattle.nal_term.specs.Size.{node_count};
 ghost use Rattle.nal_term.specs.Free.{is_free_in};
 ghost use Rattle.nal_term.specs.Trees.{FormulaTree, formula_tree};
@@ -28,7 +28,9 @@ pub fn is_not_fresh<L: Ledger>(
     ensures fresh { IsTrue result
         ↔ IsNotFresh (line_trees proof.now) line.now.rule line.now.refs (formula_tree line.now.formula) }
     ensures least { steps.old ≤ steps.new }
-    ensures most { steps.new ≤ steps.old + node_count (formula_tree line.now.formula) + (length proof.now + 1) * greatest_in (line_trees proof.now) }
+    ensures most { steps.new
+        ≤ steps.old + node_count (formula_tree line.now.formula) + (length proof.now + 1) * greatest_in
+        (line_trees proof.now) }
 {
     let refs = line.refs.as_slice();
     match line.rule {
@@ -73,7 +75,9 @@ fn is_not_fresh_for_some<L: Ledger>(
     ensures fresh { IsTrue result
         ↔ IsNotFresh (line_trees proof.now) ExistsE refs.now (formula_tree conclusion.now) }
     ensures least { steps.old ≤ steps.new }
-    ensures most { steps.new ≤ steps.old + node_count (formula_tree conclusion.now) + (length proof.now + 1) * greatest_in (line_trees proof.now) }
+    ensures most { steps.new
+        ≤ steps.old + node_count (formula_tree conclusion.now) + (length proof.now + 1) * greatest_in
+        (line_trees proof.now) }
 {
     let [some, assumed, concluded] = refs else {
         return false;

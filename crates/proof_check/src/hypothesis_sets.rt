@@ -108,7 +108,8 @@ fn through_implies(sets: &[LineSet], number: u64, refs: &[u64]) -> LineSet
 fn through_exists(sets: &[LineSet], number: u64, refs: &[u64]) -> LineSet
     requires sets { length sets.now ≡ number }
     requires three { length refs.now ≡ 3 }
-    ensures { (h : ℕ) → holds result h ≡ list_any (leads (column_of sets.now h) h number) (supports_of ExistsE refs.now) }
+    ensures { (h : ℕ)
+        → holds result h ≡ list_any (leads (column_of sets.now h) h number) (supports_of ExistsE refs.now) }
 {
     match refs {
         [some, assumed, concluded] => {

@@ -21,7 +21,8 @@ pub fn has_and_i_form<L: Ledger>(
     conclusion: &Formula,
     steps: &mut Steps<L>,
 ) -> bool
-    ensures form { IsTrue result ↔ HasForm AndI (formula_tree first.now ∷ formula_tree second.now ∷ []) None (formula_tree conclusion.now) }
+    ensures form { IsTrue result ↔ HasForm AndI (formula_tree first.now ∷ formula_tree second.now ∷ []) None
+        (formula_tree conclusion.now) }
     ensures least { steps.old ≤ steps.new }
     ensures most { steps.new ≤ steps.old + node_count (formula_tree conclusion.now) }
 {
@@ -94,7 +95,8 @@ pub fn has_imp_i_form<L: Ledger>(
     conclusion: &Formula,
     steps: &mut Steps<L>,
 ) -> bool
-    ensures form { IsTrue result ↔ HasForm ImpI (formula_tree first.now ∷ formula_tree second.now ∷ []) None (formula_tree conclusion.now) }
+    ensures form { IsTrue result ↔ HasForm ImpI (formula_tree first.now ∷ formula_tree second.now ∷ []) None
+        (formula_tree conclusion.now) }
     ensures least { steps.old ≤ steps.new }
     ensures most { steps.new ≤ steps.old + node_count (formula_tree conclusion.now) }
 {
@@ -111,7 +113,8 @@ pub fn has_imp_e_form<L: Ledger>(
     conclusion: &Formula,
     steps: &mut Steps<L>,
 ) -> bool
-    ensures form { IsTrue result ↔ HasForm ImpE (formula_tree first.now ∷ formula_tree second.now ∷ []) None (formula_tree conclusion.now) }
+    ensures form { IsTrue result ↔ HasForm ImpE (formula_tree first.now ∷ formula_tree second.now ∷ []) None
+        (formula_tree conclusion.now) }
     ensures least { steps.old ≤ steps.new }
     ensures most { steps.new ≤ steps.old + node_count (formula_tree first.now) }
 {
@@ -148,9 +151,13 @@ pub fn has_or_e_form<L: Ledger>(
     conclusion: &Formula,
     steps: &mut Steps<L>,
 ) -> bool
-    ensures form { IsTrue result ↔ HasForm OrE (formula_tree either.now ∷ formula_tree left.now ∷ formula_tree first.now ∷ formula_tree right.now ∷ formula_tree second.now ∷ []) None (formula_tree conclusion.now) }
+    ensures form { IsTrue result ↔ HasForm OrE
+        (formula_tree either.now ∷ formula_tree left.now ∷ formula_tree first.now ∷ formula_tree right.now
+        ∷ formula_tree second.now ∷ []) None (formula_tree conclusion.now) }
     ensures least { steps.old ≤ steps.new }
-    ensures most { steps.new ≤ steps.old + node_count (formula_tree either.now) + node_count (formula_tree first.now) + node_count (formula_tree second.now) }
+    ensures most { steps.new
+        ≤ steps.old + node_count (formula_tree either.now) + node_count (formula_tree first.now) + node_count
+        (formula_tree second.now) }
 {
     match either {
         Formula::Or(a, b) => {
@@ -171,9 +178,12 @@ pub fn has_exists_e_form<L: Ledger>(
     conclusion: &Formula,
     steps: &mut Steps<L>,
 ) -> bool
-    ensures form { IsTrue result ↔ HasForm ExistsE (formula_tree some.now ∷ formula_tree assumed.now ∷ formula_tree concluded.now ∷ []) None (formula_tree conclusion.now) }
+    ensures form { IsTrue result ↔ HasForm ExistsE
+        (formula_tree some.now ∷ formula_tree assumed.now ∷ formula_tree concluded.now ∷ []) None
+        (formula_tree conclusion.now) }
     ensures least { steps.old ≤ steps.new }
-    ensures most { steps.new ≤ steps.old + node_count (formula_tree some.now) + node_count (formula_tree concluded.now) }
+    ensures most { steps.new
+        ≤ steps.old + node_count (formula_tree some.now) + node_count (formula_tree concluded.now) }
 {
     match some {
         Formula::Exists(_, a) => are_two_same(a, assumed, concluded, conclusion, steps),

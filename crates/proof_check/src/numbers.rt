@@ -1,4 +1,4 @@
-ghost use Rattle.std.specs.Prelude.{◌≡◌, IfOk};
+ghost use Rattle.std.specs.Prelude.{◌≡◌};
 ghost use Rattle.proof_lines.specs.Lines.{line_tree, line_trees};
 ghost use Rattle.nal_rules.specs.Faults.{numbers_from};
 ghost use Rattle.proof_check.specs.Inner.Kinds.{is_of_kind};

@@ -41,7 +41,8 @@ pub fn formula_at(proof: &Proof, number: u64) -> Option<&Formula>
 /// The formula of the line to which the reference at this place refers, counted from 0. None exactly
 /// where there is no such reference or no such line.
 pub fn premise_at<'a>(proof: &'a Proof, line: &Line, place: u64) -> Option<&'a Formula>
-    ensures formula { option_map (λ f. formula_tree f.now) result ≡ premise_at (line_trees proof.now) line.now.refs place }
+    ensures formula { option_map (λ f. formula_tree f.now) result
+        ≡ premise_at (line_trees proof.now) line.now.refs place }
     ensures size { IfSome result (λ f. node_count (formula_tree f.now) ≤ greatest_in (line_trees proof.now)) }
 {
     match line.refs.get(place) {
@@ -93,7 +94,8 @@ fn has_form_at_one<L: Ledger>(proof: &Proof, line: &Line, steps: &mut Steps<L>) 
     requires plain { takes_term line.now.rule ≡ false }
     ensures form { IsTrue result ↔ HasFormAt (line_trees proof.now) (line_tree line.now) }
     ensures least { steps.old ≤ steps.new }
-    ensures most { steps.new ≤ steps.old + greatest_in (line_trees proof.now) + node_count (formula_tree line.now.formula) }
+    ensures most { steps.new
+        ≤ steps.old + greatest_in (line_trees proof.now) + node_count (formula_tree line.now.formula) }
 {
     match premise_at(proof, line, 0) {
         Some(first) => has_form_of_one(line, first, steps),
@@ -107,7 +109,8 @@ fn has_form_at_two<L: Ledger>(proof: &Proof, line: &Line, steps: &mut Steps<L>) 
     requires two { reference_count line.now.rule ≡ 2 }
     ensures form { IsTrue result ↔ HasFormAt (line_trees proof.now) (line_tree line.now) }
     ensures least { steps.old ≤ steps.new }
-    ensures most { steps.new ≤ steps.old + 2 * greatest_in (line_trees proof.now) + node_count (formula_tree line.now.formula) }
+    ensures most { steps.new
+        ≤ steps.old + 2 * greatest_in (line_trees proof.now) + node_count (formula_tree line.now.formula) }
 {
     let Some(first) = premise_at(proof, line, 0) else {
         return false;

@@ -26,9 +26,12 @@ pub fn are_same_three<L: Ledger>(
     steps: &mut Steps<L>,
 ) -> bool
     ensures same { IsTrue result
-        ↔ (((term_tree a.now ≡ term_tree b.now) × (term_tree c.now ≡ term_tree d.now)) × (term_tree e.now ≡ term_tree f.now)) }
+        ↔ (((term_tree a.now ≡ term_tree b.now) × (term_tree c.now ≡ term_tree d.now))
+        × (term_tree e.now ≡ term_tree f.now)) }
     ensures least { steps.old ≤ steps.new }
-    ensures most { steps.new ≤ steps.old + term_node_count (term_tree a.now) + term_node_count (term_tree c.now) + term_node_count (term_tree e.now) }
+    ensures most { steps.new
+        ≤ steps.old + term_node_count (term_tree a.now) + term_node_count (term_tree c.now) + term_node_count
+        (term_tree e.now) }
 {
     are_same_two(a, b, c, d, steps) && equal_terms_counted(e, f, steps)
 }
@@ -44,9 +47,12 @@ pub fn are_same_said<L: Ledger>(
     steps: &mut Steps<L>,
 ) -> bool
     ensures same { IsTrue result
-        ↔ (((term_tree p.now ≡ term_tree q.now) × (term_tree r.now ≡ term_tree s.now)) × (formula_tree f.now ≡ formula_tree g.now)) }
+        ↔ (((term_tree p.now ≡ term_tree q.now) × (term_tree r.now ≡ term_tree s.now))
+        × (formula_tree f.now ≡ formula_tree g.now)) }
     ensures least { steps.old ≤ steps.new }
-    ensures most { steps.new ≤ steps.old + term_node_count (term_tree p.now) + term_node_count (term_tree r.now) + node_count (formula_tree f.now) }
+    ensures most { steps.new
+        ≤ steps.old + term_node_count (term_tree p.now) + term_node_count (term_tree r.now) + node_count
+        (formula_tree f.now) }
 {
     are_same_two(p, q, r, s, steps) && equal_counted(f, g, steps)
 }

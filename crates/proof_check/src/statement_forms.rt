@@ -75,7 +75,8 @@ pub fn has_sf_trans_form<L: Ledger>(
     conclusion: &Formula,
     steps: &mut Steps<L>,
 ) -> bool
-    ensures form { IsTrue result ↔ HasForm SfTrans (formula_tree first.now ∷ formula_tree second.now ∷ []) None (formula_tree conclusion.now) }
+    ensures form { IsTrue result ↔ HasForm SfTrans (formula_tree first.now ∷ formula_tree second.now ∷ []) None
+        (formula_tree conclusion.now) }
     ensures least { steps.old ≤ steps.new }
     ensures most { steps.new ≤ steps.old + node_count (formula_tree first.now) + node_count (formula_tree second.now) }
 {
@@ -94,7 +95,8 @@ pub fn has_sf_e_form<L: Ledger>(
     conclusion: &Formula,
     steps: &mut Steps<L>,
 ) -> bool
-    ensures form { IsTrue result ↔ HasForm SfE (formula_tree first.now ∷ formula_tree second.now ∷ []) None (formula_tree conclusion.now) }
+    ensures form { IsTrue result ↔ HasForm SfE (formula_tree first.now ∷ formula_tree second.now ∷ []) None
+        (formula_tree conclusion.now) }
     ensures least { steps.old ≤ steps.new }
     ensures most { steps.new ≤ steps.old + node_count (formula_tree first.now) + node_count (formula_tree second.now) }
 {
@@ -113,7 +115,8 @@ pub fn has_sf_on_e_form<L: Ledger>(
     conclusion: &Formula,
     steps: &mut Steps<L>,
 ) -> bool
-    ensures form { IsTrue result ↔ HasForm SfOnE (formula_tree first.now ∷ formula_tree second.now ∷ []) None (formula_tree conclusion.now) }
+    ensures form { IsTrue result ↔ HasForm SfOnE (formula_tree first.now ∷ formula_tree second.now ∷ []) None
+        (formula_tree conclusion.now) }
     ensures least { steps.old ≤ steps.new }
     ensures most { steps.new ≤ steps.old + node_count (formula_tree first.now) + node_count (formula_tree second.now) }
 {
@@ -189,7 +192,8 @@ pub fn has_deduce_form<L: Ledger>(
     ensures form { IsTrue result
         ↔ HasForm Deduce (formula_tree first.now ∷ formula_tree second.now ∷ []) None (formula_tree conclusion.now) }
     ensures least { steps.old ≤ steps.new }
-    ensures most { steps.new ≤ steps.old + node_count (formula_tree first.now) + node_count (formula_tree conclusion.now) }
+    ensures most { steps.new
+        ≤ steps.old + node_count (formula_tree first.now) + node_count (formula_tree conclusion.now) }
 {
     match (first, second, conclusion) {
         (Formula::Says(p, body), Formula::Says(q, f), Formula::Says(r, g)) => match &**body {

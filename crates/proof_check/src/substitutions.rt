@@ -52,11 +52,14 @@ fn match_at<L: Ledger>(proof: &Proof, line: &Line, steps: &mut Steps<L>) -> Matc
 fn match_from<L: Ledger>(line: &Line, first: &Formula, steps: &mut Steps<L>) -> Match
     requires term { takes_term line.now.rule ≡ true }
     ensures captured { (result ≡ Match.Capture)
-        ↔ IsCaptured line.now.rule (formula_tree first.now ∷ []) (option_map term_tree line.now.term) (formula_tree line.now.formula) }
+        ↔ IsCaptured line.now.rule (formula_tree first.now ∷ []) (option_map term_tree line.now.term)
+        (formula_tree line.now.formula) }
     ensures formed { (result ≢ Match.No)
-        ↔ HasForm line.now.rule (formula_tree first.now ∷ []) (option_map term_tree line.now.term) (formula_tree line.now.formula) }
+        ↔ HasForm line.now.rule (formula_tree first.now ∷ []) (option_map term_tree line.now.term)
+        (formula_tree line.now.formula) }
     ensures least { steps.old ≤ steps.new }
-    ensures most { (z : ℕ) → node_count (formula_tree first.now) ≤ z → line_size (line_tree line.now) ≤ z → steps.new ≤ steps.old + z * z }
+    ensures most { (z : ℕ) → node_count (formula_tree first.now) ≤ z → line_size (line_tree line.now) ≤ z
+        → steps.new ≤ steps.old + z * z }
 {
     match &line.term {
         Some(term) => match_with(line.rule, first, term, &line.formula, steps),
@@ -78,7 +81,8 @@ fn match_with<L: Ledger>(
     ensures formed { (result ≢ Match.No)
         ↔ HasForm rule (formula_tree first.now ∷ []) (Some (term_tree term.now)) (formula_tree conclusion.now) }
     ensures least { steps.old ≤ steps.new }
-    ensures most { (z : ℕ) → node_count (formula_tree first.now) ≤ z → node_count (formula_tree conclusion.now) ≤ z → term_node_count (term_tree term.now) ≤ z
+    ensures most { (z : ℕ) → node_count (formula_tree first.now) ≤ z → node_count (formula_tree conclusion.now) ≤ z
+        → term_node_count (term_tree term.now) ≤ z
         → steps.new ≤ steps.old + z * z }
 {
     match rule {
@@ -100,7 +104,8 @@ fn match_of_all<L: Ledger>(
     ensures formed { (result ≢ Match.No)
         ↔ HasForm ForallE (formula_tree first.now ∷ []) (Some (term_tree term.now)) (formula_tree conclusion.now) }
     ensures least { steps.old ≤ steps.new }
-    ensures most { (z : ℕ) → node_count (formula_tree first.now) ≤ z → term_node_count (term_tree term.now) ≤ z → steps.new ≤ steps.old + z * z }
+    ensures most { (z : ℕ) → node_count (formula_tree first.now) ≤ z → term_node_count (term_tree term.now) ≤ z
+        → steps.new ≤ steps.old + z * z }
 {
     match first {
         Formula::Forall(x, a) => instance_counted(a, x, term, conclusion, steps),
@@ -120,7 +125,8 @@ fn match_of_some<L: Ledger>(
     ensures formed { (result ≢ Match.No)
         ↔ HasForm ExistsI (formula_tree first.now ∷ []) (Some (term_tree term.now)) (formula_tree conclusion.now) }
     ensures least { steps.old ≤ steps.new }
-    ensures most { (z : ℕ) → node_count (formula_tree conclusion.now) ≤ z → term_node_count (term_tree term.now) ≤ z → steps.new ≤ steps.old + z * z }
+    ensures most { (z : ℕ) → node_count (formula_tree conclusion.now) ≤ z → term_node_count (term_tree term.now) ≤ z
+        → steps.new ≤ steps.old + z * z }
 {
     match conclusion {
         Formula::Exists(x, a) => instance_counted(a, x, term, first, steps),

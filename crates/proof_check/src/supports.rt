@@ -64,7 +64,8 @@ pub fn missing_label(proof: &Proof, labels: &[Formula]) -> Option<u64>
 /// The principal of an ask line, and what it is asked. None exactly where the line is no ask line of a principal's
 /// statement.
 pub fn question(proof: &Proof, number: u64) -> Option<(&Term, &Formula)>
-    ensures asked { IfSome result (λ q. IsAskOf (line_trees proof.now) number (term_tree q.0.now) (formula_tree q.1.now)) }
+    ensures asked { IfSome result
+        (λ q. IsAskOf (line_trees proof.now) number (term_tree q.0.now) (formula_tree q.1.now)) }
     ensures none { IfNone result ((p : TermTree) (s : FormulaTree) → ¬ IsAskOf (line_trees proof.now) number p s) }
 {
     let line = proof.line(number)?;

@@ -1,4 +1,4 @@
-ghost use Rattle.std.specs.Prelude.{ℕ, ◌≡◌, ◌+◌, ◌<◌, ◌≤◌, ◌++◌, ◌∷◌, [], ◌⊎◌, true, false, length, Some, None, IfSome, IfNone, OnOk, slice_get, slice_set, is_some, IsSome, IsTrue};
+ghost use Rattle.std.specs.Prelude.{ℕ, ◌≡◌, ◌+◌, ◌<◌, ◌≤◌, ◌++◌, ◌∷◌, [], true, false, length, Some, None, IfSome, OnOk, slice_set, is_some, IsTrue};
 ghost use Rattle.std.specs.Option.{option_map, option_and_then, option_copied};
 ghost use Rattle.proof_lines.specs.Lines.{line_trees};
 ghost use Rattle.proof_store.specs.Cases.{rows, number_of, proof_of};
@@ -70,8 +70,12 @@ impl ProofStore {
     pub fn set(&mut self, subject: u32, op: Name, object: u64, proof: Proof) -> u64
         requires room { 1 ≤ self.old.spare }
         requires bound { number_of (rows self.old) subject op object ≡ None → length (rows self.old) < 65536 }
-        ensures known { (k : ℕ) → number_of (rows self.old) subject op object ≡ Some k → (result ≡ k) × (rows self.new ≡ slice_set (rows self.old) k (subject, op, object, Some (line_trees proof))) }
-        ensures fresh { number_of (rows self.old) subject op object ≡ None → (result ≡ length (rows self.old)) × (rows self.new ≡ rows self.old ++ (subject, op, object, Some (line_trees proof)) ∷ []) }
+        ensures known { (k : ℕ) → number_of (rows self.old) subject op object ≡ Some k
+            → (result ≡ k)
+            × (rows self.new ≡ slice_set (rows self.old) k (subject, op, object, Some (line_trees proof))) }
+        ensures fresh { number_of (rows self.old) subject op object ≡ None
+            → (result ≡ length (rows self.old))
+            × (rows self.new ≡ rows self.old ++ (subject, op, object, Some (line_trees proof)) ∷ []) }
         ensures spare { self.old.spare ≤ self.new.spare + 1 }
     {
         let (place, _) = self.ops.insert_full(op).unwrap();
@@ -83,8 +87,11 @@ impl ProofStore {
     /// Takes the proof of a subject, an operation and an object away; their row stays without one, and keeps
     /// its number. False exactly where they had no proof, and nothing changes then.
     pub fn clear(&mut self, subject: u32, op: &Name, object: u64) -> bool
-        ensures had { result ≡ is_some (option_and_then (proof_of (rows self.old)) (number_of (rows self.old) subject op.now object)) }
-        ensures cleared { IsTrue result → (k : ℕ) × (number_of (rows self.old) subject op.now object ≡ Some k) × (rows self.new ≡ slice_set (rows self.old) k (subject, op.now, object, None)) }
+        ensures had { result
+            ≡ is_some (option_and_then (proof_of (rows self.old)) (number_of (rows self.old) subject op.now object)) }
+        ensures cleared { IsTrue result
+            → (k : ℕ) × (number_of (rows self.old) subject op.now object ≡ Some k)
+            × (rows self.new ≡ slice_set (rows self.old) k (subject, op.now, object, None)) }
         ensures unchanged { result ≡ false → rows self.new ≡ rows self.old }
         ensures spare { self.new.spare ≡ self.old.spare }
     {

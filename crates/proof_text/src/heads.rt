@@ -1,4 +1,4 @@
-ghost use Rattle.std.specs.Prelude.{◌≡◌, IfOk, MatchOption, option_map};
+ghost use Rattle.std.specs.Prelude.{IfOk, MatchOption, option_map};
 ghost use Rattle.nal_term.specs.Trees.{term_tree};
 ghost use Rattle.proof_lines.specs.Lines.{reference_count};
 ghost use Rattle.proof_text.specs.ProofText.{BeginsWithNumbers, BeginsWithTerm, BeginsWithOptionalTerm, HasHead};

@@ -1,4 +1,4 @@
-ghost use Rattle.std.specs.Prelude.{◌≡◌, ◌≤◌, ◌<◌, ◌^◌, length, IsTrue, SomeIff, MatchOption, false, List, ℕ};
+ghost use Rattle.std.specs.Prelude.{◌≡◌, ◌≤◌, ◌<◌, length, MatchOption, false, List, ℕ};
 ghost use Rattle.proof_text.specs.ProofText.{bracket_length, BeginsWithRun, BeginsWithNumber, BeginsWithNumbers};
 ghost use Rattle.proof_text.specs.Inner.Reading.{Reads, NoForm, BeginsWithBracket, BeginsWithColon};
 

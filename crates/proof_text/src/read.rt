@@ -1,4 +1,4 @@
-ghost use Rattle.std.specs.Prelude.{◌≡◌, ◌≢◌, ◌<◌, ◌↔◌, ◌++◌, ◌∷◌, [], length, IfOk, IfErr, OnOk, IsTrue, List, ℕ, codes};
+ghost use Rattle.std.specs.Prelude.{◌≡◌, ◌≢◌, ◌<◌, ◌↔◌, ◌++◌, ◌∷◌, [], length, IfOk, IfErr, OnOk, IsTrue, List, codes};
 ghost use Rattle.std.specs.Option.{option_copied};
 ghost use Rattle.proof_lines.specs.Lines.{LineTree, HasRuleForm, line_tree, line_trees};
 ghost use Rattle.proof_text.specs.ProofText.{IsHeader, IsTail, IsWrong, IsMisspelled, IsProofText, IsRefused, SpellsProof};

@@ -32,7 +32,8 @@ pub fn prove_of(alloc: Global, text: &[u8]) -> Result<Option<Proof>, ProveError>
     requires { length text.now < 2 ^ 31 }
     ensures ok { IfOk result (λ found. IsTold text.now (option_map line_trees found)) }
     ensures wrong { IfErr result (IsWrongInput text.now) }
-    ensures refused { IfErr result (λ e. e ≢ ProveError.Memory → (other : form.ProveForm) → ¬ IsProveForm text.now other) }
+    ensures refused { IfErr result
+        (λ e. e ≢ ProveError.Memory → (other : form.ProveForm) → ¬ IsProveForm text.now other) }
 {
     let read = read_prove(alloc, text)?;
     match answer(alloc, &read) {
@@ -60,7 +61,9 @@ fn answer(alloc: Global, read: &ProveForm) -> Result<Option<Proof>, AllocError>
 /// want of memory.
 pub fn found_line(alloc: Global, found: &Option<Proof>) -> Result<Bytes, AllocError>
     ensures line { IfOk result (λ line. line ≡ found_text (option_map line_trees found.now) ++ 10 ∷ []) }
-    ensures read_again { OnOk result (IfSome found.now (λ proof. ProofFits (line_trees proof) → IsProofText (proof_text (line_trees proof)) (line_trees proof))) }
+    ensures read_again { OnOk result
+        (IfSome found.now
+        (λ proof. ProofFits (line_trees proof) → IsProofText (proof_text (line_trees proof)) (line_trees proof))) }
 {
     let mut line = match found {
         Some(proof) => print_proof(alloc, proof)?,

@@ -56,8 +56,11 @@ impl Givens {
 
     /// The same with the label of this text. `Wrong` exactly where the text is of none.
     pub fn with_label(self, alloc: Global, text: &[u8]) -> Result<Givens, LineError>
-        ensures ok { IfOk result (λ next. (f : FormulaTree) × IsStatement text.now f × (givens_tree next ≡ with_label (givens_tree self) f)) }
-        ensures only { IfOk result (λ next. (f : FormulaTree) → IsStatement text.now f → givens_tree next ≡ with_label (givens_tree self) f) }
+        ensures ok { IfOk result
+            (λ next. (f : FormulaTree) × IsStatement text.now f
+            × (givens_tree next ≡ with_label (givens_tree self) f)) }
+        ensures only { IfOk result
+            (λ next. (f : FormulaTree) → IsStatement text.now f → givens_tree next ≡ with_label (givens_tree self) f) }
         ensures wrong { IfErr result (λ e. e ≢ LineError.Memory → (f : FormulaTree) → ¬ IsStatement text.now f) }
     {
         let Givens { subject, labels } = self;

@@ -60,8 +60,10 @@ fn after_start(line: &[u8]) -> Result<ProveProgress, LineError>
 
 fn after_form(form: ProveForm, line: &[u8]) -> Result<ProveProgress, LineError>
     ensures ok { IfOk result (λ next. Follows (end_due (form_tree form)) line.now (stage_of next)) }
-    ensures only { IfOk result (λ next. (other : Stage) → Follows (end_due (form_tree form)) line.now other → other ≡ stage_of next) }
-    ensures wrong { IfErr result (λ e. e ≢ LineError.Memory → (next : Stage) → ¬ Follows (end_due (form_tree form)) line.now next) }
+    ensures only { IfOk result
+        (λ next. (other : Stage) → Follows (end_due (form_tree form)) line.now other → other ≡ stage_of next) }
+    ensures wrong { IfErr result
+        (λ e. e ≢ LineError.Memory → (next : Stage) → ¬ Follows (end_due (form_tree form)) line.now next) }
 {
     if is_line(line, "end") {
         Ok(ProveProgress::Ended(form))
@@ -116,8 +118,10 @@ fn after_givens(alloc: Global, givens: Givens, line: &[u8]) -> Result<ProveProgr
 /// The progress after the text of one label more. `Wrong` exactly where it may not stand.
 fn after_label(alloc: Global, givens: Givens, text: &[u8]) -> Result<ProveProgress, LineError>
     ensures ok { IfOk result (λ next. IsAfterLabel (givens_tree givens) text.now (stage_of next)) }
-    ensures only { IfOk result (λ next. (other : Stage) → IsAfterLabel (givens_tree givens) text.now other → other ≡ stage_of next) }
-    ensures wrong { IfErr result (λ e. e ≢ LineError.Memory → (next : Stage) → ¬ IsAfterLabel (givens_tree givens) text.now next) }
+    ensures only { IfOk result
+        (λ next. (other : Stage) → IsAfterLabel (givens_tree givens) text.now other → other ≡ stage_of next) }
+    ensures wrong { IfErr result
+        (λ e. e ≢ LineError.Memory → (next : Stage) → ¬ IsAfterLabel (givens_tree givens) text.now next) }
 {
     if !givens.has_room() {
         return Err(LineError::Wrong);
@@ -131,8 +135,10 @@ fn after_label(alloc: Global, givens: Givens, text: &[u8]) -> Result<ProveProgre
 /// The progress after the text of the goal. `Wrong` exactly where it is none.
 fn after_goal(alloc: Global, givens: Givens, text: &[u8]) -> Result<ProveProgress, LineError>
     ensures ok { IfOk result (λ next. IsAfterGoal (givens_tree givens) text.now (stage_of next)) }
-    ensures only { IfOk result (λ next. (other : Stage) → IsAfterGoal (givens_tree givens) text.now other → other ≡ stage_of next) }
-    ensures wrong { IfErr result (λ e. e ≢ LineError.Memory → (next : Stage) → ¬ IsAfterGoal (givens_tree givens) text.now next) }
+    ensures only { IfOk result
+        (λ next. (other : Stage) → IsAfterGoal (givens_tree givens) text.now other → other ≡ stage_of next) }
+    ensures wrong { IfErr result
+        (λ e. e ≢ LineError.Memory → (next : Stage) → ¬ IsAfterGoal (givens_tree givens) text.now next) }
 {
     match said_goal(alloc, text) {
         Ok(goal) => Ok(ProveProgress::EndDue(ProveForm { givens, goal })),

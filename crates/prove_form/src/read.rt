@@ -15,9 +15,11 @@ use std::alloc::Global;
 pub fn read_prove(alloc: Global, text: &[u8]) -> Result<ProveForm, ProveError>
     requires { length text.now < 2 ^ 31 }
     ensures ok { IfOk result (λ read. IsProveForm text.now (form_tree read)) }
-    ensures only { IfOk result (λ read. (other : form.ProveForm) → IsProveForm text.now other → other ≡ form_tree read) }
+    ensures only { IfOk result
+        (λ read. (other : form.ProveForm) → IsProveForm text.now other → other ≡ form_tree read) }
     ensures wrong { IfErr result (IsWrongInput text.now) }
-    ensures refused { IfErr result (λ e. e ≢ ProveError.Memory → (other : form.ProveForm) → ¬ IsProveForm text.now other) }
+    ensures refused { IfErr result
+        (λ e. e ≢ ProveError.Memory → (other : form.ProveForm) → ¬ IsProveForm text.now other) }
 {
     match read_lines(alloc, ProveProgress::HeaderDue, text) {
         Ok(ProveProgress::Ended(form)) => Ok(form),

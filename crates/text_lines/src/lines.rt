@@ -1,5 +1,4 @@
-ghost use Rattle.std.specs.Prelude.{◌≡◌, ◌<◌, ◌≤◌, ◌-◌, ◌==◌, not, count_by, length, MatchOption, ℕ, List, ◌++◌, ◌≢◌};
-ghost use Rattle.std.specs.List.{prefix_len};
+ghost use Rattle.std.specs.Prelude.{◌≡◌, ◌<◌, ◌≤◌, ◌-◌, ◌==◌, count_by, length, MatchOption, ℕ, List, ◌++◌, ◌≢◌};
 ghost use Rattle.text_lines.specs.Lines.{first_line, after_line, line_length, line_count};
 
 /// The first line of a text, without its line feed, and what follows it.

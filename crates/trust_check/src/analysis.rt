@@ -24,7 +24,8 @@ pub fn trust(
 ) -> Trust
     ensures answer { IsAnswer (assumptions_of untrusted.now.items loose.now.items facts.now.items)
         (map formula_tree labels.now.items) (formula_tree goal.now) result }
-    ensures safe { result ≡ Trust.Safe → IsOutOfReach (assumptions_of untrusted.now.items loose.now.items facts.now.items)
+    ensures safe { result ≡ Trust.Safe
+        → IsOutOfReach (assumptions_of untrusted.now.items loose.now.items facts.now.items)
         (map formula_tree labels.now.items) (formula_tree goal.now) }
 {
     let assumed = Assumed {

@@ -1,5 +1,5 @@
 //! The valuation by which trust is judged.
-ghost use Rattle.std.specs.Prelude.{◌≡◌, ◌↔◌, Contains, IsTrue, MatchOption, map};
+ghost use Rattle.std.specs.Prelude.{◌↔◌, Contains, IsTrue, MatchOption, map};
 ghost use Rattle.std.specs.List.{All};
 ghost use Rattle.nal_rules.specs.Verdicts.{IsLowest};
 ghost use Rattle.nal_term.specs.Trees.{formula_tree, term_tree, term_trees};

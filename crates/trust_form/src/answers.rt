@@ -26,7 +26,8 @@ pub fn trust_of(alloc: Global, text: &[u8]) -> Result<Trust, TrustError>
     requires { length text.now < 2 ^ 31 }
     ensures ok { IfOk result (IsTold text.now) }
     ensures wrong { IfErr result (IsWrongInput text.now) }
-    ensures refused { IfErr result (λ e. e ≢ TrustError.Memory → (other : form.TrustForm) → ¬ IsTrustForm text.now other) }
+    ensures refused { IfErr result
+        (λ e. e ≢ TrustError.Memory → (other : form.TrustForm) → ¬ IsTrustForm text.now other) }
 {
     let read = read_trust(alloc, text)?;
     match answer(alloc, &read) {

@@ -1,8 +1,7 @@
 //! What stands before the goal in an input of `trust`.
-ghost use Rattle.std.specs.Prelude.{◌≡◌, ◌≢◌, ◌↔◌, ◌∷◌, ◌++◌, [], IfErr, IfOk, IsTrue, List, map, ℕ};
+ghost use Rattle.std.specs.Prelude.{◌≡◌, ◌≢◌, ◌↔◌, [], IfErr, IfOk, IsTrue, List, ℕ};
 ghost use Rattle.nal_term.specs.Names.{IsName};
 ghost use Rattle.nal_term.specs.Trees.{FormulaTree, TermTree, atom, formula_tree, term_tree};
-ghost use Rattle.form_lines.specs.Statements.{IsStatement};
 ghost use Rattle.trust_form.specs.Inner.Reading.{Adds, givens_tree};
 ghost use Rattle.trust_form.specs.TrustForm as form;
 ghost use Rattle.trust_form.specs.TrustForm.{IsFact, IsPrincipal, MayStand, subject_alone};
@@ -83,8 +82,10 @@ impl Givens {
     /// word of the goal nothing is added.
     pub fn with(self, alloc: Global, word: Word, text: &[u8]) -> Result<Givens, LineError>
         ensures ok { IfOk result (λ next. Adds word (givens_tree self) text.now (givens_tree next)) }
-        ensures only { IfOk result (λ next. (other : form.Givens) → Adds word (givens_tree self) text.now other → other ≡ givens_tree next) }
-        ensures wrong { IfErr result (λ e. e ≢ LineError.Memory → (other : form.Givens) → ¬ Adds word (givens_tree self) text.now other) }
+        ensures only { IfOk result
+            (λ next. (other : form.Givens) → Adds word (givens_tree self) text.now other → other ≡ givens_tree next) }
+        ensures wrong { IfErr result
+            (λ e. e ≢ LineError.Memory → (other : form.Givens) → ¬ Adds word (givens_tree self) text.now other) }
     {
         match word {
             Word::Label => self.with_label(alloc, text),
@@ -98,8 +99,11 @@ impl Givens {
     /// The same with the label of this text. `Wrong` exactly where the text is of none.
     fn with_label(self, alloc: Global, text: &[u8]) -> Result<Givens, LineError>
         ensures ok { IfOk result (λ next. Adds Word.Label (givens_tree self) text.now (givens_tree next)) }
-        ensures only { IfOk result (λ next. (other : form.Givens) → Adds Word.Label (givens_tree self) text.now other → other ≡ givens_tree next) }
-        ensures wrong { IfErr result (λ e. e ≢ LineError.Memory → (other : form.Givens) → ¬ Adds Word.Label (givens_tree self) text.now other) }
+        ensures only { IfOk result
+            (λ next. (other : form.Givens) → Adds Word.Label (givens_tree self) text.now other
+            → other ≡ givens_tree next) }
+        ensures wrong { IfErr result
+            (λ e. e ≢ LineError.Memory → (other : form.Givens) → ¬ Adds Word.Label (givens_tree self) text.now other) }
     {
         let Givens {
             subject,
@@ -121,8 +125,12 @@ impl Givens {
     /// The same with the untrusted principal of this text. `Wrong` exactly where the text is of none.
     fn with_untrusted(self, alloc: Global, text: &[u8]) -> Result<Givens, LineError>
         ensures ok { IfOk result (λ next. Adds Word.Untrusted (givens_tree self) text.now (givens_tree next)) }
-        ensures only { IfOk result (λ next. (other : form.Givens) → Adds Word.Untrusted (givens_tree self) text.now other → other ≡ givens_tree next) }
-        ensures wrong { IfErr result (λ e. e ≢ LineError.Memory → (other : form.Givens) → ¬ Adds Word.Untrusted (givens_tree self) text.now other) }
+        ensures only { IfOk result
+            (λ next. (other : form.Givens) → Adds Word.Untrusted (givens_tree self) text.now other
+            → other ≡ givens_tree next) }
+        ensures wrong { IfErr result
+            (λ e. e ≢ LineError.Memory → (other : form.Givens)
+            → ¬ Adds Word.Untrusted (givens_tree self) text.now other) }
     {
         let mut givens = self;
         let principal = principal(alloc, text)?;
@@ -135,8 +143,11 @@ impl Givens {
     /// The same with the loose predicate of this name. `Wrong` exactly where the text is no name.
     fn with_loose(self, alloc: Global, text: &[u8]) -> Result<Givens, LineError>
         ensures ok { IfOk result (λ next. Adds Word.Loose (givens_tree self) text.now (givens_tree next)) }
-        ensures only { IfOk result (λ next. (other : form.Givens) → Adds Word.Loose (givens_tree self) text.now other → other ≡ givens_tree next) }
-        ensures wrong { IfErr result (λ e. e ≢ LineError.Memory → (other : form.Givens) → ¬ Adds Word.Loose (givens_tree self) text.now other) }
+        ensures only { IfOk result
+            (λ next. (other : form.Givens) → Adds Word.Loose (givens_tree self) text.now other
+            → other ≡ givens_tree next) }
+        ensures wrong { IfErr result
+            (λ e. e ≢ LineError.Memory → (other : form.Givens) → ¬ Adds Word.Loose (givens_tree self) text.now other) }
     {
         let mut givens = self;
         let predicate = name(alloc, text)?;
@@ -149,8 +160,11 @@ impl Givens {
     /// The same with the fact of this text. `Wrong` exactly where the text is of none.
     fn with_fact(self, alloc: Global, text: &[u8]) -> Result<Givens, LineError>
         ensures ok { IfOk result (λ next. Adds Word.Fact (givens_tree self) text.now (givens_tree next)) }
-        ensures only { IfOk result (λ next. (other : form.Givens) → Adds Word.Fact (givens_tree self) text.now other → other ≡ givens_tree next) }
-        ensures wrong { IfErr result (λ e. e ≢ LineError.Memory → (other : form.Givens) → ¬ Adds Word.Fact (givens_tree self) text.now other) }
+        ensures only { IfOk result
+            (λ next. (other : form.Givens) → Adds Word.Fact (givens_tree self) text.now other
+            → other ≡ givens_tree next) }
+        ensures wrong { IfErr result
+            (λ e. e ≢ LineError.Memory → (other : form.Givens) → ¬ Adds Word.Fact (givens_tree self) text.now other) }
     {
         let mut givens = self;
         let fact = fact(alloc, text)?;

@@ -61,8 +61,10 @@ fn after_start(line: &[u8]) -> Result<TrustProgress, LineError>
 
 fn after_goal(form: TrustForm, line: &[u8]) -> Result<TrustProgress, LineError>
     ensures ok { IfOk result (λ next. Follows (end_due (form_tree form)) line.now (stage_of next)) }
-    ensures only { IfOk result (λ next. (other : Stage) → Follows (end_due (form_tree form)) line.now other → other ≡ stage_of next) }
-    ensures wrong { IfErr result (λ e. e ≢ LineError.Memory → (next : Stage) → ¬ Follows (end_due (form_tree form)) line.now next) }
+    ensures only { IfOk result
+        (λ next. (other : Stage) → Follows (end_due (form_tree form)) line.now other → other ≡ stage_of next) }
+    ensures wrong { IfErr result
+        (λ e. e ≢ LineError.Memory → (next : Stage) → ¬ Follows (end_due (form_tree form)) line.now next) }
 {
     if is_line(line, "end") {
         Ok(TrustProgress::Ended(form))
@@ -119,8 +121,10 @@ fn after_text(
     text: &[u8],
 ) -> Result<TrustProgress, LineError>
     ensures ok { IfOk result (λ next. IsAfter word (givens_tree givens) text.now (stage_of next)) }
-    ensures only { IfOk result (λ next. (other : Stage) → IsAfter word (givens_tree givens) text.now other → other ≡ stage_of next) }
-    ensures wrong { IfErr result (λ e. e ≢ LineError.Memory → (next : Stage) → ¬ IsAfter word (givens_tree givens) text.now next) }
+    ensures only { IfOk result
+        (λ next. (other : Stage) → IsAfter word (givens_tree givens) text.now other → other ≡ stage_of next) }
+    ensures wrong { IfErr result
+        (λ e. e ≢ LineError.Memory → (next : Stage) → ¬ IsAfter word (givens_tree givens) text.now next) }
 {
     match word {
         Word::Goal => match goal(alloc, text) {

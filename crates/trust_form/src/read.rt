@@ -15,9 +15,11 @@ use std::alloc::Global;
 pub fn read_trust(alloc: Global, text: &[u8]) -> Result<TrustForm, TrustError>
     requires { length text.now < 2 ^ 31 }
     ensures ok { IfOk result (λ read. IsTrustForm text.now (form_tree read)) }
-    ensures only { IfOk result (λ read. (other : form.TrustForm) → IsTrustForm text.now other → other ≡ form_tree read) }
+    ensures only { IfOk result
+        (λ read. (other : form.TrustForm) → IsTrustForm text.now other → other ≡ form_tree read) }
     ensures wrong { IfErr result (IsWrongInput text.now) }
-    ensures refused { IfErr result (λ e. e ≢ TrustError.Memory → (other : form.TrustForm) → ¬ IsTrustForm text.now other) }
+    ensures refused { IfErr result
+        (λ e. e ≢ TrustError.Memory → (other : form.TrustForm) → ¬ IsTrustForm text.now other) }
 {
     match read_lines(alloc, TrustProgress::HeaderDue, text) {
         Ok(TrustProgress::Ended(form)) => Ok(form),

@@ -56,9 +56,22 @@ impl<M: Matter> Board<M> {
         requires first { 1 ≤ next }
         requires sessions { All (λ entry. M.session entry < next) entries.now.items }
         requires short { length entries.now.items ≤ most_entries }
-        ensures board { IfOk result (λ r. r.0.origin ≡ record { setting = setting.now; opening = entries.now.items; first = next }) }
-        ensures words { IfOk result (λ r. StartsWith M.session (M.right r.0.origin.setting) (M.touches r.0.origin.setting) r.0.origin (first_words (length entries.now.items))) }
-        ensures seat { IfOk result (λ r. r.1 ≡ record { board = r.0; entries = entries.now.items; next = next; turn = 0; lag = []; raised = None; known = [] }) }
+        ensures board { IfOk result
+            (λ r. r.0.origin ≡ record { setting = setting.now; opening = entries.now.items; first = next }) }
+        ensures words { IfOk result
+            (λ r. StartsWith M.session (M.right r.0.origin.setting) (M.touches r.0.origin.setting) r.0.origin
+            (first_words (length entries.now.items))) }
+        ensures seat { IfOk result
+            (λ r. r.1
+            ≡ record {
+              board = r.0;
+              entries = entries.now.items;
+              next = next;
+              turn = 0;
+              lag = [];
+              raised = None;
+              known = [];
+            }) }
     {
         let count = entries.len() as u64;
         let words = first_words(alloc, count)?;

@@ -20,7 +20,14 @@ impl<M: Matter> Board<M> {
     pub fn enter(&self, seat: &mut BookSeat<M>) -> Pass<M>
         requires board { seat.old.board ≡ self.now }
         requires room { seat.old.next < 2 ^ 64 - 1 }
-        ensures pass { result ≡ record { board = self.now; session = seat.old.next; seen = seat.old.entries; trail = []; known = seat.old.known } }
+        ensures pass { result
+            ≡ record {
+              board = self.now;
+              session = seat.old.next;
+              seen = seat.old.entries;
+              trail = [];
+              known = seat.old.known;
+            } }
         ensures unused { All (λ entry. M.session entry ≢ seat.old.next) seat.old.entries }
         ensures seat { seat.new ≡ record seat.old { next = seat.old.next + 1 } }
     {
@@ -43,7 +50,9 @@ impl<M: Matter> Board<M> {
         requires free { seat.old.raised ≡ None }
         requires room { length seat.old.entries < most_entries }
         ensures seat { seat.new ≡ record seat.old { raised = Some region; known = seat.new.known } }
-        ensures step { (found : ℕ) × Steps seat.old.known (stores 0 (region_word region) (length seat.old.entries + 1) found ∷ []) seat.new.known }
+        ensures step { (found : ℕ)
+            × Steps seat.old.known (stores 0 (region_word region) (length seat.old.entries + 1) found ∷ [])
+            seat.new.known }
     {
         self.store_region(&mut seat.place, region, seat.count + 1);
     }
@@ -54,8 +63,16 @@ impl<M: Matter> Board<M> {
         requires board { seat.old.board ≡ self.now }
         requires turn { (seat.old.turn ≢ 0) × (M.session entry.now ≡ seat.old.turn) }
         requires room { length seat.old.entries < most_entries }
-        requires region { (r : ℕ) → r < 512 → (M.touches self.now.origin.setting seat.old.entries entry.now r ↔ (seat.old.raised ≡ Some r)) }
-        ensures seat { seat.new ≡ record seat.old { entries = seat.old.entries ++ entry.now ∷ []; lag = M.session entry.now ∷ seat.old.lag; raised = None; known = seat.new.known } }
+        requires region { (r : ℕ) → r < 512
+            → (M.touches self.now.origin.setting seat.old.entries entry.now r ↔ (seat.old.raised ≡ Some r)) }
+        ensures seat { seat.new
+            ≡ record seat.old {
+              entries = seat.old.entries ++ entry.now ∷ [];
+              lag = M.session entry.now
+                  ∷ seat.old.lag;
+              raised = None;
+              known = seat.new.known;
+            } }
         ensures step { Steps seat.old.known (publishes (length seat.old.entries) ∷ []) seat.new.known }
     {
         self.add_to_count::<Brand>(&mut seat.place, entry);
@@ -68,12 +85,23 @@ impl<M: Matter> Board<M> {
     pub fn meet(&self, seat: &mut BookSeat<M>, pass: Pass<M>) -> Pass<M>
         requires board { seat.old.board ≡ self.now }
         requires pass { pass.board ≡ self.now }
-        ensures pass { result ≡ record { board = self.now; session = pass.session; seen = seat.old.entries; trail = pass.trail ++ Met (length seat.old.entries) ∷ []; known = seat.new.known } }
-        ensures seat { seat.new ≡ record seat.old { turn = pass.session; lag = without pass.session seat.old.lag; known = seat.new.known } }
+        ensures pass { result
+            ≡ record {
+              board = self.now;
+              session = pass.session;
+              seen = seat.old.entries;
+              trail = pass.trail
+                  ++ Met (length seat.old.entries) ∷ [];
+              known = seat.new.known;
+            } }
+        ensures seat { seat.new
+            ≡ record seat.old { turn = pass.session; lag = without pass.session seat.old.lag; known = seat.new.known } }
         ensures known { AreGathered self.now seat.old.next seat.old.entries seat.old.known (pass ∷ []) seat.new.known }
         ensures seen { IsPrefix pass.seen seat.old.entries }
         ensures session { (self.now.origin.first ≤ pass.session) × (pass.session < seat.old.next) × (0 < pass.session) }
-        ensures own { All (λ s. s ≢ pass.session) seat.old.lag → (own M.session seat.old.entries pass.session ≡ own M.session pass.seen pass.session) × (own M.session seat.old.entries pass.session ≡ own M.session (met_seen pass) pass.session) }
+        ensures own { All (λ s. s ≢ pass.session) seat.old.lag
+            → (own M.session seat.old.entries pass.session ≡ own M.session pass.seen pass.session)
+            × (own M.session seat.old.entries pass.session ≡ own M.session (met_seen pass) pass.session) }
     {
         let Pass {
             place,

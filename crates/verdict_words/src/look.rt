@@ -65,7 +65,18 @@ impl<M: Matter> Board<M> {
         requires place { IsPlace place.now }
         requires home { M.home self.now.origin.setting pass.old.seen place.now }
         ensures seen { IsPrefix pass.old.seen pass.new.seen }
-        ensures loaded { (slot object store : ℕ) × (pass.new ≡ record pass.old { seen = pass.new.seen; trail = pass.old.trail ++ Loaded place.now slot (length pass.new.seen) object store ∷ []; known = pass.new.known }) × IsAnswer place.now.case slot (length pass.new.seen) object store result × Steps pass.old.known (item_steps pass.old.session (Loaded place.now slot (length pass.new.seen) object store)) pass.new.known }
+        ensures loaded { (slot object store : ℕ)
+            × (pass.new
+            ≡ record pass.old {
+              seen = pass.new.seen;
+              trail = pass.old.trail
+                  ++ Loaded place.now slot (length pass.new.seen) object store ∷ [];
+              known = pass.new.known;
+            })
+            × IsAnswer place.now.case slot (length pass.new.seen) object store result
+            × Steps pass.old.known
+            (item_steps pass.old.session (Loaded place.now slot (length pass.new.seen) object store))
+            pass.new.known }
         ensures right { HitIsRight (M.right self.now.origin.setting pass.new.seen place.now.case) result }
     {
         let _has_words = &self.words;
@@ -85,8 +96,13 @@ impl<M: Matter> Board<M> {
         requires at { at ≤ length pass.old.seen }
         requires held { IsHeld held.now }
         requires right { M.right self.now.origin.setting (take at pass.old.seen) place.now.case held.now }
-        ensures pass { pass.new ≡ record pass.old { trail = pass.old.trail ++ Filled place.now.case at held.now ∷ []; known = pass.new.known } }
-        ensures step { (found : ℕ) × Steps pass.old.known (stores pass.old.session (slot_word place.now.case) (spelling place.now.case at held.now) found ∷ []) pass.new.known }
+        ensures pass { pass.new
+            ≡ record pass.old
+            { trail = pass.old.trail ++ Filled place.now.case at held.now ∷ []; known = pass.new.known } }
+        ensures step { (found : ℕ)
+            × Steps pass.old.known
+            (stores pass.old.session (slot_word place.now.case) (spelling place.now.case at held.now) found ∷ [])
+            pass.new.known }
     {
         let _has_words = &self.words;
         self.store_slot::<Brand>(

@@ -1,5 +1,5 @@
 //! What a board is about.
-ghost use Rattle.std.specs.Prelude.{ℕ, ◌≤◌, ◌%◌, ◌+◌, List, ◌++◌, length, take};
+ghost use Rattle.std.specs.Prelude.{ℕ, ◌≤◌, ◌+◌, List, ◌++◌, length, take};
 ghost use Rattle.verdict_words.specs.declared.places.Held.{Held};
 ghost use Rattle.verdict_words.specs.declared.places.CasePlace.{CasePlace};
 ghost use Rattle.verdict_words.specs.Histories.{Untouched};

@@ -14,7 +14,8 @@ impl<M: Matter> Board<M> {
     pub fn run_read(&self, pass: &mut Pass<M>, object: u64) -> u64
         requires board { pass.old.board ≡ self.now }
         requires object { object < 4096 }
-        ensures pass { pass.new ≡ record pass.old { trail = pass.old.trail ++ Ran object Read result ∷ []; known = pass.new.known } }
+        ensures pass { pass.new
+            ≡ record pass.old { trail = pass.old.trail ++ Ran object Read result ∷ []; known = pass.new.known } }
         ensures step { Steps pass.old.known (item_steps pass.old.session (Ran object Read result)) pass.new.known }
     {
         let _has_words = &self.words;
@@ -25,8 +26,11 @@ impl<M: Matter> Board<M> {
     pub fn run_write(&self, pass: &mut Pass<M>, object: u64, value: u64) -> u64
         requires board { pass.old.board ≡ self.now }
         requires object { object < 4096 }
-        ensures pass { pass.new ≡ record pass.old { trail = pass.old.trail ++ Ran object (Write value) result ∷ []; known = pass.new.known } }
-        ensures step { Steps pass.old.known (item_steps pass.old.session (Ran object (Write value) result)) pass.new.known }
+        ensures pass { pass.new
+            ≡ record pass.old
+            { trail = pass.old.trail ++ Ran object (Write value) result ∷ []; known = pass.new.known } }
+        ensures step { Steps pass.old.known (item_steps pass.old.session (Ran object (Write value) result))
+            pass.new.known }
     {
         let _has_words = &self.words;
         self.swap_register(&mut pass.place, object, value)
@@ -36,8 +40,10 @@ impl<M: Matter> Board<M> {
     pub fn run_add(&self, pass: &mut Pass<M>, object: u64, value: u64) -> u64
         requires board { pass.old.board ≡ self.now }
         requires object { object < 4096 }
-        ensures pass { pass.new ≡ record pass.old { trail = pass.old.trail ++ Ran object (Add value) result ∷ []; known = pass.new.known } }
-        ensures step { Steps pass.old.known (item_steps pass.old.session (Ran object (Add value) result)) pass.new.known }
+        ensures pass { pass.new
+            ≡ record pass.old { trail = pass.old.trail ++ Ran object (Add value) result ∷ []; known = pass.new.known } }
+        ensures step { Steps pass.old.known (item_steps pass.old.session (Ran object (Add value) result))
+            pass.new.known }
     {
         let _has_words = &self.words;
         self.add_to_register(&mut pass.place, object, value)

@@ -1,6 +1,6 @@
 //! The rule of the table, and all atomic steps that are made on it: what each tells, and the call that makes it. No other
 //! file calls the table.
-ghost use Rattle.std.specs.Prelude.{◌≡◌, ◌≢◌, ℕ, ◌+◌, ◌<◌, ◌≤◌, ◌↔◌, [], length, All, take, IfOk, Some, None};
+ghost use Rattle.std.specs.Prelude.{◌≡◌, ℕ, ◌+◌, ◌<◌, ◌≤◌, [], length, All, IfOk, Some, None};
 ghost use mathlib.Core.Option.{none};
 ghost use Rattle.atomic_table.specs.Table.{step};
 ghost use Rattle.verdict_words.specs.Words.{most_entries, word_count, first_words, slot_word, register_word, region_word, object_region, store_region, spelling, IsHeld, IsPlace};
@@ -213,8 +213,10 @@ pub fn make_table<M: Matter>(
     requires sessions { All (λ entry. M.session entry < key.now.first) (origin_of key.now).opening }
     requires short { length (origin_of key.now).opening ≤ most_entries }
     requires words { words.now ≡ first_words (length (origin_of key.now).opening) }
-    ensures table { IfOk result (λ r. (r.0.shared.table_id.words ≡ word_count) × (r.0.shared.table_id.slots ≡ 0) × (r.0.shared.key ≡ key.now)) }
-    ensures seat { IfOk result (λ r. (r.1.table_id ≡ r.0.shared.table_id) × (r.1.me ≡ (Book (first_book (origin_of key.now)), []))) }
+    ensures table { IfOk result
+        (λ r. (r.0.shared.table_id.words ≡ word_count) × (r.0.shared.table_id.slots ≡ 0) × (r.0.shared.key ≡ key.now)) }
+    ensures seat { IfOk result
+        (λ r. (r.1.table_id ≡ r.0.shared.table_id) × (r.1.me ≡ (Book (first_book (origin_of key.now)), []))) }
 {
     Table::of_words(alloc, words, key)
 }
@@ -239,7 +241,8 @@ impl<M: Matter> Board<M> {
         requires table { seat.old.table_id ≡ self.now.table }
         requires pass { IsPassLoading Nothing seat.old.me }
         ensures table { seat.new.table_id ≡ self.now.table }
-        ensures told { loaded_slot (Some place.now) (step 0 (slot_word place.now.case) 0 0 none) seat.old.me result seat.new.me }
+        ensures told { loaded_slot (Some place.now) (step 0 (slot_word place.now.case) 0 0 none) seat.old.me result
+            seat.new.me }
     {
         self.words
             .shared
@@ -263,7 +266,8 @@ impl<M: Matter> Board<M> {
         requires table { seat.old.table_id ≡ self.now.table }
         requires pass { (slot count : ℕ) × IsPassLoading (Count place.now slot count) seat.old.me }
         ensures table { seat.new.table_id ≡ self.now.table }
-        ensures told { loaded_object M.right M.touches (step 0 (region_word (object_region place.now.object)) 0 0 none) seat.old.me result seat.new.me }
+        ensures told { loaded_object M.right M.touches (step 0 (region_word (object_region place.now.object)) 0 0 none)
+            seat.old.me result seat.new.me }
     {
         self.words
             .shared
@@ -277,7 +281,8 @@ impl<M: Matter> Board<M> {
         requires place { IsPlace place.now }
         requires pass { (slot count object : ℕ) × IsPassLoading (Object place.now slot count object) seat.old.me }
         ensures table { seat.new.table_id ≡ self.now.table }
-        ensures told { loaded_store M.right M.touches (step 0 (region_word (store_region place.now.store)) 0 0 none) seat.old.me result seat.new.me }
+        ensures told { loaded_store M.right M.touches (step 0 (region_word (store_region place.now.store)) 0 0 none)
+            seat.old.me result seat.new.me }
     {
         self.words
             .shared
@@ -296,10 +301,12 @@ impl<M: Matter> Board<M> {
     )
         requires said { W.said ≡ Some (Filled place.now.case at held.now) }
         requires table { seat.old.table_id ≡ self.now.table }
-        requires word { (place.now.case < 65536) × (at ≤ most_entries) × IsHeld held.now × (word ≡ spelling place.now.case at held.now) }
+        requires word { (place.now.case < 65536) × (at ≤ most_entries) × IsHeld held.now
+            × (word ≡ spelling place.now.case at held.now) }
         requires pass { CanKeep (M.right self.now.origin.setting) place.now.case at held.now seat.old.me }
         ensures table { seat.new.table_id ≡ self.now.table }
-        ensures told { stored_slot (Some (Filled place.now.case at held.now)) (step 0 (slot_word place.now.case) word 0 none) seat.old.me word seat.new.me }
+        ensures told { stored_slot (Some (Filled place.now.case at held.now))
+            (step 0 (slot_word place.now.case) word 0 none) seat.old.me word seat.new.me }
     {
         let _ = held;
         self.words
