@@ -4,3 +4,4 @@ pub mod RecordLines
 pub mod Reading
 pub mod RecordWriting
 pub mod RightLines
+pub mod ForCallers

@@ -17,7 +17,8 @@ use Rattle.form_lines.specs.Reading.{Leads, here, on}
 use Rattle.journal_text.specs.CutLaws.{IsWritten}
 use Rattle.journal_text.specs.CutPolicies.{AreWholeLines}
 use Rattle.journal_text.specs.PolicyFronts.{IsFront}
-use Rattle.journal_text.specs.PolicyLaws.{IsKeptEntry, PrintedIsRead}
+use Rattle.journal_text.specs.PolicyLaws.{IsKeptEntry}
+use Rattle.journal_text.proofs.LawsForCallers.{printed_is_read}
 use Rattle.journal_text.specs.PolicyText as policy
 use Rattle.journal_text.proofs.CutTexts.{after_is, first_is, line_ahead}
 use Rattle.journal_text.proofs.PrintedEvents.{name_line, number_line, three}
@@ -157,22 +158,22 @@ few_entries h (e ∷ es) =
     let line = length-append (spaced (decimal e.session) (spaced (name_of h.principals e.principal) (event_text e.event))) (10 ∷ []) in
     omega (arith, later, whole, line)
 
-policy_front : PrintedIsRead → (h : Head) (es : List EntryTree) (rest : List ℕ) → IsWritten h es → (n : ℕ) × IsFront most_session (policy_text h es ++ rest) h es n rest
-policy_front printed h es rest w =
-    let reads = printed h es w.head w.entries w.sessions w.legal in
+policy_front : (h : Head) (es : List EntryTree) (rest : List ℕ) → IsWritten h es → (n : ℕ) × IsFront most_session (policy_text h es ++ rest) h es n rest
+policy_front h es rest w =
+    let reads = printed_is_read h es w.head w.entries w.sessions w.legal in
     let whole : AreWholeLines (policy_text h es) = inr (front h es ++ codes "end", sym (append_assoc (front h es) (codes "end") (10 ∷ []))) in
     (reads.1, record { led = leads_before rest reads.2 whole; below = All-weaker IsKeptEntry (λ (e : EntryTree). e.session ≤ most_session) (λ e kept. let small = kept.session in omega (arith, small)) es w.entries })
 
 -- ---- The law
 
-pub right_lines : PrintedIsRead → RightLinesAreAudited
-right_lines printed h es lines w each few =
+pub right_lines_are_audited : RightLinesAreAudited
+right_lines_are_audited h es lines w each few =
     let bounded = lines_bounded h es w.legal w.head.principals.bound in
     let entries = few_entries h es in
     let told = lines_told h es [] lines (omega (arith, bounded, entries)) each (omega (arith, few)) in
     let rest = flat_map ended lines ++ ended (codes "end") in
     let behind = policy_text h es ++ rest in
-    let front_of = policy_front printed h es rest w in
+    let front_of = policy_front h es rest w in
     let parts : audit_text h es lines ≡ header ++ 10 ∷ behind = append_assoc (ended header ++ policy_text h es) (flat_map ended lines) (ended (codes "end")) ∙ append_assoc (ended header) (policy_text h es) rest in
     record {
       form = record { head = h; entries = es; records = told.records };

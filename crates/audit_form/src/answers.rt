@@ -23,7 +23,8 @@ pub fn audit_of(alloc: Global, text: &[u8]) -> Result<Told, AuditError>
     requires { length text.now ≤ most_bytes }
     ensures ok { IfOk result (IsToldOf text.now) }
     ensures wrong { IfErr result (IsWrongInput text.now) }
-    ensures refused { IfErr result (λ e. e ≢ AuditError.Memory → (other : form.AuditTree) → ¬ IsAuditForm text.now other) }
+    ensures refused { IfErr result
+        (λ e. e ≢ AuditError.Memory → (other : form.AuditTree) → ¬ IsAuditForm text.now other) }
 {
     let AuditForm { journal, records } = match read_audit(alloc, text) {
         Ok(form) => form,

@@ -1,5 +1,5 @@
 //! Reading an input of `audit`.
-ghost use Rattle.std.specs.Prelude.{◌≡◌, ◌≢◌, ◌↔◌, ◌≤◌, ◌+◌, ◌<◌, ◌^◌, [], IfErr, IfOk, IsTrue, List, ℕ, length, codes, All};
+ghost use Rattle.std.specs.Prelude.{◌≡◌, ◌≢◌, ◌≤◌, ◌+◌, ◌<◌, ◌^◌, [], IfErr, IfOk, List, ℕ, length, codes, All};
 ghost use Rattle.policy_history.specs.Values.{entry_trees};
 ghost use Rattle.form_lines.specs.Reading.{LeadsThrough};
 ghost use Rattle.policy_history.specs.declared.heads.Head.{Head};
@@ -53,9 +53,11 @@ pub enum AuditProgress<'a> {
 pub fn read_audit(alloc: Global, text: &[u8]) -> Result<AuditForm, AuditError>
     requires { length text.now ≤ most_bytes }
     ensures ok { IfOk result (λ read. IsAuditForm text.now (form_tree read)) }
-    ensures within { IfOk result (λ read. All (IsWithin read.journal.head (entry_trees read.journal.entries)) read.records.items) }
+    ensures within { IfOk result
+        (λ read. All (IsWithin read.journal.head (entry_trees read.journal.entries)) read.records.items) }
     ensures wrong { IfErr result (IsWrongInput text.now) }
-    ensures refused { IfErr result (λ e. e ≢ AuditError.Memory → (other : form.AuditTree) → ¬ IsAuditForm text.now other) }
+    ensures refused { IfErr result
+        (λ e. e ≢ AuditError.Memory → (other : form.AuditTree) → ¬ IsAuditForm text.now other) }
 {
     let (first, after) = first_line(text);
     if text.is_empty() || !is_text(first, "nexus audit 1") {
@@ -84,12 +86,18 @@ pub fn read_audit(alloc: Global, text: &[u8]) -> Result<AuditForm, AuditError>
 /// there, with the lowest line of the input that is wrong.
 pub fn read_policy(alloc: Global, text: &[u8]) -> Result<PolicyFront, AuditError>
     requires { length text.now ≤ most_bytes }
-    ensures ok { IfOk result (λ front. IsFront most_session text.now front.journal.head (entry_trees front.journal.entries) front.lines front.rest.now) }
-    ensures only { IfOk result (λ front. (h : Head) (es : List EntryTree) (n : ℕ) (rest : List ℕ) → IsFront most_session text.now h es n rest
-        → (h ≡ front.journal.head) × (es ≡ entry_trees front.journal.entries) × (n ≡ front.lines) × (rest ≡ front.rest.now)) }
+    ensures ok { IfOk result
+        (λ front. IsFront most_session text.now front.journal.head (entry_trees front.journal.entries) front.lines
+        front.rest.now) }
+    ensures only { IfOk result
+        (λ front. (h : Head) (es : List EntryTree) (n : ℕ) (rest : List ℕ) → IsFront most_session text.now h es n rest
+        → (h ≡ front.journal.head) × (es ≡ entry_trees front.journal.entries) × (n ≡ front.lines)
+        × (rest ≡ front.rest.now)) }
     ensures fewer { IfOk result (λ front. front.lines + length front.rest.now ≤ length text.now) }
     ensures wrong { IfErr result (IsWrongBehind text.now) }
-    ensures refused { IfErr result (λ e. e ≢ AuditError.Memory → (h : Head) (es : List EntryTree) (n : ℕ) (rest : List ℕ) → ¬ IsFront most_session text.now h es n rest) }
+    ensures refused { IfErr result
+        (λ e. e ≢ AuditError.Memory → (h : Head) (es : List EntryTree) (n : ℕ) (rest : List ℕ)
+        → ¬ IsFront most_session text.now h es n rest) }
 {
     match read_front(alloc, text, u64::MAX) {
         Ok(front) => Ok(front),
@@ -108,10 +116,13 @@ fn read_records(
     before: u64,
 ) -> Result<Vec<Record>, AuditError>
     requires { before + length text.now < 2 ^ 63 }
-    ensures ok { IfOk result (λ records. LeadsThrough (Follows journal.now.head (entry_trees journal.now.entries)) (record_due []) text.now (ended records.items)) }
+    ensures ok { IfOk result
+        (λ records. LeadsThrough (Follows journal.now.head (entry_trees journal.now.entries)) (record_due []) text.now
+        (ended records.items)) }
     ensures wrong { IfErr result (IsWrongAfter journal.now.head (entry_trees journal.now.entries) before text.now) }
     ensures refused { IfErr result (λ e. e ≢ AuditError.Memory → (others : List call.Record)
-        → ¬ LeadsThrough (Follows journal.now.head (entry_trees journal.now.entries)) (record_due []) text.now (ended others)) }
+        → ¬ LeadsThrough (Follows journal.now.head (entry_trees journal.now.entries)) (record_due []) text.now
+        (ended others)) }
 {
     let first = AuditProgress::RecordDue(journal, Vec::new(alloc));
     match read_lines(alloc, first, text) {

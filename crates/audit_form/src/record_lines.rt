@@ -45,7 +45,9 @@ pub struct Words<'a> {
 /// past the journal's end, or its principal is none of the head's. `docs/FORMATS.md`, "The input of `audit`", states the form.
 pub fn read_record(alloc: Global, journal: &Journal, line: &[u8]) -> Result<Record, LineError>
     ensures ok { IfOk result (λ r. IsRecordLine journal.now.head (entry_trees journal.now.entries) line.now r) }
-    ensures only { IfOk result (λ r. (other : call.Record) → IsRecordLine journal.now.head (entry_trees journal.now.entries) line.now other → other ≡ r) }
+    ensures only { IfOk result
+        (λ r. (other : call.Record) → IsRecordLine journal.now.head (entry_trees journal.now.entries) line.now other
+        → other ≡ r) }
     ensures wrong { IfErr result (λ e. e ≢ LineError.Memory → (other : call.Record)
         → ¬ IsRecordLine journal.now.head (entry_trees journal.now.entries) line.now other) }
 {
@@ -73,7 +75,8 @@ pub fn read_call<'a>(
     journal: &Journal,
     line: &'a [u8],
 ) -> Result<(Call, &'a [u8]), LineError>
-    ensures ok { IfOk result (λ read. IsCallLine journal.now.head (entry_trees journal.now.entries) line.now read.0 read.1.now) }
+    ensures ok { IfOk result
+        (λ read. IsCallLine journal.now.head (entry_trees journal.now.entries) line.now read.0 read.1.now) }
     ensures only { IfOk result (λ read. (other : Call) (rest : List ℕ)
         → IsCallLine journal.now.head (entry_trees journal.now.entries) line.now other rest
         → (other ≡ read.0) × (rest ≡ read.1.now)) }
@@ -166,7 +169,8 @@ fn principal_named(alloc: Global, head: &Head, bytes: &[u8]) -> Result<u32, Line
     ensures ok { IfOk result (λ p. numbered head.now.principals bytes.now ≡ Some p) }
     ensures within { IfOk result (λ p. p < length head.now.principals) }
     ensures named { IfOk result (λ p. IsName bytes.now) }
-    ensures wrong { IfErr result (λ e. e ≢ LineError.Memory → (p : ℕ) → IsName bytes.now → numbered head.now.principals bytes.now ≢ Some p) }
+    ensures wrong { IfErr result
+        (λ e. e ≢ LineError.Memory → (p : ℕ) → IsName bytes.now → numbered head.now.principals bytes.now ≢ Some p) }
 {
     let name = match name(alloc, bytes) {
         Ok(name) => name,

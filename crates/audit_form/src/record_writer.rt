@@ -1,5 +1,5 @@
 //! Writing the lines of records.
-ghost use Rattle.std.specs.Prelude.{◌≡◌, ◌≤◌, ◌<◌, ◌+◌, ◌++◌, [], List, ℕ, codes, length, map};
+ghost use Rattle.std.specs.Prelude.{◌≡◌, ◌≤◌, ◌<◌, ◌+◌, ◌++◌, [], ℕ, codes, length, map};
 ghost use Rattle.std.specs.Fmt.{decimal};
 ghost use Rattle.journal_text.specs.ReplyLines.{cause_names, fault_names, named};
 ghost use Rattle.nal_term.specs.Names.{IsName};
@@ -17,7 +17,7 @@ use journal_text::{cause_name, fault_name};
 use nal_term::Name;
 use session_wire::Reply;
 
-/// The greatest length of a record's line, with its line feed.
+/// How much room there is for a record's line with its line feed, which has at most 305 bytes.
 pub const LONGEST_RECORD: usize = 320;
 
 /// The number of the last cause that names no line.

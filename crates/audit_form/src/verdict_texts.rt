@@ -1,5 +1,5 @@
 //! The text of what was answered to a call.
-ghost use Rattle.std.specs.Prelude.{◌≡◌, ◌≢◌, ◌≤◌, ◌++◌, [], ℕ, List, MatchOption};
+ghost use Rattle.std.specs.Prelude.{◌≡◌, ◌≢◌, ◌++◌, [], ℕ, List, MatchOption};
 ghost use Rattle.std.specs.Fmt.{decimal};
 ghost use Rattle.audit_check.specs.declared.records.Recorded as answer;
 ghost use Rattle.audit_form.specs.Inner.Verdicts.{Tells, fault_named, word_text};
@@ -117,7 +117,8 @@ fn alone(rest: &[u8], verdict: Recorded) -> Option<Recorded>
 }
 
 fn read_down(rest: &[u8]) -> Option<Recorded>
-    ensures { MatchOption result ((v : answer.Recorded) → ¬ Tells Word.Down rest.now v) (λ v. Tells Word.Down rest.now v) }
+    ensures { MatchOption result ((v : answer.Recorded) → ¬ Tells Word.Down rest.now v)
+        (λ v. Tells Word.Down rest.now v) }
 {
     let Some(line) = read_line(rest) else {
         return None;
@@ -130,7 +131,8 @@ fn read_down(rest: &[u8]) -> Option<Recorded>
 }
 
 fn read_fault_line(rest: &[u8]) -> Option<Recorded>
-    ensures { MatchOption result ((v : answer.Recorded) → ¬ Tells Word.Line rest.now v) (λ v. Tells Word.Line rest.now v) }
+    ensures { MatchOption result ((v : answer.Recorded) → ¬ Tells Word.Line rest.now v)
+        (λ v. Tells Word.Line rest.now v) }
 {
     let Some((number, name)) = split_word(rest) else {
         return None;

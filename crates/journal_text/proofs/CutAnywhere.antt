@@ -73,7 +73,7 @@ line_more {stage = stage} {next = next} line rest more one f w = record {
     ahead text left k =
         on (line_some line text) (subst (λ l. Follows stage l next) (sym (first_is line text one)) f) (subst (λ t. Leads next t w.n w.mid left) (sym (after_is line text one)) k)
 
-halfway : {stage last : Stage} {text : List ℕ} {n : ℕ} → Leads stage text n last [] → (lines more : List ℕ) → AreWholeLines lines → text ≡ lines ++ more → IsHalfway stage last lines more
+pub halfway : {stage last : Stage} {text : List ℕ} {n : ℕ} → Leads stage text n last [] → (lines more : List ℕ) → AreWholeLines lines → text ≡ lines ++ more → IsHalfway stage last lines more
 halfway {stage = stage} {last = last} {n = n} k lines more (inl none) is =
     subst (λ ls. IsHalfway stage last ls more) (sym none) (no_line (subst (λ t. Leads stage t n last []) (is ∙ ap (λ l. l ++ more) none) k))
 halfway here lines more (inr (before, e)) is = absurd (omega (arith, ap length is, length-append lines more, ap length e, length-append before (10 ∷ [])))

@@ -97,7 +97,7 @@ ended_whole : {X : Type 0} (line : X → List ℕ) (xs : List X) → AreWholeLin
 ended_whole line [] = inl refl
 ended_whole line (x ∷ xs) = whole_append (ended (line x)) (flat_map (λ y. ended (line y)) xs) (inr (line x, refl)) (ended_whole line xs)
 
-front_whole : (h : Head) (es : List EntryTree) → AreWholeLines (front h es)
+pub front_whole : (h : Head) (es : List EntryTree) → AreWholeLines (front h es)
 front_whole h es =
     let start = ended (codes "nexus 2") in
     let ps = flat_map (λ (p : Principal). ended (principal_text p)) h.principals in

@@ -15,3 +15,4 @@ pub mod OneCut
 pub mod CutPrinted
 pub mod CutAnywhere
 pub mod WordsForCallers
+pub mod LawsForCallers

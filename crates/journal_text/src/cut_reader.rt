@@ -1,5 +1,5 @@
 //! Reading the text of a policy that may be cut anywhere.
-ghost use Rattle.std.specs.Prelude.{◌≡◌, ◌≢◌, ◌<◌, ◌≤◌, ℕ, List, IfErr, IfOk, drop, length, take};
+ghost use Rattle.std.specs.Prelude.{◌≡◌, ◌≢◌, ◌<◌, ◌≤◌, List, IfErr, IfOk, drop, length, take};
 ghost use Rattle.std.specs.List.{All};
 ghost use Rattle.policy_history.specs.Events.{EntryTree};
 ghost use Rattle.policy_history.specs.Values.{entry_trees};
@@ -21,10 +21,13 @@ use std::alloc::Global;
 /// `docs/FORMATS.md`, "Policy text", states the form.
 pub fn read_cut(alloc: Global, text: &[u8]) -> Result<Journal, PolicyError>
     ensures ok { IfOk result (λ journal. ReadsCut text.now journal.head (entry_trees journal.entries)) }
-    ensures only { IfOk result (λ journal. (h : Head) (es : List EntryTree) → ReadsCut text.now h es → (h ≡ journal.head) × (es ≡ entry_trees journal.entries)) }
+    ensures only { IfOk result
+        (λ journal. (h : Head) (es : List EntryTree) → ReadsCut text.now h es
+        → (h ≡ journal.head) × (es ≡ entry_trees journal.entries)) }
     ensures sessions { IfOk result (λ journal. All IsInSession (entry_trees journal.entries)) }
     ensures err { IfErr result (IsCutErrorOf text.now) }
-    ensures refused { IfErr result (λ e. e ≢ PolicyError.Memory → (h : Head) (es : List EntryTree) → ¬ ReadsCut text.now h es) }
+    ensures refused { IfErr result
+        (λ e. e ≢ PolicyError.Memory → (h : Head) (es : List EntryTree) → ¬ ReadsCut text.now h es) }
     ensures long { most_bytes < length text.now → result ≡ Err PolicyError.TooLong }
 {
     if text.len() > MOST_BYTES {

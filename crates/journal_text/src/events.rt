@@ -18,7 +18,9 @@ use std::alloc::{AllocError, Global};
 /// exactly for `Hello` and `Call`, and that takes no memory. `docs/FORMATS.md`, "Request lines", says which event each is.
 pub fn event_of(alloc: Global, request: &Request) -> Result<Option<Event>, AllocError>
     ensures event { IfOk result (λ found. IfSome found (λ event. IsEventOf request.now (event_tree event))) }
-    ensures only { IfOk result (λ found. IfSome found (λ event. (other : EventTree) → IsEventOf request.now other → other ≡ event_tree event)) }
+    ensures only { IfOk result
+        (λ found. IfSome found
+        (λ event. (other : EventTree) → IsEventOf request.now other → other ≡ event_tree event)) }
     ensures none { (result ≡ Ok None) ↔ ¬ IsChange request.now }
 {
     match request {
@@ -71,7 +73,9 @@ pub fn event_of(alloc: Global, request: &Request) -> Result<Option<Event>, Alloc
 /// The term that the text spells, or None where it spells nothing. An `Err` is want of memory.
 fn spelled_term(alloc: Global, text: &[u8]) -> Result<Option<Term>, AllocError>
     ensures spelled { IfOk result (λ found. IsSpelled IsTermText text.now (option_map term_tree found)) }
-    ensures only { IfOk result (λ found. (other : Option (TermTree)) → IsSpelled IsTermText text.now other → other ≡ option_map term_tree found) }
+    ensures only { IfOk result
+        (λ found. (other : Option (TermTree)) → IsSpelled IsTermText text.now other
+        → other ≡ option_map term_tree found) }
 {
     match parse_term(alloc, text) {
         Ok(term) => Ok(Some(term)),
@@ -83,7 +87,9 @@ fn spelled_term(alloc: Global, text: &[u8]) -> Result<Option<Term>, AllocError>
 /// The formula that the text spells, or None where it spells nothing. An `Err` is want of memory.
 fn spelled_formula(alloc: Global, text: &[u8]) -> Result<Option<Formula>, AllocError>
     ensures spelled { IfOk result (λ found. IsSpelled IsFormulaText text.now (option_map formula_tree found)) }
-    ensures only { IfOk result (λ found. (other : Option (FormulaTree)) → IsSpelled IsFormulaText text.now other → other ≡ option_map formula_tree found) }
+    ensures only { IfOk result
+        (λ found. (other : Option (FormulaTree)) → IsSpelled IsFormulaText text.now other
+        → other ≡ option_map formula_tree found) }
 {
     match parse_formula(alloc, text) {
         Ok(formula) => Ok(Some(formula)),
@@ -95,7 +101,9 @@ fn spelled_formula(alloc: Global, text: &[u8]) -> Result<Option<Formula>, AllocE
 /// The proof that the text spells, or None where it spells nothing. An `Err` is want of memory.
 fn spelled_proof(alloc: Global, text: &[u8]) -> Result<Option<Proof>, AllocError>
     ensures spelled { IfOk result (λ found. IsSpelled IsProofText text.now (option_map line_trees found)) }
-    ensures only { IfOk result (λ found. (other : Option (List LineTree)) → IsSpelled IsProofText text.now other → other ≡ option_map line_trees found) }
+    ensures only { IfOk result
+        (λ found. (other : Option (List LineTree)) → IsSpelled IsProofText text.now other
+        → other ≡ option_map line_trees found) }
 {
     match read_proof(alloc, text) {
         Ok(proof) => Ok(Some(proof)),

@@ -1,10 +1,9 @@
 //! Reading the entries of a policy's text.
-ghost use Rattle.std.specs.Prelude.{◌≡◌, ◌≢◌, ◌<◌, ◌≤◌, ◌^◌, ◌++◌, ◌∷◌, [], ℕ, List, IfOk, IfSome, Option, Some, None, Ok, length};
+ghost use Rattle.std.specs.Prelude.{◌≡◌, ◌≢◌, ◌<◌, ◌≤◌, ◌^◌, ◌++◌, ◌∷◌, [], ℕ, IfOk, IfSome, Option, Some, None, Ok, length};
 ghost use Rattle.std.specs.Fmt.{decimal};
 ghost use Rattle.nal_term.specs.Names.{IsName};
 ghost use Rattle.policy_history.specs.Events.{EntryTree, EventTree, entry_tree, event_tree, numbered};
-ghost use Rattle.policy_history.specs.Laws.{refusal_number};
-ghost use Rattle.policy_history.specs.Machine.{IsAccepted, refusal_of};
+ghost use Rattle.policy_history.specs.Machine.{refusal_of};
 ghost use Rattle.policy_history.specs.Values.{entry_trees, state_after};
 ghost use Rattle.journal_text.specs.PolicyText.{IsEntryLine, IsEventText};
 ghost use Rattle.journal_text.specs.Inner.PolicyReading.{IsLineAdded, IsLineRefused};
@@ -52,8 +51,12 @@ pub fn add_entry(alloc: Global, journal: &mut Journal, line: &[u8]) -> Result<()
 fn append_entry(journal: &mut Journal, entry: Entry) -> Result<Option<Refusal>, AllocError>
     requires { entry.principal < length journal.old.head.principals }
     ensures head { journal.new.head ≡ journal.old.head }
-    ensures refusal { IfOk result (λ refusal. refusal ≡ refusal_of journal.old.head (state_after journal.old) entry.session entry.principal (event_tree entry.event)) }
-    ensures added { result ≡ Ok None → entry_trees journal.new.entries ≡ entry_trees journal.old.entries ++ entry_tree entry ∷ [] }
+    ensures refusal { IfOk result
+        (λ refusal. refusal
+        ≡ refusal_of journal.old.head (state_after journal.old) entry.session entry.principal
+        (event_tree entry.event)) }
+    ensures added { result ≡ Ok None
+        → entry_trees journal.new.entries ≡ entry_trees journal.old.entries ++ entry_tree entry ∷ [] }
 {
     let Entry {
         session,

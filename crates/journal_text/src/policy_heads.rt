@@ -1,5 +1,5 @@
 //! Reading the head of a policy's text.
-ghost use Rattle.std.specs.Prelude.{◌≡◌, ◌≤◌, ◌++◌, ◌∷◌, ◌↔◌, ◌⊎◌, [], List, IfErr, IfOk, IsTrue, OnOk, codes, length};
+ghost use Rattle.std.specs.Prelude.{◌≡◌, ◌≤◌, ◌++◌, ◌∷◌, ◌↔◌, ◌⊎◌, [], IfErr, IfOk, IsTrue, OnOk, codes, length};
 ghost use Rattle.policy_history.specs.Heads.{AreAuthorities, ArePrincipals};
 ghost use Rattle.policy_history.specs.declared.heads.Principal.{Principal};
 ghost use Rattle.policy_history.specs.declared.heads.Authority.{Authority};
@@ -86,8 +86,10 @@ fn add_line(alloc: Global, head: &mut Head, line: &[u8]) -> Result<(), LineError
 
 /// Adds the principal of a name and a secret. `Bad` exactly where the text is not that of one that may be added.
 fn add_principal(alloc: Global, principals: &mut Principals, text: &[u8]) -> Result<(), LineError>
-    ensures ok { OnOk result ((p : Principal) × IsPrincipalOf text.now p × (principals.new ≡ principals.old ++ p ∷ [])) }
-    ensures bad { result ≡ Err LineError.Bad → (p : Principal) → IsPrincipalOf text.now p → ¬ ArePrincipals (principals.old ++ p ∷ []) }
+    ensures ok { OnOk result
+        ((p : Principal) × IsPrincipalOf text.now p × (principals.new ≡ principals.old ++ p ∷ [])) }
+    ensures bad { result ≡ Err LineError.Bad → (p : Principal) → IsPrincipalOf text.now p
+        → ¬ ArePrincipals (principals.old ++ p ∷ []) }
     ensures principals { OnOk result (ArePrincipals principals.new) }
 {
     let principal = match read_principal(alloc, text) {
@@ -126,8 +128,10 @@ fn read_principal(alloc: Global, text: &[u8]) -> Result<Principal, LineError>
 
 /// Adds the authority of a port and an address. `Bad` exactly where the text is not that of one that may be added.
 fn add_authority(alloc: Global, authorities: &mut Authorities, text: &[u8]) -> Result<(), LineError>
-    ensures ok { OnOk result ((a : Authority) × IsAuthorityOf text.now a × (authorities.new ≡ authorities.old ++ a ∷ [])) }
-    ensures bad { result ≡ Err LineError.Bad → (a : Authority) → IsAuthorityOf text.now a → ¬ AreAuthorities (authorities.old ++ a ∷ []) }
+    ensures ok { OnOk result
+        ((a : Authority) × IsAuthorityOf text.now a × (authorities.new ≡ authorities.old ++ a ∷ [])) }
+    ensures bad { result ≡ Err LineError.Bad → (a : Authority) → IsAuthorityOf text.now a
+        → ¬ AreAuthorities (authorities.old ++ a ∷ []) }
     ensures authorities { OnOk result (AreAuthorities authorities.new) }
 {
     let authority = match read_authority(alloc, text) {

@@ -6,7 +6,7 @@ ghost use Rattle.nal_term.specs.Trees.{formula_tree, term_tree};
 ghost use Rattle.nal_parse.specs.Canonical.{FormulaFits, IsSpellable, IsSpellableTerm, TermFits, formula_text, term_text};
 ghost use Rattle.proof_lines.specs.Lines.{line_trees};
 ghost use Rattle.proof_text.specs.CanonicalProof.{IsSpellableProof, ProofFits, proof_text};
-ghost use Rattle.policy_history.specs.Events.{EntryTree, event_tree};
+ghost use Rattle.policy_history.specs.Events.{event_tree};
 ghost use Rattle.policy_history.specs.Events as tree;
 ghost use Rattle.policy_history.specs.PolicyLines.{entry_line, event_text, spaced};
 ghost use Rattle.policy_history.specs.Values.{entry_trees};
@@ -31,7 +31,8 @@ pub fn policy_line(
     name: &Name,
     event: &Event,
 ) -> Result<Bytes, AllocError>
-    ensures spelled { IfOk result (λ line. IsSpelledWhole (event_tree event.now) → line ≡ entry_line session name.now (event_tree event.now)) }
+    ensures spelled { IfOk result
+        (λ line. IsSpelledWhole (event_tree event.now) → line ≡ entry_line session name.now (event_tree event.now)) }
     ensures else_none { IfOk result (λ line. ¬ IsSpelledWhole (event_tree event.now) → line ≡ []) }
 {
     let mut printer = PolicyPrinter::new(alloc);
@@ -46,7 +47,9 @@ pub fn policy_line(
 /// `docs/FORMATS.md`, "Policy text", states the form.
 pub fn print_policy(alloc: Global, journal: &Journal) -> Result<Bytes, AllocError>
     ensures text { IfOk result (λ text. text ≡ policy_text journal.now.head (entry_trees journal.now.entries)) }
-    ensures read_again { IfOk result (λ text. All IsInSession (entry_trees journal.now.entries) → ReadsAs text journal.now.head (entry_trees journal.now.entries)) }
+    ensures read_again { IfOk result
+        (λ text. All IsInSession (entry_trees journal.now.entries)
+        → ReadsAs text journal.now.head (entry_trees journal.now.entries)) }
 {
     let mut printer = PolicyPrinter::new(alloc);
     let _count = journal.count();
@@ -174,7 +177,8 @@ impl PolicyPrinter {
     }
 
     fn principals(&mut self, principals: &Principals) -> Result<(), AllocError>
-        ensures text { OnOk result (self.new.text ≡ self.old.text ++ flat_map (λ p. ended (principal_text p)) principals.now) }
+        ensures text { OnOk result
+            (self.new.text ≡ self.old.text ++ flat_map (λ p. ended (principal_text p)) principals.now) }
         ensures kept { OnOk result (All IsKeptPrincipal principals.now) }
     {
         for principal in principals.as_slice() {
@@ -193,7 +197,8 @@ impl PolicyPrinter {
     }
 
     fn authorities(&mut self, authorities: &Authorities) -> Result<(), AllocError>
-        ensures { OnOk result (self.new.text ≡ self.old.text ++ flat_map (λ a. ended (authority_text a)) authorities.now) }
+        ensures { OnOk result
+            (self.new.text ≡ self.old.text ++ flat_map (λ a. ended (authority_text a)) authorities.now) }
     {
         for place in 0..authorities.count() {
             let Some(authority) = authorities.get(place) else {
@@ -216,7 +221,8 @@ impl PolicyPrinter {
 
     /// Appends the lines of the entries.
     fn entries(&mut self, journal: &Journal) -> Result<(), AllocError>
-        ensures text { OnOk result (self.new.text ≡ self.old.text ++ flat_map (line_of journal.now.head) (entry_trees journal.now.entries)) }
+        ensures text { OnOk result
+            (self.new.text ≡ self.old.text ++ flat_map (line_of journal.now.head) (entry_trees journal.now.entries)) }
         ensures kept { OnOk result (All IsKeptEntry (entry_trees journal.now.entries)) }
     {
         let _count = journal.count();
@@ -233,7 +239,8 @@ impl PolicyPrinter {
 
     /// Appends the line of an entry, that of the principal with this name.
     pub fn entry(&mut self, session: u64, name: &Name, event: &Event) -> Result<(), AllocError>
-        ensures text { OnOk result (self.new.text ≡ self.old.text ++ entry_line session name.now (event_tree event.now)) }
+        ensures text { OnOk result
+            (self.new.text ≡ self.old.text ++ entry_line session name.now (event_tree event.now)) }
         ensures kept { OnOk result ((session < 2 ^ 64) × IsKeptEvent (event_tree event.now)) }
     {
         self.number(session)?;
@@ -278,8 +285,11 @@ impl PolicyPrinter {
     }
 
     fn say(&mut self, principal: &Option<Term>, formula: &Option<Formula>) -> Result<(), AllocError>
-        ensures text { OnOk result (self.new.text ≡ self.old.text ++ event_text (tree.say (option_map term_tree principal.now) (option_map formula_tree formula.now))) }
-        ensures kept { OnOk result (IsKeptEvent (tree.say (option_map term_tree principal.now) (option_map formula_tree formula.now))) }
+        ensures text { OnOk result
+            (self.new.text ≡ self.old.text
+            ++ event_text (tree.say (option_map term_tree principal.now) (option_map formula_tree formula.now))) }
+        ensures kept { OnOk result
+            (IsKeptEvent (tree.say (option_map term_tree principal.now) (option_map formula_tree formula.now))) }
     {
         let (Some(principal), Some(formula)) = (principal, formula) else {
             return Ok(());
@@ -296,7 +306,9 @@ impl PolicyPrinter {
         object: &Name,
         goal: &Option<Formula>,
     ) -> Result<(), AllocError>
-        ensures text { OnOk result (self.new.text ≡ self.old.text ++ event_text (tree.set_goal op.now object.now (option_map formula_tree goal.now))) }
+        ensures text { OnOk result
+            (self.new.text ≡ self.old.text
+            ++ event_text (tree.set_goal op.now object.now (option_map formula_tree goal.now))) }
         ensures kept { OnOk result (IsKeptEvent (tree.set_goal op.now object.now (option_map formula_tree goal.now))) }
     {
         let Some(goal) = goal else { return Ok(()) };
@@ -312,7 +324,9 @@ impl PolicyPrinter {
         object: &Name,
         proof: &Option<Proof>,
     ) -> Result<(), AllocError>
-        ensures text { OnOk result (self.new.text ≡ self.old.text ++ event_text (tree.set_proof op.now object.now (option_map line_trees proof.now))) }
+        ensures text { OnOk result
+            (self.new.text ≡ self.old.text
+            ++ event_text (tree.set_proof op.now object.now (option_map line_trees proof.now))) }
         ensures kept { OnOk result (IsKeptEvent (tree.set_proof op.now object.now (option_map line_trees proof.now))) }
     {
         let Some(proof) = proof else { return Ok(()) };
@@ -323,7 +337,8 @@ impl PolicyPrinter {
     }
 
     fn bind(&mut self, principal: &Option<Term>, port: u64) -> Result<(), AllocError>
-        ensures text { OnOk result (self.new.text ≡ self.old.text ++ event_text (tree.bind (option_map term_tree principal.now) port)) }
+        ensures text { OnOk result
+            (self.new.text ≡ self.old.text ++ event_text (tree.bind (option_map term_tree principal.now) port)) }
         ensures kept { OnOk result (IsKeptEvent (tree.bind (option_map term_tree principal.now) port)) }
     {
         let Some(principal) = principal else {
@@ -336,7 +351,8 @@ impl PolicyPrinter {
     }
 
     fn unbind(&mut self, principal: &Option<Term>) -> Result<(), AllocError>
-        ensures text { OnOk result (self.new.text ≡ self.old.text ++ event_text (tree.unbind (option_map term_tree principal.now))) }
+        ensures text { OnOk result
+            (self.new.text ≡ self.old.text ++ event_text (tree.unbind (option_map term_tree principal.now))) }
         ensures kept { OnOk result (IsKeptEvent (tree.unbind (option_map term_tree principal.now))) }
     {
         let Some(principal) = principal else {

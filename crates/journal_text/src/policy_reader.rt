@@ -61,9 +61,12 @@ pub struct PolicyLines<'a> {
 /// `docs/FORMATS.md`, "Policy text", states the form.
 pub fn read_policy(alloc: Global, text: &[u8]) -> Result<Journal, PolicyError>
     ensures ok { IfOk result (λ journal. ReadsAs text.now journal.head (entry_trees journal.entries)) }
-    ensures only { IfOk result (λ journal. (h : Head) (es : List EntryTree) → ReadsAs text.now h es → (h ≡ journal.head) × (es ≡ entry_trees journal.entries)) }
+    ensures only { IfOk result
+        (λ journal. (h : Head) (es : List EntryTree) → ReadsAs text.now h es
+        → (h ≡ journal.head) × (es ≡ entry_trees journal.entries)) }
     ensures err { IfErr result (IsErrorOf text.now) }
-    ensures refused { IfErr result (λ e. e ≢ PolicyError.Memory → (h : Head) (es : List EntryTree) → ¬ ReadsAs text.now h es) }
+    ensures refused { IfErr result
+        (λ e. e ≢ PolicyError.Memory → (h : Head) (es : List EntryTree) → ¬ ReadsAs text.now h es) }
     ensures long { most_bytes < length text.now → result ≡ Err PolicyError.TooLong }
 {
     if text.len() > MOST_BYTES {
@@ -102,12 +105,18 @@ fn read_lines(alloc: Global, text: &[u8]) -> Result<Journal, PolicyError>
 /// the bound is Bad. `TooLong` never comes. `docs/FORMATS.md`, "Policy text", states the form.
 pub fn read_front(alloc: Global, text: &[u8], most_session: u64) -> Result<PolicyFront, PolicyError>
     requires { length text.now ≤ most_bytes }
-    ensures ok { IfOk result (λ front. IsFront most_session text.now front.journal.head (entry_trees front.journal.entries) front.lines front.rest.now) }
-    ensures only { IfOk result (λ front. (h : Head) (es : List EntryTree) (n : ℕ) (rest : List ℕ) → IsFront most_session text.now h es n rest
-        → (h ≡ front.journal.head) × (es ≡ entry_trees front.journal.entries) × (n ≡ front.lines) × (rest ≡ front.rest.now)) }
+    ensures ok { IfOk result
+        (λ front. IsFront most_session text.now front.journal.head (entry_trees front.journal.entries) front.lines
+        front.rest.now) }
+    ensures only { IfOk result
+        (λ front. (h : Head) (es : List EntryTree) (n : ℕ) (rest : List ℕ) → IsFront most_session text.now h es n rest
+        → (h ≡ front.journal.head) × (es ≡ entry_trees front.journal.entries) × (n ≡ front.lines)
+        × (rest ≡ front.rest.now)) }
     ensures fewer { IfOk result (λ front. front.lines + length front.rest.now ≤ length text.now) }
     ensures err { IfErr result (IsFrontError most_session text.now) }
-    ensures refused { IfErr result (λ e. e ≢ PolicyError.Memory → (h : Head) (es : List EntryTree) (n : ℕ) (rest : List ℕ) → ¬ IsFront most_session text.now h es n rest) }
+    ensures refused { IfErr result
+        (λ e. e ≢ PolicyError.Memory → (h : Head) (es : List EntryTree) (n : ℕ) (rest : List ℕ)
+        → ¬ IsFront most_session text.now h es n rest) }
 {
     read_to_end(alloc, text, most_session)
 }
@@ -115,7 +124,9 @@ pub fn read_front(alloc: Global, text: &[u8], most_session: u64) -> Result<Polic
 /// Reads the head, and the lines up to the end of the policy.
 fn read_to_end(alloc: Global, text: &[u8], most_session: u64) -> Result<PolicyFront, PolicyError>
     requires { length text.now ≤ most_bytes }
-    ensures ok { IfOk result (λ front. IsFront most_session text.now front.journal.head (entry_trees front.journal.entries) front.lines front.rest.now) }
+    ensures ok { IfOk result
+        (λ front. IsFront most_session text.now front.journal.head (entry_trees front.journal.entries) front.lines
+        front.rest.now) }
     ensures fewer { IfOk result (λ front. front.lines + length front.rest.now ≤ length text.now) }
     ensures err { IfErr result (IsFrontError most_session text.now) }
 {
@@ -150,7 +161,9 @@ pub fn read_through(
     most_session: u64,
 ) -> Result<PolicyLines, PolicyError>
     requires { length text.now ≤ most_bytes }
-    ensures ok { IfOk result (λ read. IsRead most_session text.now read.journal.head (entry_trees read.journal.entries) read.lines read.rest.now read.ended) }
+    ensures ok { IfOk result
+        (λ read. IsRead most_session text.now read.journal.head (entry_trees read.journal.entries) read.lines
+        read.rest.now read.ended) }
     ensures fewer { IfOk result (λ read. read.lines + length read.rest.now ≤ length text.now) }
     ensures err { IfErr result (IsLineError most_session text.now) }
 {
@@ -171,7 +184,9 @@ fn read_journal(
 ) -> Result<PolicyLines, PolicyError>
     requires room { before + length text.now ≤ 2 ^ 32 }
     requires past { ¬ IsHeadLine (first_line text.now) }
-    ensures ok { IfOk result (λ read. ReadsOn most_session before (open_with head []) text.now read.journal.head (entry_trees read.journal.entries) read.lines read.rest.now read.ended) }
+    ensures ok { IfOk result
+        (λ read. ReadsOn most_session before (open_with head []) text.now read.journal.head
+        (entry_trees read.journal.entries) read.lines read.rest.now read.ended) }
     ensures fewer { IfOk result (λ read. read.lines + length read.rest.now ≤ before + length text.now) }
     ensures err { IfErr result (IsErrorFrom most_session before (open_with head []) text.now) }
 {
@@ -205,7 +220,9 @@ fn read_entries<'a>(
     requires room { before + length text.now ≤ 2 ^ 32 }
     requires empty { journal.old.entries ≡ [] }
     requires past { ¬ IsHeadLine (first_line text.now) }
-    ensures ok { IfOk result (λ read. ReadsOn most_session before (open_with journal.old.head []) text.now journal.new.head (entry_trees journal.new.entries) read.1 read.0.now read.2) }
+    ensures ok { IfOk result
+        (λ read. ReadsOn most_session before (open_with journal.old.head []) text.now journal.new.head
+        (entry_trees journal.new.entries) read.1 read.0.now read.2) }
     ensures fewer { IfOk result (λ read. read.1 + length read.0.now ≤ before + length text.now) }
     ensures err { IfErr result (IsErrorFrom most_session before (open_with journal.old.head []) text.now) }
 {

@@ -1,4 +1,4 @@
-ghost use Rattle.std.specs.Prelude.{◌≡◌, ◌++◌, IfOk, List, MatchOption, OnOk, Some, ℕ};
+ghost use Rattle.std.specs.Prelude.{◌≡◌, IfOk, MatchOption, Some};
 ghost use Rattle.std.specs.Fmt.{decimal};
 ghost use Rattle.std.specs.String.{string_bytes};
 ghost use Rattle.journal_text.specs.ReplyLines.{cause_names, cause_text, fault_names, named, refusal_names, reply_text};
@@ -65,7 +65,8 @@ pub fn cause_text(alloc: Global, cause: u64, line: u64, fault: u64) -> Result<St
 
 /// The name, or the number where there is none.
 fn named(alloc: Global, name: Option<&str>, number: u64) -> Result<String, AllocError>
-    ensures { IfOk result (λ text. MatchOption name.entry (string_bytes text ≡ decimal number) (λ n. string_bytes text ≡ n.now)) }
+    ensures { IfOk result
+        (λ text. MatchOption name.entry (string_bytes text ≡ decimal number) (λ n. string_bytes text ≡ n.now)) }
 {
     match name {
         Some(name) => String::from_str(alloc, name),
@@ -75,7 +76,8 @@ fn named(alloc: Global, name: Option<&str>, number: u64) -> Result<String, Alloc
 
 /// The name of the cause with this number, from 1. None where there is none.
 pub fn cause_name(cause: u64) -> Option<&'static str>
-    ensures { MatchOption result (named cause_names cause ≡ decimal cause) (λ name. named cause_names cause ≡ name.now) }
+    ensures { MatchOption result (named cause_names cause ≡ decimal cause)
+        (λ name. named cause_names cause ≡ name.now) }
 {
     match cause {
         1 => Some("GoalUnset"),
@@ -90,7 +92,8 @@ pub fn cause_name(cause: u64) -> Option<&'static str>
 
 /// The name of the fault with this number, from 1. None where there is none.
 pub fn fault_name(fault: u64) -> Option<&'static str>
-    ensures { MatchOption result (named fault_names fault ≡ decimal fault) (λ name. named fault_names fault ≡ name.now) }
+    ensures { MatchOption result (named fault_names fault ≡ decimal fault)
+        (λ name. named fault_names fault ≡ name.now) }
 {
     match fault {
         1 => Some("NoSuchRef"),

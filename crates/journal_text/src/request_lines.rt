@@ -1,4 +1,4 @@
-ghost use Rattle.std.specs.Prelude.{◌≡◌, ◌≢◌, ◌∷◌, ◌++◌, ℕ, List, IfErr, IfOk, MatchOption};
+ghost use Rattle.std.specs.Prelude.{◌≡◌, ◌≢◌, ◌∷◌, ℕ, List, IfErr, IfOk, MatchOption};
 ghost use Rattle.std.specs.Fmt.{decimal};
 ghost use Rattle.nal_term.specs.Names.{IsName};
 ghost use Rattle.nal_term.specs.Secrets.{IsSecret};
@@ -217,7 +217,8 @@ fn word_and_text(alloc: Global, bytes: &[u8]) -> Result<(Bytes, Bytes), LineErro
 
 fn number_and_name(alloc: Global, bytes: &[u8]) -> Result<(u64, Name), LineError>
     ensures ok { IfOk result (λ p. IsNumber64 p.0 × IsName p.1 × (bytes.now ≡ cut (decimal p.0) p.1)) }
-    ensures bad { result ≡ Err LineError.Bad → (k : ℕ) (n : List ℕ) → IsNumber64 k → IsName n → bytes.now ≢ cut (decimal k) n }
+    ensures bad { result ≡ Err LineError.Bad → (k : ℕ) (n : List ℕ) → IsNumber64 k → IsName n
+        → bytes.now ≢ cut (decimal k) n }
 {
     let Some((first, second)) = cut_at_space(bytes) else {
         return Err(LineError::Bad);
@@ -229,7 +230,8 @@ fn number_and_name(alloc: Global, bytes: &[u8]) -> Result<(u64, Name), LineError
 
 fn word_and_number(alloc: Global, bytes: &[u8]) -> Result<(Bytes, u64), LineError>
     ensures ok { IfOk result (λ p. IsOneWord p.0 × IsNumber64 p.1 × (bytes.now ≡ cut p.0 (decimal p.1))) }
-    ensures bad { result ≡ Err LineError.Bad → (w : List ℕ) (k : ℕ) → IsOneWord w → IsNumber64 k → bytes.now ≢ cut w (decimal k) }
+    ensures bad { result ≡ Err LineError.Bad → (w : List ℕ) (k : ℕ) → IsOneWord w → IsNumber64 k
+        → bytes.now ≢ cut w (decimal k) }
 {
     let Some((first, second)) = cut_at_space(bytes) else {
         return Err(LineError::Bad);
@@ -273,7 +275,8 @@ fn place_and_text(alloc: Global, bytes: &[u8]) -> Result<(Name, Name, Bytes), Li
 }
 
 fn place_and_number(alloc: Global, bytes: &[u8]) -> Result<(Name, Name, u64), LineError>
-    ensures ok { IfOk result (λ p. IsName p.0 × IsName p.1 × IsNumber64 p.2 × (bytes.now ≡ cut p.0 (cut p.1 (decimal p.2)))) }
+    ensures ok { IfOk result
+        (λ p. IsName p.0 × IsName p.1 × IsNumber64 p.2 × (bytes.now ≡ cut p.0 (cut p.1 (decimal p.2)))) }
     ensures bad { result ≡ Err LineError.Bad
         → (a b : List ℕ) (k : ℕ) → IsName a → IsName b → IsNumber64 k → bytes.now ≢ cut a (cut b (decimal k)) }
 {

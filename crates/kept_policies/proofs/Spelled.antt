@@ -13,6 +13,7 @@ use Rattle.nal_parse.specs.Grammar.{ReadsAnds, ReadsConjunction, ReadsDisjunctio
 use Rattle.nal_parse.specs.Grammar as grammar
 use Rattle.nal_parse.specs.Tokens.{Cut, Lexeme, after_blanks, cut, cut_quoted, cut_sign, is_number, keyword_of, next_cut, quoted_length, run_length, value_of_digits, word_lexeme}
 use Rattle.nal_parse.specs.Tokens as lexeme
+use Rattle.kept_policies.specs.Kept.{SpelledFormulas, SpelledTerms}
 
 -- ---- Tokens
 
@@ -42,7 +43,7 @@ word_fine w = of (keyword_of w) refl
 small : (n m : ℕ) → nat_lt n m ≡ true → n < m
 small n m e = grind arith
 
-number_small : (w : List ℕ) → is_number w ≡ true → value_of_digits w < 2 ^ 64
+pub number_small : (w : List ℕ) → is_number w ≡ true → value_of_digits w < 2 ^ 64
 number_small [] e = absurd (cc e)
 number_small (d ∷ ds) e = small (value_of_digits (d ∷ ds)) (2 ^ 64) (and_parts _ (nat_lt (value_of_digits (d ∷ ds)) (2 ^ 64)) e).1
 
@@ -153,3 +154,9 @@ mutual
 -- what a text spells is made of parts that keep their limits
 pub spelled_spellable : (n : ℕ) (text : List ℕ) (f : FormulaTree) → SpellsFormula n text f → IsSpellable f
 spelled_spellable n text f (rest, reads, ends) = formula_spellable reads
+
+pub spelled_terms : SpelledTerms
+spelled_terms text t is = let (rest, reads, ends) = is.spelled in term_spellable reads
+
+pub spelled_formulas : SpelledFormulas
+spelled_formulas text f is = spelled_spellable 64 text f is.spelled
