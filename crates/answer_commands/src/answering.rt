@@ -1,6 +1,7 @@
 //! A run that reads its whole input and writes one answer.
 ghost use Rattle.std.specs.Prelude.{◌≡◌, ◌≢◌, ◌⊎◌, IfErr, IfOk};
-ghost use Rattle.nx_io.specs.Streams.{Gave, Grows};
+ghost use Rattle.nx_io.specs.Streams.{Grows};
+ghost use Rattle.nx_io.specs.Views.{HasGiven};
 ghost use Rattle.run_streams.specs.Runs.{sink_run, source_run};
 ghost use Rattle.answer_commands.specs.Answers.{IsAnswerOf, RunsAnswer, answering};
 ghost use Rattle.run_streams.specs.Refusals.{form_of};
@@ -69,12 +70,12 @@ pub fn answer_input<A: Answer + Drop, S: Source, K: Sink>(
     input: &mut S,
     output: &mut K,
 ) -> u8
-    ensures gave { Gave (S.left input.old) (S.left input.new) (S.given input.old) (S.given input.new) }
+    ensures gave { HasGiven S.Source input.old input.new }
     ensures sent { Grows (K.sent output.old) (K.sent output.new) }
     ensures untouched { (result ≡ 4) ⊎ (result ≡ 6) → output.new ≡ output.old }
     ensures runs { RunsAnswer (answering (form_of A.formed A.wrong) (A.told about.now) A.written A.ends)
-        (source_run (S.left input.old) (S.given input.old) (S.given input.new) (S.over input.new) (S.faults input.old) (S.faults input.new))
-        (sink_run (K.sent output.old) (K.sent output.new) (K.faults output.old) (K.faults output.new))
+        (source_run S.Source input.old input.new)
+        (sink_run K.Sink output.old output.new)
         result }
 {
     match read_answer::<A, S>(alloc, about, input) {
@@ -91,11 +92,11 @@ pub fn read_answer<A: Answer + Drop, S: Source>(
     about: &A::About,
     input: &mut S,
 ) -> Result<A, Unread>
-    ensures gave { Gave (S.left input.old) (S.left input.new) (S.given input.old) (S.given input.new) }
+    ensures gave { HasGiven S.Source input.old input.new }
     ensures ok { IfOk result (IsAnswerOf (answering (form_of A.formed A.wrong) (A.told about.now) A.written A.ends)
-        (source_run (S.left input.old) (S.given input.old) (S.given input.new) (S.over input.new) (S.faults input.old) (S.faults input.new))) }
+        (source_run S.Source input.old input.new)) }
     ensures err { IfErr result (IsUnread (form_of A.formed A.wrong)
-        (source_run (S.left input.old) (S.given input.old) (S.given input.new) (S.over input.new) (S.faults input.old) (S.faults input.new))) }
+        (source_run S.Source input.old input.new)) }
     ensures count { S.faults input.new ≡ faults_after_input result (S.faults input.old) }
 {
     match read_whole(alloc, input) {
@@ -115,7 +116,8 @@ pub fn read_answer<A: Answer + Drop, S: Source>(
 pub fn tell_answer<A: Answer, K: Sink>(alloc: Global, output: &mut K, answer: &A) -> u8
     ensures untouched { (result ≡ 4) ⊎ (result ≡ 6) → output.new ≡ output.old }
     ensures few { result ≢ 3 }
-    ensures told { TellsAnswer A.written A.ends answer.now (K.sent output.old) (K.sent output.new) (K.faults output.old) (K.faults output.new) result }
+    ensures told { TellsAnswer A.written A.ends answer.now (K.sent output.old) (K.sent output.new) (K.faults output.old)
+        (K.faults output.new) result }
 {
     let status = answer.status();
     let Ok(text) = answer.output(alloc) else {

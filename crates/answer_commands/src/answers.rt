@@ -1,5 +1,5 @@
 //! The answers of `trust`, `prove`, `audit`, `explain`, `recover`, `export` and `compact`.
-ghost use Rattle.std.specs.Prelude.{◌≡◌, ◌≢◌, ◌≤◌, IfErr, IfOk, OnOk, length};
+ghost use Rattle.std.specs.Prelude.{◌≡◌, ◌≤◌, IfErr, IfOk, length};
 ghost use Rattle.policy_history.specs.Events.{numbered};
 ghost use Rattle.policy_history.specs.Values.{entry_trees, state_after};
 ghost use Rattle.journal_text.specs.PolicyText.{ReadsAs};

@@ -81,8 +81,10 @@ impl Input {
     ) -> Result<Input, InputError>
         requires room { lines < 2 ^ 31 }
         requires short { length rest.now < 2 ^ 31 }
-        ensures ok { IfOk result (HoldsProof subject (formula_trees labels.items) (formula_trees yes.items) (formula_tree goal) rest.now) }
-        ensures only { IfOk result (λ input. (ls : List LineTree) → IsProofText rest.now ls → ls ≡ line_trees input.proof) }
+        ensures ok { IfOk result
+            (HoldsProof subject (formula_trees labels.items) (formula_trees yes.items) (formula_tree goal) rest.now) }
+        ensures only { IfOk result
+            (λ input. (ls : List LineTree) → IsProofText rest.now ls → ls ≡ line_trees input.proof) }
         ensures wrong { IfErr result (IsWrongProof rest.now lines) }
         ensures refused { IfErr result (λ e. e ≢ InputError.Memory → (ls : List LineTree) → ¬ IsProofText rest.now ls) }
     {

@@ -1,6 +1,7 @@
 //! A run of `check`.
 ghost use Rattle.std.specs.Prelude.{◌≡◌, ◌≢◌, ◌≤◌, ◌⊎◌, IfOk, length};
-ghost use Rattle.nx_io.specs.Streams.{Gave, Grows};
+ghost use Rattle.nx_io.specs.Streams.{Grows};
+ghost use Rattle.nx_io.specs.Views.{HasGiven};
 ghost use Rattle.run_streams.specs.Runs.{most_bytes, sink_run, source_run};
 ghost use Rattle.answer_commands.specs.CheckOutcomes.{IsOutcome};
 ghost use Rattle.answer_commands.specs.CheckRuns.{Ends};
@@ -13,12 +14,12 @@ use std::alloc::{AllocError, Global};
 
 /// Reads one input and writes its outcome.
 pub fn check<S: Source, K: Sink>(alloc: Global, input: &mut S, output: &mut K) -> u8
-    ensures gave { Gave (S.left input.old) (S.left input.new) (S.given input.old) (S.given input.new) }
+    ensures gave { HasGiven S.Source input.old input.new }
     ensures sent { Grows (K.sent output.old) (K.sent output.new) }
     ensures untouched { (result ≡ 4) ⊎ (result ≡ 6) → output.new ≡ output.old }
     ensures ends { Ends
-        (source_run (S.left input.old) (S.given input.old) (S.given input.new) (S.over input.new) (S.faults input.old) (S.faults input.new))
-        (sink_run (K.sent output.old) (K.sent output.new) (K.faults output.old) (K.faults output.new))
+        (source_run S.Source input.old input.new)
+        (sink_run K.Sink output.old output.new)
         result }
 {
     match read_whole(alloc, input) {

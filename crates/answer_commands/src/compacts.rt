@@ -1,6 +1,7 @@
 //! A run of `compact`.
 ghost use Rattle.std.specs.Prelude.{◌≡◌, ◌≢◌, ◌⊎◌, IfErr, IfOk};
-ghost use Rattle.nx_io.specs.Streams.{Gave, Grows};
+ghost use Rattle.nx_io.specs.Streams.{Grows};
+ghost use Rattle.nx_io.specs.Views.{HasGiven};
 ghost use Rattle.run_streams.specs.Runs.{sink_run, source_run};
 ghost use Rattle.answer_commands.specs.Answers.{IsAnswerOf, RunsAnswer};
 ghost use Rattle.answer_commands.specs.Compacts.{RunsCompact, compact_command};
@@ -19,15 +20,14 @@ pub fn compact<S: Source, K: Sink, C: Sink>(
     output: &mut K,
     records: &mut C,
 ) -> u8
-    ensures gave { Gave (S.left input.old) (S.left input.new) (S.given input.old) (S.given input.new) }
+    ensures gave { HasGiven S.Source input.old input.new }
     ensures sent { Grows (K.sent output.old) (K.sent output.new) }
     ensures recorded { Grows (C.sent records.old) (C.sent records.new) }
     ensures untouched { (result ≡ 4) ⊎ (result ≡ 6) → (output.new ≡ output.old) × (records.new ≡ records.old) }
     ensures runs { RunsCompact
-        (source_run (S.left input.old) (S.given input.old) (S.given input.new) (S.over input.new)
-        (S.faults input.old) (S.faults input.new))
-        (sink_run (K.sent output.old) (K.sent output.new) (K.faults output.old) (K.faults output.new))
-        (sink_run (C.sent records.old) (C.sent records.new) (C.faults records.old) (C.faults records.new))
+        (source_run S.Source input.old input.new)
+        (sink_run K.Sink output.old output.new)
+        (sink_run C.Sink records.old records.new)
         result }
 {
     match compact_text(alloc, input, output) {
@@ -45,21 +45,18 @@ fn compact_text<S: Source, K: Sink>(
     input: &mut S,
     output: &mut K,
 ) -> Result<Compacted, u8>
-    ensures gave { Gave (S.left input.old) (S.left input.new) (S.given input.old) (S.given input.new) }
+    ensures gave { HasGiven S.Source input.old input.new }
     ensures sent { Grows (K.sent output.old) (K.sent output.new) }
     ensures untouched { IfErr result (λ status. (status ≡ 4) ⊎ (status ≡ 6) → output.new ≡ output.old) }
     ensures answer { IfOk result (IsAnswerOf compact_command
-        (source_run (S.left input.old) (S.given input.old) (S.given input.new) (S.over input.new)
-        (S.faults input.old) (S.faults input.new))) }
+        (source_run S.Source input.old input.new)) }
     ensures ok { IfOk result (λ compacted. RunsAnswer compact_command
-        (source_run (S.left input.old) (S.given input.old) (S.given input.new) (S.over input.new)
-        (S.faults input.old) (S.faults input.new))
-        (sink_run (K.sent output.old) (K.sent output.new) (K.faults output.old) (K.faults output.new))
+        (source_run S.Source input.old input.new)
+        (sink_run K.Sink output.old output.new)
         0) }
     ensures err { IfErr result (λ status. (status ≢ 0) × RunsAnswer compact_command
-        (source_run (S.left input.old) (S.given input.old) (S.given input.new) (S.over input.new)
-        (S.faults input.old) (S.faults input.new))
-        (sink_run (K.sent output.old) (K.sent output.new) (K.faults output.old) (K.faults output.new))
+        (source_run S.Source input.old input.new)
+        (sink_run K.Sink output.old output.new)
         status) }
 {
     match read_answer::<Compacted, S>(alloc, &(), input) {

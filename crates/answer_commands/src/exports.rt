@@ -1,7 +1,8 @@
 //! A run of `export`.
 ghost use Rattle.std.specs.Prelude.{◌≡◌, ◌⊎◌};
 ghost use Rattle.nal_term.specs.Names.{IsName};
-ghost use Rattle.nx_io.specs.Streams.{Gave, Grows};
+ghost use Rattle.nx_io.specs.Streams.{Grows};
+ghost use Rattle.nx_io.specs.Views.{HasGiven};
 ghost use Rattle.run_streams.specs.Runs.{sink_run, source_run};
 ghost use Rattle.answer_commands.specs.Exports.{RunsExport};
 
@@ -14,13 +15,12 @@ use std::alloc::Global;
 /// Reads a policy, and writes the bundle of the labels that the principal of this name holds, or that there is no such principal.
 pub fn export<S: Source, K: Sink>(alloc: Global, name: &[u8], input: &mut S, output: &mut K) -> u8
     requires { IsName name.now }
-    ensures gave { Gave (S.left input.old) (S.left input.new) (S.given input.old) (S.given input.new) }
+    ensures gave { HasGiven S.Source input.old input.new }
     ensures sent { Grows (K.sent output.old) (K.sent output.new) }
     ensures untouched { (result ≡ 4) ⊎ (result ≡ 6) → output.new ≡ output.old }
     ensures runs { RunsExport name.now
-        (source_run (S.left input.old) (S.given input.old) (S.given input.new) (S.over input.new)
-        (S.faults input.old) (S.faults input.new))
-        (sink_run (K.sent output.old) (K.sent output.new) (K.faults output.old) (K.faults output.new))
+        (source_run S.Source input.old input.new)
+        (sink_run K.Sink output.old output.new)
         result }
 {
     match Name::of(alloc, name) {

@@ -20,7 +20,8 @@ fn is_missing_label(
     labels: &[FormulaKey],
     number: u64,
 ) -> Result<bool, AllocError>
-    ensures { IfOk result (λ missing. IsTrue missing ↔ IsMissingLabel (line_trees proof.now) (formula_trees labels.now) number) }
+    ensures { IfOk result
+        (λ missing. IsTrue missing ↔ IsMissingLabel (line_trees proof.now) (formula_trees labels.now) number) }
 {
     let Some(line) = proof.line(number) else {
         return Ok(false);
@@ -59,7 +60,8 @@ fn is_unanswered(
     yes: &[FormulaKey],
     number: u64,
 ) -> Result<bool, AllocError>
-    ensures { IfOk result (λ unanswered. IsTrue unanswered ↔ IsUnanswered (line_trees proof.now) (formula_trees yes.now) number) }
+    ensures { IfOk result
+        (λ unanswered. IsTrue unanswered ↔ IsUnanswered (line_trees proof.now) (formula_trees yes.now) number) }
 {
     let Some(line) = proof.line(number) else {
         return Ok(false);

@@ -34,8 +34,10 @@ impl Progress {
     /// The progress after one line more. `Wrong` exactly where the line may not stand there.
     pub fn after(self, alloc: Global, line: &[u8]) -> Result<Progress, LineError>
         ensures ok { IfOk result (λ next. Follows (stage_of self) line.now (stage_of next)) }
-        ensures only { IfOk result (λ next. (other : Stage) → Follows (stage_of self) line.now other → other ≡ stage_of next) }
-        ensures wrong { IfErr result (λ e. e ≢ LineError.Memory → (next : Stage) → ¬ Follows (stage_of self) line.now next) }
+        ensures only { IfOk result
+            (λ next. (other : Stage) → Follows (stage_of self) line.now other → other ≡ stage_of next) }
+        ensures wrong { IfErr result
+            (λ e. e ≢ LineError.Memory → (next : Stage) → ¬ Follows (stage_of self) line.now next) }
     {
         match self {
             Progress::HeaderDue => {
@@ -63,8 +65,10 @@ impl Progress {
 
     fn after_subject(alloc: Global, line: &[u8]) -> Result<Progress, LineError>
         ensures ok { IfOk result (λ next. Follows subject_due line.now (stage_of next)) }
-        ensures only { IfOk result (λ next. (other : Stage) → Follows subject_due line.now other → other ≡ stage_of next) }
-        ensures wrong { IfErr result (λ e. e ≢ LineError.Memory → (next : Stage) → ¬ Follows subject_due line.now next) }
+        ensures only { IfOk result
+            (λ next. (other : Stage) → Follows subject_due line.now other → other ≡ stage_of next) }
+        ensures wrong { IfErr result
+            (λ e. e ≢ LineError.Memory → (next : Stage) → ¬ Follows subject_due line.now next) }
     {
         let Some(name) = after_word(line, "subject ") else {
             return Err(LineError::Wrong);
@@ -82,7 +86,8 @@ impl Progress {
         labels: Vec<FormulaKey>,
         line: &[u8],
     ) -> Result<Progress, LineError>
-        ensures ok { IfOk result (λ next. Follows (labels_due subject (formula_trees labels.items)) line.now (stage_of next)) }
+        ensures ok { IfOk result
+            (λ next. Follows (labels_due subject (formula_trees labels.items)) line.now (stage_of next)) }
         ensures only { IfOk result (λ next. (other : Stage)
             → Follows (labels_due subject (formula_trees labels.items)) line.now other → other ≡ stage_of next) }
         ensures wrong { IfErr result (λ e. e ≢ LineError.Memory →
@@ -122,9 +127,11 @@ impl Progress {
         ensures ok { IfOk result (λ next.
             Follows (yes_due subject (formula_trees labels.items) (formula_trees yes.items)) line.now (stage_of next)) }
         ensures only { IfOk result (λ next. (other : Stage)
-            → Follows (yes_due subject (formula_trees labels.items) (formula_trees yes.items)) line.now other → other ≡ stage_of next) }
+            → Follows (yes_due subject (formula_trees labels.items) (formula_trees yes.items)) line.now other
+            → other ≡ stage_of next) }
         ensures wrong { IfErr result (λ e. e ≢ LineError.Memory →
-            (next : Stage) → ¬ Follows (yes_due subject (formula_trees labels.items) (formula_trees yes.items)) line.now next) }
+            (next : Stage)
+            → ¬ Follows (yes_due subject (formula_trees labels.items) (formula_trees yes.items)) line.now next) }
     {
         if let Some(text) = after_word(line, "yes ") {
             if yes.len() >= MOST_FORMULAS {

@@ -1,5 +1,5 @@
 //! The inputs of a talk.
-ghost use Rattle.std.specs.Prelude.{◌≡◌, ◌≢◌, ◌≤◌, IfErr, IfOk, List, length, ℕ};
+ghost use Rattle.std.specs.Prelude.{◌≢◌, ◌≤◌, IfErr, IfOk, List, length, ℕ};
 ghost use Rattle.run_streams.specs.Runs.{most_bytes};
 ghost use Rattle.nexus_client.specs.TalkInputs.{AreFramesOf};
 ghost use Rattle.nexus_client.specs.Inner.Reading.{IsWrongInputOf};

@@ -14,7 +14,8 @@ use std::alloc::Global;
 /// `Bad` exactly where it is that of none. `docs/FORMATS.md`, "Request lines" and "Frames", states both.
 pub fn request_of_line(alloc: Global, line: &[u8]) -> Result<Bytes, LineError>
     ensures ok { IfOk result (IsFrameOfLine line.now) }
-    ensures only { IfOk result (λ frame. (request : Request) → IsRequestLine line.now request → frame ≡ request_frame request) }
+    ensures only { IfOk result
+        (λ frame. (request : Request) → IsRequestLine line.now request → frame ≡ request_frame request) }
     ensures bad { result ≡ Err LineError.Bad → (request : Request) → ¬ IsRequestLine line.now request }
 {
     let request = match read_request(alloc, line) {

@@ -99,9 +99,11 @@ impl Progress for Requests {
 pub fn read_requests(alloc: Global, text: &[u8]) -> Result<Requests, RequestsError>
     requires { length text.now < 2 ^ 63 }
     ensures ok { IfOk result (AreFramesOfLines text.now) }
-    ensures only { IfOk result (λ requests. (others : List (List ℕ)) → AreFramesOfLines text.now others → others ≡ requests) }
+    ensures only { IfOk result
+        (λ requests. (others : List (List ℕ)) → AreFramesOfLines text.now others → others ≡ requests) }
     ensures wrong { IfErr result (IsWrongInput text.now) }
-    ensures refused { IfErr result (λ e. e ≢ RequestsError.Memory → (others : List (List ℕ)) → ¬ AreFramesOfLines text.now others) }
+    ensures refused { IfErr result
+        (λ e. e ≢ RequestsError.Memory → (others : List (List ℕ)) → ¬ AreFramesOfLines text.now others) }
 {
     match read_lines(alloc, Requests::new(alloc), text) {
         Ok(requests) => Ok(requests),

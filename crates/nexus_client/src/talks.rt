@@ -2,7 +2,7 @@
 ghost use Rattle.std.specs.Prelude.{◌≡◌, ◌≢◌, ◌↔◌, ◌≤◌, ◌∷◌, ◌++◌, [], IfOk, IfSome, None, Some, false, true};
 ghost use Rattle.std.specs.Io.KnownBytes.{IsAtEnd};
 ghost use Rattle.nx_io.specs.DoorCalls.{faults_in};
-ghost use Rattle.nx_io.specs.Links.{KeepsOrigin};
+ghost use Rattle.nx_io.specs.Views.{IsSameLink};
 ghost use Rattle.nx_io.specs.Streams.{Grows, MayRise, Rose, gained};
 ghost use Rattle.nexus_client.specs.TalkLaws.{IsInOrder};
 ghost use Rattle.nexus_client.specs.Talks.{IsUnbroken, Talks, link_faults_after, sink_faults_after, talk_call, written_line};
@@ -41,15 +41,20 @@ where
     R: Net<Listener = TcpListener, Stream = TcpStream> + Clock,
     ensures unreached { (result.dialed ≡ None) ↔ (result.end ≡ TalkEnd.Unreached) }
     ensures unheard { result.dialed ≡ None → K.sent output.new ≡ K.sent output.old }
-    ensures talks { IfSome result.dialed (λ link. Talks requests.now (D.Link.sent link) (D.Link.taken link) (gained (K.sent output.old) (K.sent output.new)) (D.Link.over link) result.end) }
-    ensures in_order { IfSome result.dialed (λ link. IsInOrder requests.now (D.Link.sent link) (D.Link.taken link) (gained (K.sent output.old) (K.sent output.new)) (D.Link.over link) result.end) }
+    ensures talks { IfSome result.dialed
+        (λ link. Talks requests.now (D.Link.sent link) (D.Link.taken link)
+        (gained (K.sent output.old) (K.sent output.new)) (D.Link.over link) result.end) }
+    ensures in_order { IfSome result.dialed
+        (λ link. IsInOrder requests.now (D.Link.sent link) (D.Link.taken link)
+        (gained (K.sent output.old) (K.sent output.new)) (D.Link.over link) result.end) }
     ensures ended { IfSome result.dialed (λ link. D.Link.over link ≡ true → IsAtEnd (D.Link.left link)) }
     ensures closed { IfSome result.dialed (λ link. D.Link.closed link ≡ true) }
     ensures toward { IfSome result.dialed (λ link. D.Link.toward link ≡ Some address.now) }
     ensures place { IfSome result.dialed (λ link. D.Link.place link ≡ 0) }
     ensures admitted { IfSome result.dialed (λ link. D.Link.admitted link ≡ false) }
     ensures link_count { IfSome result.dialed (λ link. MayRise (link_faults_after result.end 0) (D.Link.faults link)) }
-    ensures complete { ¬ Rose (faults_in (D.calls door.old)) (faults_in (D.calls door.new)) → ¬ Rose (K.faults output.old) (K.faults output.new)
+    ensures complete { ¬ Rose (faults_in (D.calls door.old)) (faults_in (D.calls door.new))
+        → ¬ Rose (K.faults output.old) (K.faults output.new)
         → IfSome result.dialed (λ link. ¬ Rose 0 (D.Link.faults link)) → IsUnbroken result.end }
     ensures grows { Grows (K.sent output.old) (K.sent output.new) }
     ensures output_later { K.faults output.old ≤ K.faults output.new }
@@ -87,9 +92,10 @@ fn exchange_all<L: Link, K: Sink>(
     requires over { L.over link.old ≡ false }
     requires is_open { L.closed link.old ≡ false }
     ensures reached { result ≢ TalkEnd.Unreached }
-    ensures talks { TalksMore result requests.now (L.sent link.old) (L.sent link.new) (L.taken link.old) (L.taken link.new) (K.sent output.old) (K.sent output.new) (L.over link.new) }
+    ensures talks { TalksMore result requests.now (L.sent link.old) (L.sent link.new) (L.taken link.old)
+        (L.taken link.new) (K.sent output.old) (K.sent output.new) (L.over link.new) }
     ensures ended { L.over link.new ≡ true → IsAtEnd (L.left link.new) }
-    ensures origin { KeepsOrigin (L.place link.old) (L.place link.new) (L.toward link.old) (L.toward link.new) }
+    ensures origin { IsSameLink L.Link link.old link.new }
     ensures admitted { L.admitted link.new ≡ L.admitted link.old }
     ensures link_later { L.faults link.old ≤ L.faults link.new }
     ensures link_count { L.faults link.new ≡ link_faults_after result (L.faults link.old) }
@@ -116,9 +122,10 @@ fn exchange<L: Link, K: Sink>(
     requires is_open { L.closed link.old ≡ false }
     ensures is_open { L.closed link.new ≡ false }
     ensures reached { result ≢ Some TalkEnd.Unreached }
-    ensures passes { Exchanges result request.now (L.sent link.old) (L.sent link.new) (L.taken link.old) (L.taken link.new) (K.sent output.old) (K.sent output.new) (L.over link.new) }
+    ensures passes { Exchanges result request.now (L.sent link.old) (L.sent link.new) (L.taken link.old)
+        (L.taken link.new) (K.sent output.old) (K.sent output.new) (L.over link.new) }
     ensures ended { L.over link.new ≡ true → IsAtEnd (L.left link.new) }
-    ensures origin { KeepsOrigin (L.place link.old) (L.place link.new) (L.toward link.old) (L.toward link.new) }
+    ensures origin { IsSameLink L.Link link.old link.new }
     ensures admitted { L.admitted link.new ≡ L.admitted link.old }
     ensures link_later { L.faults link.old ≤ L.faults link.new }
     ensures link_count { L.faults link.new ≡ link_faults_so_far result (L.faults link.old) }

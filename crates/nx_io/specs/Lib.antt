@@ -11,3 +11,4 @@ pub mod Readers
 pub mod Recorders
 pub mod Sockets
 pub mod Streams
+pub mod Views

@@ -1,5 +1,5 @@
 // The calls that were made of a door, for contracts and for its counts.
-ghost use Rattle.std.specs.Prelude.{◌≡◌, ◌∷◌, ◌++◌, [], true};
+ghost use Rattle.std.specs.Prelude.{◌≡◌, ◌∷◌, ◌++◌, []};
 ghost use Rattle.nx_io.specs.DoorCalls.{faults_in, gave_in, is_fault, is_gift, new_origin, share_of};
 ghost use Rattle.nx_io.specs.Histories.{call_of};
 

@@ -78,7 +78,9 @@ pub trait Door {
         &mut self,
         rt: &R,
     ) -> Next<Self::Link>
-        ensures fresh { IfGiven result (λ link. IsFreshLink (Self.Link.taken link) (Self.Link.sent link) (Self.Link.over link) (Self.Link.closed link) (Self.Link.admitted link) (Self.Link.faults link)) }
+        ensures fresh { IfGiven result
+            (λ link. IsFreshLink (Self.Link.taken link) (Self.Link.sent link) (Self.Link.over link)
+            (Self.Link.closed link) (Self.Link.admitted link) (Self.Link.faults link)) }
         ensures place { IfGiven result (λ link. Self.Link.place link ≡ gave_in (calls self.new)) }
         ensures toward { IfGiven result (λ link. Self.Link.toward link ≡ None) }
         ensures links { Gives result (links self.old) (links self.new) }
@@ -91,7 +93,9 @@ pub trait Door {
         rt: &R,
         address: &[u8],
     ) -> Dial<Self::Link>
-        ensures fresh { IfDialed result (λ link. IsFreshLink (Self.Link.taken link) (Self.Link.sent link) (Self.Link.over link) (Self.Link.closed link) (Self.Link.admitted link) (Self.Link.faults link)) }
+        ensures fresh { IfDialed result
+            (λ link. IsFreshLink (Self.Link.taken link) (Self.Link.sent link) (Self.Link.over link)
+            (Self.Link.closed link) (Self.Link.admitted link) (Self.Link.faults link)) }
         ensures place { IfDialed result (λ link. Self.Link.place link ≡ 0) }
         ensures toward { IfDialed result (λ link. Self.Link.toward link ≡ Some address.now) }
         ensures calls { calls self.new ≡ calls self.old ++ dial_call address.now result ∷ [] }

@@ -1,6 +1,6 @@
 // Streams both ways, by the histories of what they gave and took, and by a count of their faults.
 // `docs/ARCHITECTURE.md`, "What contracts see of the outside", states the form that all such traits have.
-ghost use Rattle.std.specs.Prelude.{◌↔◌, ◌<◌, ◌≡◌, [], Bool, IsTrue, List, false, length, true, ℕ};
+ghost use Rattle.std.specs.Prelude.{◌<◌, ◌≡◌, [], Bool, List, false, length, true, ℕ};
 ghost use Rattle.nx_io.specs.Duplexes.{AreSame, new_stream};
 ghost use Rattle.nx_io.specs.Readers.{HandsOn, HandsTo};
 ghost use Rattle.nx_io.specs.Streams.{ReadsWithin, Writes, WritesWithin, faults_after_read, faults_after_write, given_after, one_more};

@@ -1,5 +1,5 @@
 // A source and a sink in memory, which fail at the calls that they are told.
-ghost use Rattle.std.specs.Prelude.{◌<◌, ◌≡◌, ◌↔◌, ◌≤◌, [], false, length, IfOk, IsTrue, Some};
+ghost use Rattle.std.specs.Prelude.{◌<◌, ◌≡◌, ◌↔◌, ◌≤◌, [], false, length, IfOk, Some};
 ghost use Rattle.std.specs.List.{Contains};
 ghost use Rattle.nx_io.specs.Streams.{Reads, ReadsWithin, Writes, WritesWithin, faults_after_reach, faults_after_read, faults_after_write, given_after, one_more, over_after, synced_after};
 ghost use Rattle.nx_io.specs.Memory.{Stores, Supplies, new_store};
@@ -48,7 +48,17 @@ impl MemSource {
         fails: &[u64],
     ) -> Result<MemSource, AllocError>
         requires { 1 ≤ piece }
-        ensures { IfOk result (λ source. source ≡ record { left = left.now; given = []; over = false; piece = piece; fails = fails.now; calls = 0; faults = 0 }) }
+        ensures { IfOk result
+            (λ source. source
+            ≡ record {
+              left = left.now;
+              given = [];
+              over = false;
+              piece = piece;
+              fails = fails.now;
+              calls = 0;
+              faults = 0;
+            }) }
     {
         Ok(MemSource {
             bytes: Vec::from_slice(alloc, left)?,
@@ -230,7 +240,8 @@ impl Sink for MemSink {
         ensures later { self.old.faults ≤ self.new.faults }
         ensures count { self.new.faults ≡ faults_after_reach result self.old.faults }
         ensures failed { (result ≡ Reach.Failed) ↔ Contains self.old.sync_fails self.new.syncs }
-        ensures others { self.new ≡ record self.old { synced = self.new.synced; syncs = one_more self.old.syncs; faults = self.new.faults } }
+        ensures others { self.new
+            ≡ record self.old { synced = self.new.synced; syncs = one_more self.old.syncs; faults = self.new.faults } }
     {
         if self.syncs.call_fails() {
             self.script.fault();

@@ -173,11 +173,13 @@ impl Door for MemDoor {
         ensures calls { self.new.calls ≡ self.old.calls ++ share_call result ∷ [] }
         ensures links { Some self.new.links ≡ Some self.old.links }
         ensures origin { self.new.origin ≡ self.old.origin }
-        ensures made { IfMade result (λ share. share ≡ share_by (next_plan self.old.plans) (share_of self.old.origin self.old.calls)) }
+        ensures made { IfMade result
+            (λ share. share ≡ share_by (next_plan self.old.plans) (share_of self.old.origin self.old.calls)) }
         ensures used { IfMade result (λ _. self.new.plans ≡ drop 1 self.old.plans) }
         ensures failed { (result ≡ Shared.Failed) ↔ Contains self.old.fails self.new.number }
         ensures unused { result ≡ Shared.Failed → self.new.plans ≡ self.old.plans }
-        ensures others { self.new ≡ record self.old { plans = self.new.plans; number = one_more self.old.number; calls = self.new.calls } }
+        ensures others { self.new
+            ≡ record self.old { plans = self.new.plans; number = one_more self.old.number; calls = self.new.calls } }
         ensures sound { result ≢ Shared.NoMemory }
     {
         if self.call_fails() {
@@ -202,7 +204,8 @@ impl Door for MemDoor {
         ensures calls { self.new.calls ≡ self.old.calls ++ next_call result ∷ [] }
         ensures origin { self.new.origin ≡ self.old.origin }
         ensures failed { (result ≡ Next.Failed) ↔ Contains self.old.fails self.new.number }
-        ensures others { self.new ≡ record self.old { links = self.new.links; number = one_more self.old.number; calls = self.new.calls } }
+        ensures others { self.new
+            ≡ record self.old { links = self.new.links; number = one_more self.old.number; calls = self.new.calls } }
     {
         if self.call_fails() {
             self.history.add(LoggedCall::NotGiven);
@@ -234,7 +237,8 @@ impl Door for MemDoor {
         ensures origin { self.new.origin ≡ self.old.origin }
         ensures dialed { Dials result address.now self.old.dialed self.new.dialed }
         ensures failed { (result ≡ Dial.Failed) ↔ (Contains self.old.fails self.new.number ⊎ (self.old.dialed ≡ None)) }
-        ensures others { self.new ≡ record self.old { dialed = self.new.dialed; number = one_more self.old.number; calls = self.new.calls } }
+        ensures others { self.new
+            ≡ record self.old { dialed = self.new.dialed; number = one_more self.old.number; calls = self.new.calls } }
     {
         let told = History::of(address);
         if self.call_fails() {

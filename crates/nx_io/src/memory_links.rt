@@ -1,5 +1,5 @@
 // A link in memory, which fails at the calls that it is told.
-ghost use Rattle.std.specs.Prelude.{◌<◌, ◌≡◌, ◌↔◌, ◌≤◌, IfOk, IsTrue, Some, None, false, length, true};
+ghost use Rattle.std.specs.Prelude.{◌<◌, ◌≡◌, ◌≤◌, IfOk, Some, None, false, length, true};
 ghost use Rattle.std.specs.Option.{option_map};
 ghost use Rattle.nx_io.specs.Streams.{MayRise, Reads, ReadsWithin, Writes, WritesWithin, faults_after_read, faults_after_write, given_after, over_after};
 ghost use Rattle.nx_io.specs.Links.{KeepsComing, KeepsGoing, KeepsOrigin};
@@ -185,7 +185,8 @@ impl Link for MemLink {
         ensures within { WritesWithin result piece.now }
         ensures bytes { Writes result self.old.store.sent self.new.store.sent piece.now }
         ensures closed { self.new.closed ≡ self.old.closed }
-        ensures coming { KeepsComing (Some self.old.supply.left) (Some self.new.supply.left) self.old.supply.given self.new.supply.given self.old.supply.over self.new.supply.over }
+        ensures coming { KeepsComing (Some self.old.supply.left) (Some self.new.supply.left) self.old.supply.given
+            self.new.supply.given self.old.supply.over self.new.supply.over }
         ensures origin { KeepsOrigin self.old.place self.new.place self.old.toward self.new.toward }
         ensures admitted { self.new.admitted ≡ self.old.admitted }
         ensures later { self.old.faults ≤ self.new.faults }
@@ -211,7 +212,8 @@ impl Link for MemLink {
     fn close(&mut self)
         ensures closed { self.new.closed ≡ true }
         ensures sent { self.new.store.sent ≡ self.old.store.sent }
-        ensures coming { KeepsComing (Some self.old.supply.left) (Some self.new.supply.left) self.old.supply.given self.new.supply.given self.old.supply.over self.new.supply.over }
+        ensures coming { KeepsComing (Some self.old.supply.left) (Some self.new.supply.left) self.old.supply.given
+            self.new.supply.given self.old.supply.over self.new.supply.over }
         ensures origin { KeepsOrigin self.old.place self.new.place self.old.toward self.new.toward }
         ensures admitted { self.new.admitted ≡ self.old.admitted }
         ensures later { self.old.faults ≤ self.new.faults }

@@ -1,5 +1,5 @@
 // Bytes that wait their turn.
-ghost use Rattle.std.specs.Prelude.{false, IfOk, ◌≡◌, ◌≢◌, ◌↔◌, ◌<◌, ◌≤◌, ◌++◌, ◌-◌, ◌⊎◌, [], IsTrue, ℕ, drop, length, min, take};
+ghost use Rattle.std.specs.Prelude.{false, IfOk, ◌≡◌, ◌↔◌, ◌<◌, ◌≤◌, ◌++◌, ◌-◌, ◌⊎◌, [], IsTrue, ℕ, drop, length, min, take};
 ghost use Rattle.nx_io.specs.Duplexes.{AreSame};
 ghost use Rattle.nx_io.specs.Streams.{faults_after_read};
 

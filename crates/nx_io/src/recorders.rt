@@ -1,6 +1,6 @@
 // Sinks for records, of which each of those that record has a share.
 // `docs/ARCHITECTURE.md`, "What contracts see of the outside", states the form that all such traits have.
-ghost use Rattle.std.specs.Prelude.{◌≡◌, ◌≢◌, ◌<◌, ◌≤◌, [], List, ℕ, length};
+ghost use Rattle.std.specs.Prelude.{◌≡◌, ◌≢◌, ◌<◌, ◌≤◌, [], ℕ, length};
 ghost use Rattle.nx_io.specs.Doors.{IfMade};
 ghost use Rattle.nx_io.specs.Readers.{HandsTo};
 ghost use Rattle.nx_io.specs.Recorders.{faults_after_share};

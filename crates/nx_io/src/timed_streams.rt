@@ -1,7 +1,6 @@
 // Streams of the system that are given up where their peer lets them wait for too long.
-ghost use Rattle.std.specs.Prelude.{◌<◌, ◌≡◌, false, length, true};
-ghost use Rattle.nx_io.specs.Duplexes.{AreSame, new_stream};
-ghost use Rattle.nx_io.specs.Streams.{ReadsWithin, Writes, WritesWithin, faults_after_read, faults_after_write, given_after};
+ghost use Rattle.std.specs.Prelude.{◌<◌, ◌≡◌};
+ghost use Rattle.nx_io.specs.Duplexes.{new_stream};
 
 use crate::duplex::{Duplex, StdDuplex};
 use crate::streams::{Got, Put};

@@ -77,9 +77,11 @@ pub fn read_script(alloc: Global, text: &[u8]) -> Result<Script, ScriptError>
 fn read_askings(alloc: Global, text: &[u8], before: u64) -> Result<Vec<Asking>, ScriptError>
     requires { before + length text.now < 2 ^ 63 }
     ensures ok { IfOk result (λ askings. AreAskings text.now askings.items) }
-    ensures only { IfOk result (λ askings. (others : List Asking) → AreAskings text.now others → others ≡ askings.items) }
+    ensures only { IfOk result
+        (λ askings. (others : List Asking) → AreAskings text.now others → others ≡ askings.items) }
     ensures wrong { IfErr result (IsWrongAfter before text.now) }
-    ensures refused { IfErr result (λ e. e ≢ ScriptError.Memory → (others : List Asking) → ¬ AreAskings text.now others) }
+    ensures refused { IfErr result
+        (λ e. e ≢ ScriptError.Memory → (others : List Asking) → ¬ AreAskings text.now others) }
 {
     let first = Askings {
         list: Vec::new(alloc),

@@ -1,7 +1,7 @@
 //! What `script` writes.
-ghost use Rattle.std.specs.Prelude.{◌≡◌, ◌++◌, IfOk, OnOk};
+ghost use Rattle.std.specs.Prelude.{◌≡◌, IfOk};
 ghost use Rattle.policy_history.specs.Values.{entry_trees};
-ghost use Rattle.policy_script.specs.ScriptText.{reply_lines, script_text};
+ghost use Rattle.policy_script.specs.ScriptText.{script_text};
 
 use journal_text::{print_policy, reply_line};
 use nx_io::Bytes;

@@ -1,6 +1,8 @@
 -- What a source and a sink did in a run.
 use Rattle.std.specs.Prelude.{◌≡◌, ◌<◌, ℕ, List, length, take, Bool, IsTrue, Option, Some}
 use Rattle.nx_io.specs.Streams.{gained}
+use Rattle.nx_io.specs.declared.streams.Sink.{Ghosts as SinkGhosts}
+use Rattle.nx_io.specs.declared.streams.Source.{Ghosts as SourceGhosts}
 
 -- how many bytes an input has at most
 abbrev pub most_bytes : ℕ
@@ -22,11 +24,17 @@ pub record SinkRun : Type 0 where
   pub faults_now : ℕ
 
 -- what a source and a sink did in a run, by what they tell before and after
-abbrev pub source_run : Option (List ℕ) → List ℕ → List ℕ → Bool → ℕ → ℕ → SourceRun
-source_run known given given_now over faults faults_now = record { known = known; given = gained given given_now; over = over; faults = faults; faults_now = faults_now }
+abbrev pub source_run : {S : Type 0} → SourceGhosts S → S → S → SourceRun
+source_run source old new = record {
+  known = source.left old;
+  given = gained (source.given old) (source.given new);
+  over = source.over new;
+  faults = source.faults old;
+  faults_now = source.faults new;
+}
 
-abbrev pub sink_run : List ℕ → List ℕ → ℕ → ℕ → SinkRun
-sink_run sent sent_now faults faults_now = record { sent = gained sent sent_now; faults = faults; faults_now = faults_now }
+abbrev pub sink_run : {K : Type 0} → SinkGhosts K → K → K → SinkRun
+sink_run sink old new = record { sent = gained (sink.sent old) (sink.sent new); faults = sink.faults old; faults_now = sink.faults new }
 
 -- the source is over, and has given all that it had
 pub record IsReadWhole (source : SourceRun) : Type 0 where

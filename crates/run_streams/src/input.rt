@@ -1,7 +1,8 @@
 //! Reading a source whole.
 ghost use Rattle.std.specs.Prelude.{◌≡◌, ◌<◌, ◌≤◌, Err, IfOk, IsTrue, length};
 ghost use Rattle.std.specs.Io.KnownBytes.{IsAtEnd};
-ghost use Rattle.nx_io.specs.Streams.{Gave, gained};
+ghost use Rattle.nx_io.specs.Streams.{gained};
+ghost use Rattle.nx_io.specs.Views.{HasGiven};
 ghost use Rattle.run_streams.specs.Runs.{most_bytes};
 ghost use Rattle.run_streams.specs.Reading.{faults_after_reading};
 
@@ -12,7 +13,7 @@ use std::alloc::{AllocError, Global};
 const MOST_BYTES: usize = 67_108_864;
 
 /// How many bytes one read asks for. The buffer lies on the stack and is filled before anything else takes memory, so that
-/// there is as much stack later as the deepest formula wants; `docs/GUARANTEES.md`, "Stack", says how much that is.
+/// there is as much stack later as the deepest formula wants; `docs/OPERATING.md`, "Stack", says how much that is.
 const BUFFER_SIZE: usize = 393_216;
 
 /// How much stack there may be in use beside the buffer.
@@ -38,10 +39,12 @@ fn has_room(alloc: Global) -> bool {
 
 /// Reads a source to its end, or until it has given more bytes than an input may have.
 pub fn read_whole<S: Source>(alloc: Global, source: &mut S) -> Result<Vec<u8>, ReadError>
-    ensures gave { Gave (S.left source.old) (S.left source.new) (S.given source.old) (S.given source.new) }
+    ensures gave { HasGiven S.Source source.old source.new }
     ensures whole { IfOk result (λ whole. (length whole.items ≤ most_bytes)
-        × (gained (S.given source.old) (S.given source.new) ≡ whole.items) × IsTrue (S.over source.new) × IsAtEnd (S.left source.new)) }
-    ensures large { result ≡ Err ReadError.TooLarge → most_bytes < length (gained (S.given source.old) (S.given source.new)) }
+        × (gained (S.given source.old) (S.given source.new) ≡ whole.items) × IsTrue (S.over source.new)
+        × IsAtEnd (S.left source.new)) }
+    ensures large { result ≡ Err ReadError.TooLarge
+        → most_bytes < length (gained (S.given source.old) (S.given source.new)) }
     ensures count { S.faults source.new ≡ faults_after_reading result (S.faults source.old) }
 {
     if has_room(alloc) {
@@ -55,10 +58,12 @@ pub fn read_whole<S: Source>(alloc: Global, source: &mut S) -> Result<Vec<u8>, R
 /// lasts.
 #[inline(never)]
 fn read_buffered<S: Source>(alloc: Global, source: &mut S) -> Result<Vec<u8>, ReadError>
-    ensures gave { Gave (S.left source.old) (S.left source.new) (S.given source.old) (S.given source.new) }
+    ensures gave { HasGiven S.Source source.old source.new }
     ensures whole { IfOk result (λ whole. (length whole.items ≤ most_bytes)
-        × (gained (S.given source.old) (S.given source.new) ≡ whole.items) × IsTrue (S.over source.new) × IsAtEnd (S.left source.new)) }
-    ensures large { result ≡ Err ReadError.TooLarge → most_bytes < length (gained (S.given source.old) (S.given source.new)) }
+        × (gained (S.given source.old) (S.given source.new) ≡ whole.items) × IsTrue (S.over source.new)
+        × IsAtEnd (S.left source.new)) }
+    ensures large { result ≡ Err ReadError.TooLarge
+        → most_bytes < length (gained (S.given source.old) (S.given source.new)) }
     ensures count { S.faults source.new ≡ faults_after_reading result (S.faults source.old) }
 {
     let mut whole = Vec::new(alloc);

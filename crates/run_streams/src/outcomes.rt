@@ -58,7 +58,8 @@ fn denial(alloc: Global, cause: &Cause) -> Result<String, AllocError>
 }
 
 fn faulty_line(alloc: Global, line: u64, name: &str) -> Result<String, AllocError>
-    ensures { IfOk result (λ text. string_bytes text ≡ codes "denied Line " ++ decimal line ++ 32 ∷ name.now ++ 10 ∷ []) }
+    ensures { IfOk result
+        (λ text. string_bytes text ≡ codes "denied Line " ++ decimal line ++ 32 ∷ name.now ++ 10 ∷ []) }
 {
     let mut text = format!(in alloc; "denied Line {line} ")?;
     text.push_str(name)?;

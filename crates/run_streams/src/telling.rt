@@ -10,7 +10,8 @@ use std::alloc::Global;
 #[tactic(auto, using(crate::proofs::Statuses::told_status))]
 pub fn tell<K: Sink>(alloc: Global, output: &mut K, outcome: Outcome) -> u8
     ensures untouched { (result ≡ 4) ⊎ (result ≡ 6) → output.new ≡ output.old }
-    ensures told { Tells outcome (K.sent output.old) (K.sent output.new) (K.faults output.old) (K.faults output.new) result }
+    ensures told { Tells outcome (K.sent output.old) (K.sent output.new) (K.faults output.old) (K.faults output.new)
+        result }
 {
     let Ok(text) = outcome.output(alloc) else {
         return 6;

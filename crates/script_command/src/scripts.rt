@@ -1,7 +1,8 @@
 //! A run of `script`.
-ghost use Rattle.std.specs.Prelude.{◌≡◌, ◌⊎◌, ◌≤◌, ◌<◌, IfErr, IfOk, None, Some};
+ghost use Rattle.std.specs.Prelude.{◌≡◌, ◌⊎◌, ◌<◌, IfErr, IfOk, None, Some};
 ghost use Rattle.std.specs.List.{All};
-ghost use Rattle.nx_io.specs.Streams.{Gave, Grows};
+ghost use Rattle.nx_io.specs.Streams.{Grows};
+ghost use Rattle.nx_io.specs.Views.{HasGiven};
 ghost use Rattle.policy_history.specs.Values.{entry_trees};
 ghost use Rattle.journal_text.specs.PolicyFronts.{AreBelow};
 ghost use Rattle.policy_script.specs.ScriptForm.{most_session};
@@ -42,12 +43,12 @@ pub fn script<R, S: Source, K: Sink, P: Panel>(
 ) -> PlainEnd<P>
 where
     R: Net<Listener = TcpListener, Stream = TcpStream> + Clock,
-    ensures gave { Gave (S.left input.old) (S.left input.new) (S.given input.old) (S.given input.new) }
+    ensures gave { HasGiven S.Source input.old input.new }
     ensures sent { Grows (K.sent output.old) (K.sent output.new) }
     ensures untouched { (result.status ≡ 4) ⊎ (result.status ≡ 6) → output.new ≡ output.old }
     ensures ends { EndsScript
-        (source_run (S.left input.old) (S.given input.old) (S.given input.new) (S.over input.new) (S.faults input.old) (S.faults input.new))
-        (sink_run (K.sent output.old) (K.sent output.new) (K.faults output.old) (K.faults output.new))
+        (source_run S.Source input.old input.new)
+        (sink_run K.Sink output.old output.new)
         (panel_run (P.history panel) (P.history result.panel))
         result.journal result.status }
 {
@@ -67,13 +68,13 @@ where
 
 /// Reads the input of a script.
 fn read_input<S: Source>(alloc: Global, input: &mut S) -> Result<Script, Unread>
-    ensures gave { Gave (S.left input.old) (S.left input.new) (S.given input.old) (S.given input.new) }
+    ensures gave { HasGiven S.Source input.old input.new }
     ensures ok { IfOk result (λ script. IsScriptOf
-        (source_run (S.left input.old) (S.given input.old) (S.given input.new) (S.over input.new) (S.faults input.old) (S.faults input.new)) (script_tree script)) }
+        (source_run S.Source input.old input.new) (script_tree script)) }
     ensures below { IfOk result (λ script. AreBelow most_session (entry_trees script.journal.entries)) }
     ensures places { IfOk result (λ script. All (λ a. a.place < 64) script.askings.items) }
     ensures err { IfErr result (IsUnread script_form
-        (source_run (S.left input.old) (S.given input.old) (S.given input.new) (S.over input.new) (S.faults input.old) (S.faults input.new))) }
+        (source_run S.Source input.old input.new)) }
     ensures count { S.faults input.new ≡ faults_after_input result (S.faults input.old) }
 {
     match read_whole(alloc, input) {
@@ -117,7 +118,7 @@ where
     ensures sent { Grows (K.sent output.old) (K.sent output.new) }
     ensures untouched { (result.status ≡ 4) ⊎ (result.status ≡ 6) → output.new ≡ output.old }
     ensures ends { EndsAnswers (script_of journal askings.now)
-        (sink_run (K.sent output.old) (K.sent output.new) (K.faults output.old) (K.faults output.new))
+        (sink_run K.Sink output.old output.new)
         (panel_run (P.history panel) (P.history result.panel))
         result.journal result.status }
 {
@@ -162,7 +163,7 @@ where
     ensures sent { Grows (K.sent output.old) (K.sent output.new) }
     ensures untouched { (result ≡ 4) ⊎ (result ≡ 6) → output.new ≡ output.old }
     ensures ends { EndsReplies (script_of journal.old askings.now) journal.new
-        (sink_run (K.sent output.old) (K.sent output.new) (K.faults output.old) (K.faults output.new))
+        (sink_run K.Sink output.old output.new)
         (panel_run (P.history panel.old) (P.history panel.new))
         result }
 {
@@ -188,7 +189,7 @@ where
     ensures sent { Grows (K.sent output.old) (K.sent output.new) }
     ensures untouched { (result ≡ 4) ⊎ (result ≡ 6) → output.new ≡ output.old }
     ensures ends { EndsReached (script_of journal.old askings.now) journal.new
-        (sink_run (K.sent output.old) (K.sent output.new) (K.faults output.old) (K.faults output.new))
+        (sink_run K.Sink output.old output.new)
         (panel_run (P.history panel.old) (P.history panel.new))
         result }
 {

@@ -123,7 +123,8 @@ pub(crate) fn cut_text(bytes: &[u8]) -> Option<(&[u8], &[u8])>
 
 /// The number that the bytes begin with, and what follows it.
 pub(crate) fn cut_number(bytes: &[u8]) -> Option<(u64, &[u8])>
-    ensures { MatchOption result ((number : ℕ) (rest : List ℕ) → IsNumber64 number → bytes.now ≢ number_bytes number ++ rest)
+    ensures { MatchOption result
+        ((number : ℕ) (rest : List ℕ) → IsNumber64 number → bytes.now ≢ number_bytes number ++ rest)
         (λ cut. IsNumber64 cut.0 × (bytes.now ≡ number_bytes cut.0 ++ cut.1.now)) }
 {
     if bytes.len() < 8 {

@@ -1,6 +1,7 @@
 ghost use Rattle.std.specs.Prelude.{◌≡◌, ◌<◌, ◌≤◌, ◌+◌, ◌^◌, IfOk, length, false};
-ghost use Rattle.nx_io.specs.Links.{KeepsGoing, KeepsOrigin};
-ghost use Rattle.nx_io.specs.Streams.{Gave, gained};
+ghost use Rattle.nx_io.specs.Links.{KeepsGoing};
+ghost use Rattle.nx_io.specs.Views.{HasTaken, IsSameLink};
+ghost use Rattle.nx_io.specs.Streams.{gained};
 ghost use Rattle.session_wire.specs.Frames.{framed, most_payload};
 ghost use Rattle.session_wire.specs.Answers.{IsAtItsEnd, IsTakenFor, faults_after_frame, over_after_frame};
 ghost use Rattle.session_wire.specs.Inner.Taking.{FillsFewer, TakesFor, early_answer};
@@ -79,11 +80,12 @@ impl FrameReader {
         ensures size { self.new ≡ self.old + length (gained (L.taken link.old) (L.taken link.new)) }
         ensures few { self.new ≤ self.old + 33796 }
         ensures front { IsTakenFor result self.old (gained (L.taken link.old) (L.taken link.new)) }
-        ensures bytes { Gave (L.left link.old) (L.left link.new) (L.taken link.old) (L.taken link.new) }
+        ensures bytes { HasTaken L.Link link.old link.new }
         ensures end { IsAtItsEnd result (L.left link.new) }
-        ensures over { L.over link.new ≡ over_after_frame result (gained (L.taken link.old) (L.taken link.new)) (L.over link.old) }
+        ensures over { L.over link.new
+            ≡ over_after_frame result (gained (L.taken link.old) (L.taken link.new)) (L.over link.old) }
         ensures going { KeepsGoing (L.sent link.old) (L.sent link.new) (L.closed link.old) (L.closed link.new) }
-        ensures origin { KeepsOrigin (L.place link.old) (L.place link.new) (L.toward link.old) (L.toward link.new) }
+        ensures origin { IsSameLink L.Link link.old link.new }
         ensures admitted { L.admitted link.new ≡ L.admitted link.old }
         ensures later { L.faults link.old ≤ L.faults link.new }
         ensures count { L.faults link.new ≡ faults_after_frame result (L.faults link.old) }
@@ -105,9 +107,10 @@ fn read_frame<L: Link>(
     requires start { start < 2 ^ 63 }
     requires open { L.closed link.old ≡ false }
     ensures small { result.1 ≤ 33796 }
-    ensures bytes { TakesFor result.0 result.1 start (L.left link.old) (L.left link.new) (L.taken link.old) (L.taken link.new) (L.over link.old) (L.over link.new) }
+    ensures bytes { TakesFor result.0 result.1 start (L.left link.old) (L.left link.new) (L.taken link.old)
+        (L.taken link.new) (L.over link.old) (L.over link.new) }
     ensures going { KeepsGoing (L.sent link.old) (L.sent link.new) (L.closed link.old) (L.closed link.new) }
-    ensures origin { KeepsOrigin (L.place link.old) (L.place link.new) (L.toward link.old) (L.toward link.new) }
+    ensures origin { IsSameLink L.Link link.old link.new }
     ensures admitted { L.admitted link.new ≡ L.admitted link.old }
     ensures later { L.faults link.old ≤ L.faults link.new }
     ensures count { L.faults link.new ≡ faults_after_frame result.0 (L.faults link.old) }

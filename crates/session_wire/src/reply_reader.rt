@@ -1,6 +1,7 @@
 ghost use Rattle.std.specs.Prelude.{◌≡◌, ◌↔◌, ◌≤◌, ◌+◌, ◌*◌, ◌∷◌, ◌++◌, [], IfSome, IsTrue, MatchOption, None, Some, length, false};
-ghost use Rattle.nx_io.specs.Links.{KeepsGoing, KeepsOrigin};
-ghost use Rattle.nx_io.specs.Streams.{Gave, gained};
+ghost use Rattle.nx_io.specs.Links.{KeepsGoing};
+ghost use Rattle.nx_io.specs.Views.{HasTaken, IsSameLink};
+ghost use Rattle.nx_io.specs.Streams.{gained};
 ghost use Rattle.session_wire.specs.Frames.{HasFittingNumbers, number_bytes, reply_payload};
 ghost use Rattle.session_wire.specs.Replies.{IsReplyLength, count_of_kind};
 ghost use Rattle.session_wire.specs.Answers.{IsAtReplysEnd, IsTakenForReply, faults_after_reply, over_after_reply};
@@ -34,11 +35,12 @@ pub enum ReplyRead {
 pub fn read_reply<L: Link>(link: &mut L) -> ReplyRead
     requires open { L.closed link.old ≡ false }
     ensures front { IsTakenForReply result (gained (L.taken link.old) (L.taken link.new)) }
-    ensures bytes { Gave (L.left link.old) (L.left link.new) (L.taken link.old) (L.taken link.new) }
+    ensures bytes { HasTaken L.Link link.old link.new }
     ensures end { IsAtReplysEnd result (L.left link.new) }
-    ensures over { L.over link.new ≡ over_after_reply result (gained (L.taken link.old) (L.taken link.new)) (L.over link.old) }
+    ensures over { L.over link.new
+        ≡ over_after_reply result (gained (L.taken link.old) (L.taken link.new)) (L.over link.old) }
     ensures going { KeepsGoing (L.sent link.old) (L.sent link.new) (L.closed link.old) (L.closed link.new) }
-    ensures origin { KeepsOrigin (L.place link.old) (L.place link.new) (L.toward link.old) (L.toward link.new) }
+    ensures origin { IsSameLink L.Link link.old link.new }
     ensures admitted { L.admitted link.new ≡ L.admitted link.old }
     ensures later { L.faults link.old ≤ L.faults link.new }
     ensures count { L.faults link.new ≡ faults_after_reply result (L.faults link.old) }
@@ -49,9 +51,10 @@ pub fn read_reply<L: Link>(link: &mut L) -> ReplyRead
 /// As `read_reply`, with what was taken in one clause.
 fn take_reply<L: Link>(link: &mut L) -> ReplyRead
     requires open { L.closed link.old ≡ false }
-    ensures bytes { TakesForReply result (L.left link.old) (L.left link.new) (L.taken link.old) (L.taken link.new) (L.over link.old) (L.over link.new) }
+    ensures bytes { TakesForReply result (L.left link.old) (L.left link.new) (L.taken link.old) (L.taken link.new)
+        (L.over link.old) (L.over link.new) }
     ensures going { KeepsGoing (L.sent link.old) (L.sent link.new) (L.closed link.old) (L.closed link.new) }
-    ensures origin { KeepsOrigin (L.place link.old) (L.place link.new) (L.toward link.old) (L.toward link.new) }
+    ensures origin { IsSameLink L.Link link.old link.new }
     ensures admitted { L.admitted link.new ≡ L.admitted link.old }
     ensures later { L.faults link.old ≤ L.faults link.new }
     ensures count { L.faults link.new ≡ faults_after_reply result (L.faults link.old) }
