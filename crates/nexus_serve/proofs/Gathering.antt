@@ -4,6 +4,7 @@ use Rattle.std.proofs.lemmas.List.{length-map, map-append}
 use Rattle.std.proofs.lemmas.List.Elements.{All-append, All-head, All-map, All-nil, All-tail, All-weaker}
 use Rattle.std.specs.Prelude.{All, map, ◌||◌}
 use Rattle.std.specs.declared.vec.Vec.{Vec}
+use Rattle.nx_io.specs.Views.{DoorView}
 use Rattle.nexus_serve.specs.Means.{MeansHistory}
 use Rattle.policy_history.specs.declared.events.Entry.{Entry}
 use Rattle.policy_history.specs.declared.heads.Head.{Head}
@@ -12,7 +13,7 @@ use Rattle.verdict_words.specs.Settling.{all_met, all_of, flat, items_of, met_of
 use Rattle.verdict_words.specs.Values.{Identity, PassValue}
 use Rattle.nexus_serve.specs.declared.closing.ServeEnd.{ServeEnd}
 use Rattle.nexus_serve.specs.declared.closing.ServeEnd.TheVariants.{Done, DoorFault}
-use Rattle.nexus_serve.specs.Views.{DoorView, ReportView, SessionView, joined, with_pass}
+use Rattle.nexus_serve.specs.Views.{ReportView, SessionView, joined, with_pass}
 use Rattle.nexus_serve.specs.Workers.{IsCutShort, SomeCutShort, SomeFailed}
 use Rattle.nexus_serve.specs.Inner.Gathering.{GatheredValue, gathered_all, gathered_from, joined_each, nothing, pass_of, session_of}
 use Rattle.nexus_serve.specs.Inner.Joining.{met_report, reports_of, unused_of}

@@ -2,6 +2,7 @@
 use Rattle.std.proofs.Common.{◌≡◌, ◌≢◌, ◌<◌, ◌+◌, ◌-◌, ℕ, List, [], ◌∷◌, ◌++◌, length, take, sym, ap, ◌∙◌, subst, arith, length-append, append-nil}
 use Rattle.std.proofs.Math.Seq.{take-append_seam}
 use Rattle.std.proofs.lemmas.List.{map-append, length-map}
+use Rattle.nx_io.specs.Views.{DoorView, LinkView}
 use Rattle.nexus_serve.proofs.Lists.{all_left, all_last}
 use Rattle.std.specs.Prelude.{All, map}
 use Rattle.nexus_serve.specs.Means.{MeansHistory}
@@ -18,7 +19,7 @@ use Rattle.session_core.specs.Records.{IsToldAndNoted}
 use Rattle.session_core.specs.ToldLaws.{NotedStaysNoted}
 use Rattle.nexus_serve.specs.declared.closing.ServeEnd.{ServeEnd}
 use Rattle.nexus_serve.specs.declared.closing.ServeEnd.TheVariants.{Done, DoorFault}
-use Rattle.nexus_serve.specs.Views.{DoorView, LinkView, ReportView}
+use Rattle.nexus_serve.specs.Views.{ReportView}
 use Rattle.nexus_serve.specs.Workers.{HasComeFrom, HasWorked, IsHeard, Stops, Works, all, failed, next, no_more, no_room, nobody}
 use Rattle.nexus_serve.specs.Inner.Joining.{IsMetBy, met_report}
 

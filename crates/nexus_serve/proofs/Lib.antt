@@ -13,4 +13,6 @@ mod Finishing
 mod Texts
 mod Crossing
 mod TruthOfReports
+mod KeptEntries
+pub mod AuditOfRecords
 pub mod ForCallers

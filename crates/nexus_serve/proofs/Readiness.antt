@@ -15,8 +15,7 @@ use Rattle.session_core.specs.Records.{unwanted}
 use Rattle.nexus_serve.specs.declared.shares.Unready.{Unready}
 use Rattle.nexus_serve.specs.declared.shares.Unready.TheVariants.{Panel, Records, Door, Memory}
 use Rattle.nexus_serve.specs.declared.means.Means.{Means}
-use Rattle.nexus_serve.specs.Views.{DoorView, LinkView, RecorderView}
-use Rattle.nexus_serve.specs.Services.{SinkView}
+use Rattle.nx_io.specs.Views.{DoorView, LinkView, RecorderView, SinkView}
 use Rattle.nexus_serve.specs.Hosting.{HasCalled, HasCalledPanel, HasLent, HaveShares, HostedView, Hosts, IsDoorShare, IsIdle, IsPanelShare, Plan, kept_of, listening_of, no_door, no_panel, no_recorder, not_heard, not_made, panel_calls, ready_calls, unheard, unlent, unreached, unready, unshared}
 use Rattle.nexus_serve.specs.Inner.Sharing.{IsMade, IsShareOf, ReadiesDoor, SharesDoor, SharesPanel, SharesRecorder, unready_status}
 use Rattle.nexus_serve.proofs.Recorders.{all_lent, none_lent}

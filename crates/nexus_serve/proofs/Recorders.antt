@@ -7,7 +7,7 @@ use Rattle.std.specs.Prelude.{All, map}
 use Rattle.nx_io.specs.Streams.{one_more}
 use Rattle.session_core.specs.Records.{Kept, unwanted}
 use Rattle.nexus_serve.specs.declared.means.Means.{Means}
-use Rattle.nexus_serve.specs.Views.{RecorderView}
+use Rattle.nx_io.specs.Views.{RecorderView}
 use Rattle.nexus_serve.specs.Hosting.{HaveShares, asked_more, kept_first, kept_of}
 use Rattle.nexus_serve.proofs.Lists.{all_unmap}
 

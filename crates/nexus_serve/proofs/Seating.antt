@@ -3,7 +3,7 @@ use Rattle.std.proofs.Common.{◌≡◌, ◌+◌, ◌++◌, ℕ, suc, List, [], 
 use Rattle.policy_history.specs.declared.events.Entry.{Entry}
 use Rattle.policy_history.specs.declared.heads.Head.{Head}
 use Rattle.verdict_words.specs.Values.{Identity}
-use Rattle.nexus_serve.specs.Views.{DoorView}
+use Rattle.nx_io.specs.Views.{DoorView}
 use Rattle.nexus_serve.specs.Inner.Desks.{AreLaid, DeskValue, seated, seated_at}
 use Rattle.nexus_serve.specs.Inner.Gathering.{GatheredValue, IsRoomFor, nothing}
 use Rattle.nexus_serve.specs.Inner.Serving.{AreHired, doors_of, means_of}

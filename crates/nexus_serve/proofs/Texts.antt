@@ -1,13 +1,14 @@
 -- The text of a policy behind the end of a service.
 use Rattle.std.proofs.Common.{◌≡◌, ◌≤◌, ◌+◌, ℕ, Bool, true, false, List, ◌++◌, arith, codes, length, length-append, refl, sym, ap, ◌∙◌, subst, append_assoc}
 use Rattle.nx_io.specs.Streams.{Rose, Sends}
+use Rattle.nx_io.specs.Views.{SinkView}
 use Rattle.policy_history.specs.declared.heads.Head.{Head}
 use Rattle.policy_history.specs.Events.{EntryTree}
 use Rattle.policy_history.specs.PolicyTexts.{ended, front, line_of}
 use Rattle.policy_history.specs.declared.events.Entry.{Entry}
 use Rattle.policy_history.specs.Values.{entry_trees}
 use Rattle.policy_book.specs.Books.{AreLasting, HasText, SendsFront}
-use Rattle.nexus_serve.specs.Services.{IsTextSent, SinkView, end_cut, line_cut, whole}
+use Rattle.nexus_serve.specs.Services.{IsTextSent, end_cut, line_cut, whole}
 use Rattle.nexus_serve.specs.Inner.Reporting.{IsEnded}
 
 module _ (h : Head) (es : List EntryTree) (start : List ℕ) (start_faults : ℕ) (sink sink_now : SinkView) (written : Bool) where

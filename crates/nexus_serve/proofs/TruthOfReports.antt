@@ -2,6 +2,7 @@
 use Rattle.std.proofs.Common.{◌≡◌, ◌+◌, ℕ, List, [], ◌∷◌, length, Option, Some, None, sym, ap, subst, ◌∙◌}
 use Rattle.std.proofs.lemmas.List.Elements.{All-append, All-cons, All-nil, All-tail, All-head}
 use Rattle.std.specs.Prelude.{All}
+use Rattle.nx_io.specs.Views.{DoorView, RecorderView, SinkView}
 use Rattle.policy_history.specs.declared.heads.Head.{Head}
 use Rattle.policy_history.specs.declared.events.Entry.{Entry}
 use Rattle.policy_history.specs.Events.{EntryTree}
@@ -15,16 +16,16 @@ use Rattle.session_core.specs.Served.{IsServedSo}
 use Rattle.session_core.proofs.ForCallers.{report_is_true}
 use Rattle.nexus_serve.specs.declared.closing.ServeEnd.{ServeEnd}
 use Rattle.nexus_serve.specs.TrueReports.{AreTrue}
-use Rattle.nexus_serve.specs.Views.{DoorView, RecorderView, ReportView, reported}
+use Rattle.nexus_serve.specs.Views.{ReportView, reported}
 use Rattle.nexus_serve.specs.Workers.{HaveWorked, Works, nobody, next}
-use Rattle.nexus_serve.specs.Services.{HasSeenAll, IsJournal, ServedView, Serves, SinkView}
+use Rattle.nexus_serve.specs.Services.{HasSeenAll, IsJournal, ServedView, Serves}
 use Rattle.nexus_serve.specs.Services as service
 use Rattle.nexus_serve.specs.Hosting.{HostedView, Hosts, Plan}
 use Rattle.nexus_serve.specs.Hosting as host
 
 module _ (h : Head) (low later : ℕ) where
   -- a session was told what its link says, with some asks
-  abbrev IsServedReport : ReportView → Type 0
+  abbrev pub IsServedReport : ReportView → Type 0
   IsServedReport report = (asks : List Told) × (kept : Kept) × (kept_now : Kept) × IsServedSo h low (reported report) asks later kept kept_now
 
   works_served : {Failed : Type 0} {first : ℕ} {door : DoorView} {means : MeansHistory} {reports : List ReportView} {door_now : DoorView} {means_now : MeansHistory} → Works h low later Failed first door means reports door_now means_now
@@ -34,7 +35,7 @@ module _ (h : Head) (low later : ℕ) where
       let mine : IsServedReport report = (_, _, _, heard.served) in
       All-append IsServedReport before (report ∷ []) (works_served works) (All-cons IsServedReport report [] mine (All-nil IsServedReport))
 
-  have_served : (Failed : Type 0) (end : ServeEnd) (first most : ℕ) (doors doors_now : List DoorView) (means means_now : List MeansHistory) (reports : List ReportView)
+  pub have_served : (Failed : Type 0) (end : ServeEnd) (first most : ℕ) (doors doors_now : List DoorView) (means means_now : List MeansHistory) (reports : List ReportView)
       → HaveWorked h low later Failed end first most doors doors_now means means_now reports → All IsServedReport reports
   have_served Failed end first most [] [] [] [] reports none = subst (All IsServedReport) (sym none) (All-nil IsServedReport)
   have_served Failed end first most (d ∷ ds) (e ∷ es) (p ∷ ps) (q ∷ qs) reports w =

@@ -3,6 +3,7 @@ use Rattle.std.proofs.Common.{◌≡◌, ◌≢◌, ◌<◌, ◌≤◌, ◌+◌,
 use Rattle.std.proofs.lemmas.List.{replicate-append-replicate}
 use Rattle.std.proofs.lemmas.List.Elements.{All-append, All-cons, All-head, All-tail, All-nil}
 use Rattle.std.specs.Prelude.{All}
+use Rattle.nx_io.specs.Views.{DoorView, LinkView}
 use Rattle.nexus_serve.specs.Means.{MeansHistory}
 use Rattle.nx_io.specs.Streams.{Rose, one_more}
 use Rattle.nx_io.specs.DoorCalls.{faults_in, gave, not_given}
@@ -15,7 +16,7 @@ use Rattle.session_wire.specs.declared.requests.Request.{Request}
 use Rattle.session_wire.specs.declared.replies.Reply.{Reply}
 use Rattle.verdict_words.specs.Values.{Identity, PassValue}
 use Rattle.nexus_serve.specs.declared.closing.ServeEnd.TheVariants.{Done}
-use Rattle.nexus_serve.specs.Views.{DoorView, LinkView, ReportView}
+use Rattle.nexus_serve.specs.Views.{ReportView}
 use Rattle.nexus_serve.specs.Workers.{HasAnswered, HasComeFrom, IsCutShort, IsHeard, Stops, Works, next, nobody, all, no_more, failed, no_room}
 use Rattle.nexus_serve.specs.Inner.Working.{AreNumbered, IsDone, IsHired, IsStopped, IsUnused, IsWorking, WorkerValue, end_of}
 

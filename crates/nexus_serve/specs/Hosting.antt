@@ -13,9 +13,9 @@ use Rattle.session_core.specs.Records.{Kept, unwanted}
 use Rattle.nexus_serve.specs.declared.closing.ServeEnd.{ServeEnd}
 use Rattle.nexus_serve.specs.declared.closing.ServeEnd.TheVariants.{Done, DoorFault, Memory, NoRoom}
 use Rattle.nexus_serve.specs.declared.means.Means.{Means}
-use Rattle.nexus_serve.specs.Views.{DoorView, RecorderView}
+use Rattle.nx_io.specs.Views.{DoorView, RecorderView, SinkView}
 use Rattle.nexus_serve.specs.Means.{means_history}
-use Rattle.nexus_serve.specs.Services.{ServedView, Serves, SinkView}
+use Rattle.nexus_serve.specs.Services.{ServedView, Serves}
 
 -- what is handed back behind a service at an address: the status, the door, the panel and the recorder of which workers had shares, and what the
 -- service left

@@ -1,5 +1,6 @@
 -- What a service leaves: its journal, the reports of its sessions, and the text that it wrote.
 use Rattle.std.specs.Prelude.{◌≡◌, ◌+◌, ◌⊎◌, ℕ, List, [], ◌∷◌, ◌++◌, length, map, take, drop, All, Contains, Bool, true, false, Option, Some, None, codes}
+use Rattle.nx_io.specs.Views.{DoorView, SinkView}
 use Rattle.nexus_serve.specs.Means.{MeansHistory}
 use Rattle.nx_io.specs.Streams.{Rose, Sends, SendsPart}
 use Rattle.policy_history.specs.declared.events.Entry.{Entry}
@@ -18,14 +19,8 @@ use Rattle.verdict_words.specs.declared.views.Item.TheVariants.{Met}
 use Rattle.policy_book.specs.Books.{AreLasting, SendsFront, session_of}
 use Rattle.nexus_serve.specs.declared.closing.ServeEnd.{ServeEnd}
 use Rattle.nexus_serve.specs.declared.closing.ServeEnd.TheVariants.{Done, DoorFault, Memory, NoRoom}
-use Rattle.nexus_serve.specs.Views.{DoorView, ReportView}
+use Rattle.nexus_serve.specs.Views.{ReportView}
 use Rattle.nexus_serve.specs.Workers.{HaveWorked, SomeCutShort, SomeFailed}
-
--- what a sink tells: what it was sent, how many bytes of its front a sync has brought to where they last, and how often it has failed
-pub record SinkView : Type 0 where
-  pub sent : List ℕ
-  pub synced : ℕ
-  pub faults : ℕ
 
 -- what a service hands back
 pub record ServedView (M : Type 0) : Type 0 where

@@ -8,13 +8,14 @@ use Rattle.nx_io.specs.DoorCalls.{faults_in, gave, gave_in, next_call}
 use Rattle.nx_io.specs.Doors.{Gives, IfGiven}
 use Rattle.nx_io.specs.declared.doors.Next.{Next}
 use Rattle.nx_io.specs.declared.doors.Next.TheVariants.{Link as NextLink, NoMore as NextNoMore, Failed as NextFailed}
+use Rattle.nx_io.specs.Views.{DoorView, LinkView}
 use Rattle.policy_history.specs.declared.heads.Head.{Head}
 use Rattle.authority_ask.specs.PanelCalls.{HasOnlyAsked, asked_since}
 use Rattle.session_core.specs.Ends.{faults_after_end, is_over}
 use Rattle.session_core.specs.Served.{IsServedSo, UnrecordedOnlyWhere}
 use Rattle.nexus_serve.specs.declared.closing.ServeEnd.{ServeEnd}
 use Rattle.nexus_serve.specs.declared.closing.ServeEnd.TheVariants.{Done, DoorFault}
-use Rattle.nexus_serve.specs.Views.{DoorView, LinkView, ReportView, reported}
+use Rattle.nexus_serve.specs.Views.{ReportView, reported}
 use Rattle.nexus_serve.specs.Means.{MeansHistory}
 
 -- What a door answered to `next`, which was its one call: a link that it gives is the first to come, is fresh, and has as its place the

@@ -4,7 +4,7 @@ ghost use Rattle.nx_io.specs.Streams.{Rose};
 ghost use Rattle.policy_history.specs.Values.{entry_trees, greatest_of};
 ghost use Rattle.policy_book.specs.Books.{AreLasting, IsLegalBook, IsNumbered, head_of, trees_of};
 ghost use Rattle.verdict_words.specs.Settling.{all_of, flat};
-ghost use Rattle.nexus_serve.specs.Views.{door_view, link_view};
+ghost use Rattle.nx_io.specs.Views.{door_view, link_view, sink_view};
 ghost use Rattle.nexus_serve.specs.Means.{means_history};
 ghost use Rattle.nexus_serve.specs.declared.means.Means.{Means};
 ghost use Rattle.nexus_serve.specs.Services.{IsJournal, IsTextSent, Serves};
@@ -58,8 +58,8 @@ impl<D: Door, P: Panel, C: Sink, K: Sink> Model for Served<D, P, C, K> {
     ghost use Rattle.std.specs.Coded.{codes};
     ghost use Rattle.nal_term.specs.contracts.terms.Term as t;
     ghost use Rattle.nal_term.specs.contracts.formulas.Formula as f;
+    ghost use Rattle.nx_io.specs.Views.{door_view, link_view, sink_view};
     ghost use Rattle.verdict_words.specs.Settling.{flat};
-    ghost use Rattle.nexus_serve.specs.Views.{door_view, link_view};
     ghost use Rattle.nexus_serve.specs.Services.{ServedView};
     ghost use Rattle.nexus_serve.specs.declared.means.Means.{Means};
 
@@ -69,10 +69,9 @@ impl<D: Door, P: Panel, C: Sink, K: Sink> Model for Served<D, P, C, K> {
 
     ghost view = { λ s. record {
       journal = s.journal;
-      sink = option_map (λ k. record { sent = K.sent k; synced = K.synced k; faults = K.faults k }) s.sink;
+      sink = option_map (sink_view K.Sink) s.sink;
       reports = flat s.reports.items;
-      doors = map (door_view (link_view D.Link.left D.Link.taken D.Link.sent D.Link.over D.Link.closed D.Link.admitted D.Link.place
-          D.Link.toward D.Link.faults) D.links D.origin D.calls) s.doors.items;
+      doors = map (door_view D.Door D.Link.Link) s.doors.items;
       means = s.means.items;
       written = s.written;
       end = s.end;
@@ -84,12 +83,8 @@ impl<D: Door, P: Panel, C: Sink, K: Sink> Model for Served<D, P, C, K> {
 fn write_end<K: Sink + Drop>(book: Book<K>) -> (Journal, K, bool)
     requires opened { book.is_open ≡ true }
     ensures journal { (result.0.head ≡ head_of book) × (result.0.entries ≡ book.entries) }
-    ensures text { IsTextSent (head_of book) (trees_of book) result.2 book.start book.start_faults (record {
-      sent =
-          K.sent result.1;
-      synced = K.synced result.1;
-      faults = K.faults result.1;
-    }) }
+    ensures text { IsTextSent (head_of book) (trees_of book) result.2 book.start book.start_faults
+        (sink_view K.Sink result.1) }
     ensures failed { book.is_broken ≡ true → Rose book.start_faults (K.faults result.1) }
     ensures lasts { AreLasting (head_of book) book.board.origin.opening book.entries book.start (K.synced result.1) }
     ensures legal { IsLegalBook book }
@@ -104,16 +99,7 @@ fn write_end<K: Sink + Drop>(book: Book<K>) -> (Journal, K, bool)
 /// Sends and syncs the last line of a policy text, unless the text is broken off. Whether both were done.
 fn end_unless<K: Sink + Drop>(is_broken: bool, sink: K) -> (K, bool)
     ensures broken { is_broken ≡ true → (result.0 ≡ sink) × (result.1 ≡ false) }
-    ensures sent { is_broken ≡ false → IsEnded result.1 (record {
-      sent = K.sent sink;
-      synced = K.synced sink;
-      faults = K.faults sink;
-    }) (record {
-      sent = K.sent result.0;
-      synced = K.synced result.0;
-      faults = K.faults
-          result.0;
-    }) }
+    ensures sent { is_broken ≡ false → IsEnded result.1 (sink_view K.Sink sink) (sink_view K.Sink result.0) }
 {
     if is_broken {
         return (sink, false);
@@ -135,8 +121,7 @@ fn close<D: Door + Drop, P: Panel + Drop, C: Sink + Drop, K: Sink + Drop>(
 where
     D::Link: Drop,
     requires opened { book.is_open ≡ true }
-    ensures closed { IsClosed book (map (door_view (link_view D.Link.left D.Link.taken D.Link.sent D.Link.over
-        D.Link.closed D.Link.admitted D.Link.place D.Link.toward D.Link.faults) D.links D.origin D.calls)
+    ensures closed { IsClosed book (map (door_view D.Door D.Link.Link)
         doors.items) means.items (flat reports.items) end result }
 {
     let (journal, sink, written) = write_end(book);
@@ -232,14 +217,8 @@ pub fn unopened<D: Door + Drop, P: Panel + Drop, C: Sink + Drop, K: Sink + Drop>
 where
     D::Link: Drop,
     ensures journal { IsJournal result.journal (head_of book) book.entries }
-    ensures sink { result.sink ≡ Some (record {
-      sent = K.sent book.sink;
-      synced = K.synced book.sink;
-      faults =
-          K.faults book.sink;
-    }) }
-    ensures back { IsHandedBack (map (door_view (link_view D.Link.left D.Link.taken D.Link.sent D.Link.over
-        D.Link.closed D.Link.admitted D.Link.place D.Link.toward D.Link.faults) D.links D.origin D.calls)
+    ensures sink { result.sink ≡ Some (sink_view K.Sink book.sink) }
+    ensures back { IsHandedBack (map (door_view D.Door D.Link.Link)
         doors.items) means.items result }
     ensures end { result.end ≡ ServeEnd.Done }
 {
@@ -266,9 +245,8 @@ pub fn unserved<D: Door + Drop, P: Panel + Drop, C: Sink + Drop, K: Sink + Drop>
 where
     D::Link: Drop,
     ensures journal { IsJournal result.journal journal.head journal.entries }
-    ensures sink { result.sink ≡ Some (record { sent = K.sent sink; synced = K.synced sink; faults = K.faults sink }) }
-    ensures back { IsHandedBack (map (door_view (link_view D.Link.left D.Link.taken D.Link.sent D.Link.over
-        D.Link.closed D.Link.admitted D.Link.place D.Link.toward D.Link.faults) D.links D.origin D.calls)
+    ensures sink { result.sink ≡ Some (sink_view K.Sink sink) }
+    ensures back { IsHandedBack (map (door_view D.Door D.Link.Link)
         doors.items) means.items result }
     ensures end { result.end ≡ ServeEnd.Memory }
 {

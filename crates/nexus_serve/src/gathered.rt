@@ -2,7 +2,8 @@
 ghost use Rattle.std.specs.Prelude.{◌≡◌, ◌≤◌, [], length, map, All, IfOk};
 ghost use Rattle.std.specs.Vec.{vec_capacity};
 ghost use Rattle.verdict_words.specs.Settling.{items_of};
-ghost use Rattle.nexus_serve.specs.Views.{link_view, session_view};
+ghost use Rattle.nx_io.specs.Views.{door_view, link_view};
+ghost use Rattle.nexus_serve.specs.Views.{session_view};
 ghost use Rattle.nexus_serve.specs.Inner.Gathering.{gathered_all, gathered_from, joined_each, nothing};
 
 use crate::means::Means;
@@ -37,8 +38,9 @@ impl<D: Door, P: Panel, C: Sink> Model for Gathered<D, P, C> {
     ghost use Rattle.std.specs.Coded.{codes};
     ghost use Rattle.nal_term.specs.contracts.terms.Term as t;
     ghost use Rattle.nal_term.specs.contracts.formulas.Formula as f;
+    ghost use Rattle.nx_io.specs.Views.{door_view, link_view};
     ghost use Rattle.verdict_words.specs.Settling.{items_of};
-    ghost use Rattle.nexus_serve.specs.Views.{door_view, link_view, session_view};
+    ghost use Rattle.nexus_serve.specs.Views.{session_view};
     ghost use Rattle.nexus_serve.specs.Inner.Gathering.{GatheredValue};
     ghost use Rattle.nexus_serve.specs.declared.means.Means.{Means};
 
@@ -47,11 +49,9 @@ impl<D: Door, P: Panel, C: Sink> Model for Gathered<D, P, C> {
     ghost coded = { Prim.hlevel (codes, t.the_row.coded, f.the_row.coded) };
 
     ghost view = { λ g. record {
-      doors = map (door_view (link_view D.Link.left D.Link.taken D.Link.sent D.Link.over D.Link.closed D.Link.admitted D.Link.place
-          D.Link.toward D.Link.faults) D.links D.origin D.calls) g.doors.items;
+      doors = map (door_view D.Door D.Link.Link) g.doors.items;
       means = g.means.items;
-      sessions = map (λ mine. map (session_view (link_view D.Link.left D.Link.taken D.Link.sent D.Link.over D.Link.closed
-          D.Link.admitted D.Link.place D.Link.toward D.Link.faults)) mine.items) g.sessions.items;
+      sessions = map (λ mine. map (session_view (link_view D.Link.Link)) mine.items) g.sessions.items;
       used = items_of g.used.items;
       unused = g.unused.items;
       has_failed = g.has_failed;
@@ -145,8 +145,8 @@ pub fn with_passes<L: Link + Drop>(
     requires none { reports.items ≡ [] }
     requires room { length sessions.items ≤ vec_capacity reports }
     requires pairs { map (λ mine. length mine.items) sessions.items ≡ map (λ mine. length mine.items) passes.items }
-    ensures { result.items ≡ joined_each (map (λ mine. map (session_view (link_view L.left L.taken L.sent L.over
-        L.closed L.admitted L.place L.toward L.faults)) mine.items) sessions.items) (items_of passes.items) }
+    ensures { result.items ≡ joined_each (map (λ mine. map (session_view (link_view L.Link)) mine.items) sessions.items)
+        (items_of passes.items) }
 {
     let mut reports = reports;
     let mut sessions = VecDeque::from(sessions);

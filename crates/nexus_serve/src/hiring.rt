@@ -1,8 +1,8 @@
 //! How workers are hired: desks with the rolls of their sessions are laid, which may want memory, before doors and means are put to
 //! them, which wants none.
-ghost use Rattle.std.specs.Prelude.{◌≡◌, ◌≢◌, ◌<◌, ◌≤◌, ◌+◌, ◌*◌, ◌-◌, ◌^◌, [], length, map, All, IfOk, OnOk};
+ghost use Rattle.std.specs.Prelude.{◌≡◌, ◌<◌, ◌≤◌, ◌+◌, ◌*◌, ◌-◌, ◌^◌, [], length, map, IfOk, OnOk};
 ghost use Rattle.std.specs.Vec.{vec_capacity};
-ghost use Rattle.nexus_serve.specs.Views.{door_view, link_view};
+ghost use Rattle.nx_io.specs.Views.{door_view};
 ghost use Rattle.nexus_serve.specs.Inner.Desks.{AreLaid, IsLaid, seated, seated_at};
 
 use crate::means::Means;
@@ -101,8 +101,7 @@ fn seat_one<D: Door, P: Panel, C: Sink, T: Ledger>(
     door: D,
     means: Means<P, C>,
 ) -> Worker<D, P, C, T>
-    ensures { result ≡ seated_at desk (door_view (link_view D.Link.left D.Link.taken D.Link.sent D.Link.over
-        D.Link.closed D.Link.admitted D.Link.place D.Link.toward D.Link.faults) D.links D.origin D.calls door) means }
+    ensures { result ≡ seated_at desk (door_view D.Door D.Link.Link door) means }
 {
     let Desk { first, roll, mark } = desk;
     Worker {
@@ -132,8 +131,7 @@ where
     requires means { length means.items ≡ length desks.items }
     requires none { workers.items ≡ [] }
     requires room { length desks.items ≤ vec_capacity workers }
-    ensures { result.items ≡ seated desks.items (map (door_view (link_view D.Link.left D.Link.taken D.Link.sent
-        D.Link.over D.Link.closed D.Link.admitted D.Link.place D.Link.toward D.Link.faults) D.links D.origin D.calls)
+    ensures { result.items ≡ seated desks.items (map (door_view D.Door D.Link.Link)
         doors.items) means.items }
 {
     let mut workers = workers;

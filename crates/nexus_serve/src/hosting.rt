@@ -4,7 +4,7 @@ ghost use Rattle.policy_history.specs.Values.{entry_trees, greatest_of};
 ghost use Rattle.nexus_serve.specs.Hosting.{Hosts, some_cut_off, status_of};
 ghost use Rattle.nexus_serve.specs.Inner.Reporting.{IsHandedBack};
 ghost use Rattle.nexus_serve.specs.Inner.Sharing.{unready_status};
-ghost use Rattle.nexus_serve.specs.Views.{door_view, link_view, recorder_view};
+ghost use Rattle.nx_io.specs.Views.{door_view, link_view, recorder_view, sink_view};
 
 use crate::closing::{ServeEnd, Served};
 use crate::means::Means;
@@ -43,7 +43,7 @@ impl<D: Door, P: Panel, C: Recorder, K: Sink> Model for Hosted<D, P, C, K> {
     ghost use Rattle.std.specs.Coded.{codes};
     ghost use Rattle.nal_term.specs.contracts.terms.Term as t;
     ghost use Rattle.nal_term.specs.contracts.formulas.Formula as f;
-    ghost use Rattle.nexus_serve.specs.Views.{door_view, link_view, recorder_view};
+    ghost use Rattle.nx_io.specs.Views.{door_view, link_view, recorder_view};
     ghost use Rattle.nexus_serve.specs.Hosting.{HostedView};
 
     ghost Value = { HostedView P C };
@@ -52,9 +52,9 @@ impl<D: Door, P: Panel, C: Recorder, K: Sink> Model for Hosted<D, P, C, K> {
 
     ghost view = { λ h. record {
       status = h.status;
-      door = door_view (link_view D.Link.left D.Link.taken D.Link.sent D.Link.over D.Link.closed D.Link.admitted D.Link.place D.Link.toward D.Link.faults) D.links D.origin D.calls h.door;
+      door = door_view D.Door D.Link.Link h.door;
       panel = h.panel;
-      recorder = option_map (recorder_view C.sent C.synced C.faults C.shares) h.recorder;
+      recorder = option_map (recorder_view C.Sink C.Recorder) h.recorder;
       served = h.served;
     } };
 }
@@ -97,13 +97,8 @@ where
       patience = patience;
       workers = workers;
       sessions = sessions;
-    }) journal.head journal.entries (record {
-      sent = K.sent sink;
-      synced = K.synced sink;
-      faults = K.faults sink;
-    }) (door_view (link_view D.Link.left D.Link.taken D.Link.sent D.Link.over
-        D.Link.closed D.Link.admitted D.Link.place D.Link.toward D.Link.faults) D.links D.origin D.calls outside.door)
-        outside.panel (option_map (recorder_view C.sent C.synced C.faults C.shares) outside.recorder) result }
+    }) journal.head journal.entries (sink_view K.Sink sink) (door_view D.Door D.Link.Link outside.door)
+        outside.panel (option_map (recorder_view C.Sink C.Recorder.own) outside.recorder) result }
 {
     let mut outside = outside;
     let mut doors = Vec::new(alloc);
@@ -191,10 +186,9 @@ fn idle<D: Door + Drop, P: Panel + Drop, C: Sink + Drop, K: Sink + Drop>(
 where
     D::Link: Drop,
     ensures journal { result.journal ≡ None }
-    ensures sink { result.sink ≡ Some (record { sent = K.sent sink; synced = K.synced sink; faults = K.faults sink }) }
+    ensures sink { result.sink ≡ Some (sink_view K.Sink sink) }
     ensures back { IsHandedBack
-        (map (door_view (link_view D.Link.left D.Link.taken D.Link.sent D.Link.over
-        D.Link.closed D.Link.admitted D.Link.place D.Link.toward D.Link.faults) D.links D.origin D.calls) doors.items)
+        (map (door_view D.Door D.Link.Link) doors.items)
         means.items result }
 {
     Served {

@@ -28,14 +28,14 @@ impl<L: Link> Model for Reports<L> {
     ghost use Rattle.std.specs.Coded.{codes};
     ghost use Rattle.nal_term.specs.contracts.terms.Term as t;
     ghost use Rattle.nal_term.specs.contracts.formulas.Formula as f;
-    ghost use Rattle.nexus_serve.specs.Views.{ReportView, joined, link_view, session_view};
+    ghost use Rattle.nx_io.specs.Views.{link_view};
+    ghost use Rattle.nexus_serve.specs.Views.{ReportView, joined, session_view};
 
     ghost Value = { List ReportView };
 
     ghost coded = { Prim.hlevel (codes, t.the_row.coded, f.the_row.coded) };
 
-    ghost view = { λ r. joined (map (session_view (link_view L.left L.taken L.sent L.over L.closed L.admitted L.place L.toward
-        L.faults)) r.sessions.items) r.passes.items };
+    ghost view = { λ r. joined (map (session_view (link_view L.Link)) r.sessions.items) r.passes.items };
 
     ghost invariant = { λ r. length r.sessions.items ≡ length r.passes.items };
 }

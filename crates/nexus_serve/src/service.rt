@@ -1,12 +1,16 @@
 //! The service as a whole.
-ghost use Rattle.std.specs.Prelude.{◌≡◌, ◌≤◌, ◌+◌, ◌*◌, ◌-◌, ◌^◌, List, [], length, take, map, IfOk, OnOk};
+ghost use Rattle.std.specs.Prelude.{◌≡◌, ◌≤◌, ◌+◌, ◌*◌, ◌-◌, ◌^◌, List, [], All, Some, length, take, map, IfOk, OnOk};
 ghost use Rattle.std.specs.Vec.{vec_capacity};
+ghost use Rattle.nx_io.specs.Streams.{gained};
+ghost use Rattle.journal_text.specs.CutLaws.{IsWritten};
+ghost use Rattle.told_records.specs.Audited.{AreAudited, IsFresh};
 ghost use Rattle.policy_history.specs.PolicyTexts.{policy_text};
 ghost use Rattle.policy_history.specs.Values.{entry_trees, greatest_of};
 ghost use Rattle.policy_history.specs.declared.events.Entry.{Entry};
 ghost use Rattle.policy_book.specs.Books.{new_book};
-ghost use Rattle.nexus_serve.specs.Views.{door_view, link_view};
+ghost use Rattle.nx_io.specs.Views.{SinkView, door_view, sink_view};
 ghost use Rattle.nexus_serve.specs.Means.{means_history};
+ghost use Rattle.nexus_serve.specs.Hosting.{kept_of};
 ghost use Rattle.nexus_serve.specs.Services.{IsJournal, Serves};
 ghost use Rattle.nexus_serve.specs.TrueReports.{AreTrue};
 ghost use Rattle.nexus_serve.specs.Inner.Desks.{AreLaid};
@@ -89,14 +93,8 @@ where
     requires room { prepared.room ≡ nothing (length doors.items) }
     requires tickets { prepared.tickets.total ≡ 0 }
     ensures served { Serves (means_history P.history) sessions board.now.origin.setting
-        board.now.origin.opening (record {
-          sent =
-              K.sent book.sink;
-          synced = K.synced book.sink;
-          faults = K.faults book.sink;
-        })
-        (map (door_view (link_view D.Link.left D.Link.taken D.Link.sent D.Link.over D.Link.closed D.Link.admitted
-        D.Link.place D.Link.toward D.Link.faults) D.links D.origin D.calls) doors.items) means.items result }
+        board.now.origin.opening (sink_view K.Sink book.sink)
+        (map (door_view D.Door D.Link.Link) doors.items) means.items result }
 {
     let Prepared {
         text,
@@ -127,9 +125,11 @@ where
 /// The sessions are numbered behind the greatest number of the journal: the first worker has the first so many numbers, and so
 /// on. A worker stops early where its door has no more links or fails, or where there is no memory for the report of one more
 /// session, which is taken before the door is asked for its link; this ends no other worker. When all have stopped, the journal, the
-/// sink, the doors, the means, and the reports of all sessions are handed back. `docs/LOGIC.md`, "The service", says what was then
+/// sink, the doors, the means, and the reports of all sessions are handed back. `docs/LOGIC.md`, "A service", says what was then
 /// promised to each session; `docs/ARCHITECTURE.md`, "Workers", how it is done. A change is told not to be recorded only where a
-/// write or a sync of the policy text has failed. The end is `DoorFault` where a door has failed, else `NoRoom` where a worker had no
+/// write or a sync of the policy text has failed. What was recorded of its calls is lines that `audit` finds right behind the policy that
+/// is recovered from the text, where the policy that it began with is one that the program writes (`docs/LOGIC.md`, "Records of a
+/// service"). The end is `DoorFault` where a door has failed, else `NoRoom` where a worker had no
 /// memory for one more session.
 ///
 /// All memory but what sessions want is taken before the first byte is sent, and does not grow with the number of sessions. At want of
@@ -157,16 +157,13 @@ where
     requires workers { (1 ≤ length doors.items) × (length doors.items ≤ 1024) }
     requires sessions { (1 ≤ sessions) × (sessions ≤ 65536) }
     requires numbers { greatest_of (entry_trees journal.entries) + length doors.items * sessions ≤ 2 ^ 64 - 2 }
-    ensures served { Serves (means_history P.history) sessions journal.head journal.entries (record {
-      sent = K.sent sink;
-      synced =
-          K.synced sink;
-      faults = K.faults sink;
-    })
-        (map (door_view (link_view D.Link.left D.Link.taken D.Link.sent D.Link.over D.Link.closed D.Link.admitted
-        D.Link.place D.Link.toward D.Link.faults) D.links D.origin D.calls) doors.items) means.items result }
+    ensures served { Serves (means_history P.history) sessions journal.head journal.entries (sink_view K.Sink sink)
+        (map (door_view D.Door D.Link.Link) doors.items) means.items result }
     ensures earned { (es : List Entry) → IsJournal result.journal journal.head es
         → AreTrue journal.head (entry_trees es) (length journal.entries) result.reports }
+    ensures audited { IsWritten journal.head (entry_trees journal.entries) → All IsFresh (kept_of means.items)
+        → (sink_now : SinkView) → result.sink ≡ Some sink_now
+        → AreAudited (K.faults sink) sink_now.faults (gained (K.sent sink) sink_now.sent) (kept_of result.means) }
 {
     let blank = Blank::new(doors.len() as u64);
     let shift = Shift { sessions, blank };
@@ -200,12 +197,13 @@ where
     requires blank { (shift.blank.name ≡ T.name) × (shift.blank.parts ≡ T.parts)
         × (length doors.items ≤ shift.blank.parts) }
     ensures served { Serves (means_history P.history) shift.sessions journal.head journal.entries
-        (record { sent = K.sent sink; synced = K.synced sink; faults = K.faults sink })
-        (map (door_view (link_view D.Link.left D.Link.taken D.Link.sent D.Link.over D.Link.closed D.Link.admitted
-        D.Link.place
-        D.Link.toward D.Link.faults) D.links D.origin D.calls) doors.items) means.items result }
+        (sink_view K.Sink sink)
+        (map (door_view D.Door D.Link.Link) doors.items) means.items result }
     ensures earned { (es : List Entry) → IsJournal result.journal journal.head es
         → AreTrue journal.head (entry_trees es) (length journal.entries) result.reports }
+    ensures audited { IsWritten journal.head (entry_trees journal.entries) → All IsFresh (kept_of means.items)
+        → (sink_now : SinkView) → result.sink ≡ Some sink_now
+        → AreAudited (K.faults sink) sink_now.faults (gained (K.sent sink) sink_now.sent) (kept_of result.means) }
 {
     let Shift { sessions, blank } = shift;
     let first = journal.greatest_session() + 1;

@@ -1,13 +1,13 @@
 //! What is made ready for workers: the authorities are reached, an address is listened at, and doors, panels and recorders are
 //! shared.
-ghost use Rattle.std.specs.Prelude.{◌≡◌, ◌≢◌, ◌≤◌, ◌+◌, ◌++◌, List, ℕ, [], length, map, option_map, replicate, All, IfErr, IfOk, Some};
+ghost use Rattle.std.specs.Prelude.{◌≡◌, ◌≤◌, ◌+◌, ◌++◌, List, ℕ, [], length, map, option_map, replicate, All, IfErr, IfOk, Some};
 ghost use Rattle.std.specs.Vec.{vec_capacity, vec_len};
 ghost use Rattle.nx_io.specs.DoorCalls.{DoorCall};
 ghost use Rattle.authority_ask.specs.PanelCalls.{PanelCall};
 ghost use Rattle.session_core.specs.Records.{unwanted};
 ghost use Rattle.nexus_serve.specs.Inner.Sharing.{IsMade, IsShareOf, ReadiesDoor, SharesDoor, SharesPanel, SharesRecorder};
 ghost use Rattle.nexus_serve.specs.Hosting.{HasCalledPanel, HaveShares, IsPanelShare, kept_of};
-ghost use Rattle.nexus_serve.specs.Views.{door_view, link_view, recorder_view};
+ghost use Rattle.nx_io.specs.Views.{door_view, recorder_view};
 
 use crate::means::Means;
 use crate::outside::Outside;
@@ -109,11 +109,11 @@ fn share_recorder<P: Panel + Drop, C: Recorder + Drop>(
     requires nobody { kept_of means.old.items ≡ replicate (length means.old.items) unwanted }
     ensures panels { map (λ own. own.panel) means.new.items ≡ map (λ own. own.panel) means.old.items }
     ensures lent { (lent : ℕ)
-        × HaveShares lent (option_map (recorder_view C.sent C.synced C.faults C.shares) recorder.old)
+        × HaveShares lent (option_map (recorder_view C.Sink C.Recorder.own) recorder.old)
         (kept_of means.new.items)
         × SharesRecorder result (length means.old.items) lent
-        (option_map (recorder_view C.sent C.synced C.faults C.shares) recorder.old)
-        (option_map (recorder_view C.sent C.synced C.faults C.shares) recorder.new) }
+        (option_map (recorder_view C.Sink C.Recorder.own) recorder.old)
+        (option_map (recorder_view C.Sink C.Recorder.own) recorder.new) }
 {
     match recorder {
         Some(recorder) => lend_shares(recorder, means),
@@ -129,11 +129,11 @@ fn lend_shares<P: Panel + Drop, C: Recorder + Drop>(
     requires nobody { kept_of means.old.items ≡ replicate (length means.old.items) unwanted }
     ensures panels { map (λ own. own.panel) means.new.items ≡ map (λ own. own.panel) means.old.items }
     ensures lent { (lent : ℕ)
-        × HaveShares lent (Some (recorder_view C.sent C.synced C.faults C.shares recorder.old))
+        × HaveShares lent (Some (recorder_view C.Sink C.Recorder.own recorder.old))
         (kept_of means.new.items)
         × SharesRecorder result (length means.old.items) lent
-        (Some (recorder_view C.sent C.synced C.faults C.shares recorder.old))
-        (Some (recorder_view C.sent C.synced C.faults C.shares recorder.new)) }
+        (Some (recorder_view C.Sink C.Recorder.own recorder.old))
+        (Some (recorder_view C.Sink C.Recorder.own recorder.new)) }
 {
     for place in 0..means.len() {
         match recorder.share() {
@@ -201,15 +201,12 @@ where
       workers
           = workers;
       sessions = sessions;
-    }) head.now (door_view (link_view D.Link.left D.Link.taken D.Link.sent D.Link.over D.Link.closed
-        D.Link.admitted D.Link.place D.Link.toward D.Link.faults) D.links D.origin D.calls outside.old.door)
-        (door_view (link_view D.Link.left D.Link.taken D.Link.sent D.Link.over D.Link.closed D.Link.admitted
-        D.Link.place D.Link.toward D.Link.faults) D.links D.origin D.calls outside.new.door)
+    }) head.now (door_view D.Door D.Link.Link outside.old.door)
+        (door_view D.Door D.Link.Link outside.new.door)
         (P.history outside.old.panel) (P.history outside.new.panel)
-        (option_map (recorder_view C.sent C.synced C.faults C.shares) outside.old.recorder)
-        (option_map (recorder_view C.sent C.synced C.faults C.shares) outside.new.recorder)
-        (map (door_view (link_view D.Link.left D.Link.taken D.Link.sent D.Link.over D.Link.closed D.Link.admitted
-        D.Link.place D.Link.toward D.Link.faults) D.links D.origin D.calls) doors.new.items) means.new.items result }
+        (option_map (recorder_view C.Sink C.Recorder.own) outside.old.recorder)
+        (option_map (recorder_view C.Sink C.Recorder.own) outside.new.recorder)
+        (map (door_view D.Door D.Link.Link) doors.new.items) means.new.items result }
     ensures doors_shared { All (IsShareOf D.origin D.calls outside.new.door) doors.new.items }
     ensures panels_shared { All (λ own. IsPanelShare (P.history outside.new.panel) (P.history own.panel))
         means.new.items }

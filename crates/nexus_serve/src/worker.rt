@@ -1,5 +1,6 @@
 //! A worker: it serves the links of its door, one after another.
-ghost use Rattle.std.specs.Prelude.{◌≡◌, ◌<◌, ◌≤◌, ◌+◌, ◌++◌, ◌∷◌, [], length, All, Some, true, false};
+ghost use Rattle.std.specs.Prelude.{◌≡◌, ◌<◌, ◌+◌, ◌++◌, ◌∷◌, [], length, All, Some, true, false};
+ghost use Rattle.nx_io.specs.Views.{door_view, link_view};
 ghost use Rattle.std.specs.Vec.{vec_capacity, vec_len};
 ghost use Rattle.nexus_serve.specs.Means.{means_history};
 ghost use Rattle.nexus_serve.specs.declared.means.Means.{Means};
@@ -40,7 +41,8 @@ impl<D: Door, P: Panel, C: Sink, T: Ledger> Model for Worker<D, P, C, T> {
     ghost use Rattle.std.specs.Coded.{codes};
     ghost use Rattle.nal_term.specs.contracts.terms.Term as t;
     ghost use Rattle.nal_term.specs.contracts.formulas.Formula as f;
-    ghost use Rattle.nexus_serve.specs.Views.{door_view, joined, link_view, session_view};
+    ghost use Rattle.nx_io.specs.Views.{door_view, link_view};
+    ghost use Rattle.nexus_serve.specs.Views.{joined, session_view};
     ghost use Rattle.nexus_serve.specs.Inner.Working.{WorkerValue};
     ghost use Rattle.nexus_serve.specs.declared.means.Means.{Means};
 
@@ -50,12 +52,10 @@ impl<D: Door, P: Panel, C: Sink, T: Ledger> Model for Worker<D, P, C, T> {
 
     ghost view = { λ w. record {
       first = w.first;
-      door = door_view (link_view D.Link.left D.Link.taken D.Link.sent D.Link.over D.Link.closed D.Link.admitted D.Link.place
-          D.Link.toward D.Link.faults) D.links D.origin D.calls w.door;
+      door = door_view D.Door D.Link.Link w.door;
       means = w.means;
       passes = w.roll;
-      reports = joined (map (session_view (link_view D.Link.left D.Link.taken D.Link.sent D.Link.over D.Link.closed
-          D.Link.admitted D.Link.place D.Link.toward D.Link.faults)) w.sessions.items) w.used.items;
+      reports = joined (map (session_view (link_view D.Link.Link)) w.sessions.items) w.used.items;
       has_failed = w.has_failed;
       lacks_room = w.lacks_room;
       parts = w.mark.parts;

@@ -8,6 +8,7 @@ use Rattle.std.proofs.lemmas.Grind.{flat_map-append}
 use Rattle.std.proofs.lemmas.List.{append-nil, map-append}
 use Rattle.std.proofs.lemmas.List.Sums.{count_by-le-length, sum_by-append}
 use Rattle.nx_io.specs.Streams.{Gave, gained}
+use Rattle.nx_io.specs.Views.{DoorView}
 use Rattle.session_wire.specs.declared.replies.Reply.{Reply}
 use Rattle.session_wire.specs.Frames.{IsReplyFrameOf, reply_frames}
 use Rattle.session_wire.proofs.ForCallers.{reply_frames_then}
@@ -21,7 +22,7 @@ use Rattle.nexus_serve.specs.Means.{means_history}
 use Rattle.nexus_serve.specs.declared.reporting.ServedSession.{ServedSession}
 use Rattle.nx_io.specs.Readers.{Discarded}
 use Rattle.nexus_serve.specs.Services.{Serves}
-use Rattle.nexus_serve.specs.Views.{DoorView, ReportView, joined, session_view}
+use Rattle.nexus_serve.specs.Views.{ReportView, joined, session_view}
 use Rattle.verdict_words.specs.Settling.{flat}
 use Rattle.verdict_words.specs.Values.{PassValue}
 use Rattle.nexus_drill.specs.declared.outcomes.DrillTotals.{DrillTotals}

@@ -3,18 +3,29 @@ use Rattle.std.specs.Prelude.{◌≡◌, ℕ, List, map, Some}
 use Rattle.std.specs.List.{count_by, sum_by}
 use Rattle.nx_io.specs.MemoryDoors.{Doorway}
 use Rattle.nx_io.specs.MemoryLinks.{Wire}
+use Rattle.nx_io.specs.Views.{DoorView, LinkView}
 use Rattle.session_wire.specs.declared.replies.Reply.{Reply}
 use Rattle.session_wire.specs.Frames.{reply_frames}
 use Rattle.nexus_serve.specs.declared.reporting.ServedSession.{ServedSession}
-use Rattle.nexus_serve.specs.Views.{DoorView, LinkView, ReportView, door_view, link_view}
+use Rattle.nexus_serve.specs.Views.{ReportView}
 use Rattle.service_drill.specs.Runs.{allows, denies}
 
 -- what a link in memory tells, and a door
 abbrev pub wire_view : Wire → LinkView
-wire_view = link_view (λ (l : Wire). Some l.supply.left) (λ l. l.supply.given) (λ l. l.store.sent) (λ l. l.supply.over) (λ l. l.closed) (λ l. l.admitted) (λ l. l.place) (λ l. l.toward) (λ l. l.faults)
+wire_view l = record {
+  left = Some l.supply.left;
+  taken = l.supply.given;
+  sent = l.store.sent;
+  over = l.supply.over;
+  closed = l.closed;
+  admitted = l.admitted;
+  place = l.place;
+  toward = l.toward;
+  faults = l.faults;
+}
 
 abbrev pub view_of : Doorway → DoorView
-view_of = door_view wire_view (λ (d : Doorway). Some d.links) (λ d. d.origin) (λ d. d.calls)
+view_of d = record { links = Some (map wire_view d.links); origin = d.origin; calls = d.calls }
 
 -- the bytes are the frames of replies, of which so many allow a call and so many deny one
 pub record CountsReplies (sent : List ℕ) (counts : ℕ × ℕ) : Type 0 where

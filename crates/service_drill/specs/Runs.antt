@@ -1,6 +1,7 @@
 -- A run of the generated load of the service: what it begins with, what the service leaves, and what is counted of that.
 use Rattle.std.specs.Prelude.{◌≡◌, ℕ, zero, suc, List, [], ◌∷◌, ◌++◌, length, map, Bool, true, false, Some, None}
 use Rattle.std.specs.List.{count_by, sum_by}
+use Rattle.nx_io.specs.Views.{DoorView, LinkView}
 use Rattle.policy_history.specs.declared.heads.Head.{Head}
 use Rattle.policy_history.specs.Values.{History}
 use Rattle.authority_ask.specs.Memory.{Rehearsed, rehearsal}
@@ -14,7 +15,7 @@ use Rattle.nexus_serve.specs.Services.{ServedView, Serves}
 use Rattle.nx_io.specs.DoorCalls.{new_origin, share_of}
 use Rattle.nx_io.specs.Readers.{Discarded}
 use Rattle.session_core.specs.Records.{unwanted}
-use Rattle.nexus_serve.specs.Views.{DoorView, LinkView, ReportView}
+use Rattle.nexus_serve.specs.Views.{ReportView}
 use Rattle.nexus_drill.specs.declared.outcomes.DrillTotals.{DrillTotals}
 use Rattle.nexus_drill.specs.Drills.{drill_principal, frames_of}
 

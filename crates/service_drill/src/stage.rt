@@ -1,5 +1,5 @@
 // What a run of the load begins with: the journal without entries, and for each worker a door and its means.
-ghost use Rattle.std.specs.Prelude.{◌≡◌, ◌<◌, ◌≤◌, ◌∷◌, [], IfOk, length, map};
+ghost use Rattle.std.specs.Prelude.{◌≡◌, ◌<◌, ◌≤◌, [], IfOk, length, map};
 ghost use Rattle.nx_io.specs.DoorCalls.{new_origin, share_of};
 ghost use Rattle.nx_io.specs.MemoryDoors.{IsFreshPlan, plan_of, share_by};
 ghost use Rattle.nexus_drill.specs.Drills.{drill_principal};

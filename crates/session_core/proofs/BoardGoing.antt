@@ -1,5 +1,5 @@
 -- A session over a shared board by one request more, and as it is reported.
-use Rattle.std.proofs.Common.{◌≡◌, ◌≢◌, ◌-◌, ◌<◌, ℕ, List, [], ◌∷◌, ◌++◌, length, take, Option, Some, None, refl, sym, ap, ◌∙◌, subst, arith, append_assoc}
+use Rattle.std.proofs.Common.{◌≡◌, ◌≢◌, ◌-◌, ◌<◌, ℕ, List, [], ◌∷◌, ◌++◌, length, length-append, take, true, Option, Some, None, refl, sym, ap, ◌∙◌, subst, arith, append_assoc}
 use Rattle.std.specs.List.{All}
 use Rattle.std.specs.Option.{IfSome}
 use Rattle.std.proofs.lemmas.List.{append-nil}
@@ -26,7 +26,7 @@ use Rattle.policy_book.specs.Books.{session_of}
 use Rattle.session_core.specs.declared.board_session.BoardSession.{BoardSession}
 use Rattle.session_core.specs.declared.ends.SessionEnd.{SessionEnd}
 use Rattle.session_core.specs.Ends.{HasEnded}
-use Rattle.session_core.specs.Records.{AreNoted, IsNoted, IsToldAndNoted, Kept}
+use Rattle.session_core.specs.Records.{AreNoted, IsCall, IsIdle, IsNoted, IsToldAndNoted, Kept}
 use Rattle.session_core.specs.Served.{AreCounted, IsServedOver, UnrecordedOnlyWhere}
 use Rattle.session_core.specs.Standing.{Standing, beginning}
 use Rattle.session_core.specs.Told.{Answers, IsTold, Leads}
@@ -79,10 +79,15 @@ counted_more count count_then count_now requests replies request reply first sec
       counted = counted_then (count < count_then) (count_then < count_now) (count < count_now) requests replies request reply (λ less. omega (arith, less, after)) (λ less. omega (arith, less, before)) first.counted second.counted;
     }
 
+-- what nothing more was put behind
+no_more : {A : Type 0} (xs more : List A) → xs ≡ xs ++ more → more ≡ []
+no_more xs [] same = refl
+no_more xs (x ∷ more) same = let count = ap length same in let long = length-append xs (x ∷ more) in absurd (omega (arith, count, long))
+
 -- one request more
 module _ (a s t : BoardSession) (p q r : PanelHistory) (count count_then count_now : ℕ) (kept kept_then kept_now : Kept) (requests : List Request) (replies : List Reply) (request : Request) (reply : Reply)
     (gone : HasGone a s p q count count_then kept kept_then requests replies) (turn : IsTurn s t (asked_since q r) request reply) (asked : HasOnlyAsked q r)
-    (noted : IsNoted (head_of s) (who_of s) request reply (asked_since q r) kept_then kept_now) where
+    (noted : IsNoted (head_of s) (who_of s) request reply (asked_since q r) kept_then kept_now) (idle : kept_then.broken ≡ true → IsCall request → (t ≡ s) × (asked_since q r ≡ [])) where
   grown_led : IsLed (head_of a) (trees_of t) a.pass.session (standing a) requests replies (asked_since p q) gone.steps gone.added (standing s) kept kept_then
   grown_led =
       let grown = trees_prefix s.pass.seen t.pass.seen turn.seen in
@@ -102,6 +107,12 @@ module _ (a s t : BoardSession) (p q r : PanelHistory) (count count_then count_n
       (subst (λ (x : Reply). IsNoted (head_of s) (who_of s) request x turn.turn.asks kept_then kept_now) (sym turn.reply_is)
       (subst (λ (xs : List Ask). IsNoted (head_of s) (who_of s) request reply xs kept_then kept_now) (sym turn.asks_are) noted))
 
+  -- a session that stays as it is has taken no step
+  idle_here : IsIdle kept_then request turn.turn.steps turn.turn.asks
+  idle_here broken call =
+      let (same, unasked) = idle broken call in
+      (no_more s.pass.trail turn.turn.steps (sym (ap (λ (x : BoardSession). x.pass.trail) same) ∙ turn.trail), turn.asks_are ∙ unasked)
+
   led_more : IsLed (head_of a) (trees_of t) a.pass.session (standing a) (requests ++ request ∷ []) (replies ++ reply ∷ []) (asked_since p r) (gone.steps ++ turn.turn.steps) (gone.added ++ turn.turn.added) (standing t) kept kept_now
   led_more =
       let said : asked_since p q ++ turn.turn.asks ≡ asked_since p r = ap (λ (xs : List Ask). asked_since p q ++ xs) turn.asks_are ∙ sym (since_through p q r gone.asked asked) in
@@ -109,7 +120,7 @@ module _ (a s t : BoardSession) (p q r : PanelHistory) (count count_then count_n
       (subst (λ (xs : List Ask). IsLed (head_of a) (trees_of t) a.pass.session (standing a) (requests ++ request ∷ []) (replies ++ reply ∷ []) xs (gone.steps ++ turn.turn.steps) (gone.added ++ turn.turn.added) turn.turn.after kept kept_now) said
       (subst (λ (x : Reply). IsLed (head_of a) (trees_of t) a.pass.session (standing a) (requests ++ request ∷ []) (replies ++ x ∷ []) (asked_since p q ++ turn.turn.asks) (gone.steps ++ turn.turn.steps) (gone.added ++ turn.turn.added) turn.turn.after kept kept_now) turn.reply_is (
         leads_then (head_of a) (trees_of t) a.pass.session (standing a) requests replies (asked_since p q) gone.steps gone.added (standing s) request turn.turn grown_led.0 answers_here,
-        noted_then (head_of a) (trees_of t) a.pass.session (standing a) requests replies (asked_since p q) gone.steps gone.added (standing s) request turn.turn grown_led.0 answers_here kept kept_then kept_now grown_led.1 noted_here,
+        noted_then (head_of a) (trees_of t) a.pass.session (standing a) requests replies (asked_since p q) gone.steps gone.added (standing s) request turn.turn grown_led.0 answers_here kept kept_then kept_now grown_led.1 noted_here idle_here,
       )))
 
   pub gone_more : AreCounted count_then count_now (request ∷ []) (reply ∷ []) → HasGone a t p r count count_now kept kept_now (requests ++ request ∷ []) (replies ++ reply ∷ [])
@@ -133,7 +144,7 @@ pub gone_given_up : (a s : BoardSession) (p q : PanelHistory) (count count_now :
     → HasGone a s p q count count_now kept kept_now (requests ++ request ∷ []) (replies ++ NoMemory ∷ [])
 gone_given_up a s p q count count_now kept kept_now requests replies request gone =
     gone_more a s s p q q count count_now count_now kept kept_now kept_now requests replies request NoMemory gone (subst (λ (xs : List Ask). IsTurn s s xs request NoMemory) (sym (since_nothing q)) (given_up_any s request)) (only_nothing q)
-    (noted_none (λ call. tt)) (quiet_counted count_now count_now request NoMemory refl (λ none. none))
+    (noted_none (λ call. tt)) (λ broken call. (refl, since_nothing q)) (quiet_counted count_now count_now request NoMemory refl (λ none. none))
 
 -- ---- The beginning
 

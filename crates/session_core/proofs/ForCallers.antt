@@ -8,11 +8,12 @@ use Rattle.nx_io.proofs.ForCallers.{gained-by, gave-by, grows-by, prepended-prep
 use Rattle.authority_ask.specs.Panels.{Told}
 use Rattle.session_wire.specs.declared.replies.Reply.{Reply}
 use Rattle.session_core.specs.Earned.{IsTrueAlone, IsTrueReport}
-use Rattle.session_core.specs.Records.{AreNoted, IsNoted, Kept}
+use Rattle.session_core.specs.Records.{AreNoted, IsIdle, IsNoted, Kept}
 use Rattle.session_core.specs.Served.{IsServedSo, Reported}
 use Rattle.session_core.specs.declared.lines.Asking.{Asking}
 pub use Rattle.session_core.proofs.Given.{down_known, down_unknown, judged, told_known, told_unknown}
 pub use Rattle.session_core.proofs.ToldLaws.{unrecorded_reply}
+pub use Rattle.session_core.proofs.BoardHistories.{own_map}
 use Rattle.session_core.proofs.EarnedAlone.{tells_what_is_true_alone}
 use Rattle.session_core.proofs.EarnedReplies.{tells_what_is_true}
 use Rattle.session_core.proofs.RisingPoints.{tells_in_order}
@@ -99,15 +100,20 @@ leads_then h es s before (q ∷ qs) [] asks steps added last request turn leads 
 pub noted_then : (h : Head) (es : List EntryTree) (s : ℕ) (before : Standing) (requests : List Request) (replies : List Reply) (asks : List Told) (steps : List Item)
     (added : List EntryTree) (last : Standing) (request : Request) (turn : Turn) (leads : Leads h es s before requests replies asks steps added last) (answers : BoardAnswers h es s last request turn)
     (kept kept_then kept_now : Kept) → AreNoted h es s before requests replies asks steps added last leads kept kept_then → IsNoted h last.who request turn.reply turn.asks kept_then kept_now
+    → IsIdle kept_then request turn.steps turn.asks
     → AreNoted h es s before (requests ++ request ∷ []) (replies ++ turn.reply ∷ []) (asks ++ turn.asks) (steps ++ turn.steps) (added ++ turn.added) turn.after
     (leads_then h es s before requests replies asks steps added last request turn leads answers) kept kept_now
 unfolding leads_then
-noted_then h es s before [] [] asks steps added last request turn leads answers kept kept_then kept_now noted one =
-    (kept_now, subst (λ (k : Kept). IsNoted h before.who request turn.reply turn.asks k kept_now) noted (subst (λ (x : Standing). IsNoted h x.who request turn.reply turn.asks kept_then kept_now) leads.3 one), refl)
-noted_then h es s before (q ∷ qs) (r ∷ rs) asks steps added last request turn leads answers kept kept_then kept_now noted one =
-    (noted.0, noted.1, noted_then h es s leads.0.after qs rs leads.1 leads.2 leads.3 last request turn leads.9 answers noted.0 kept_then kept_now noted.2 one)
-noted_then h es s before [] (r ∷ rs) asks steps added last request turn leads answers kept kept_then kept_now noted one = absurd leads
-noted_then h es s before (q ∷ qs) [] asks steps added last request turn leads answers kept kept_then kept_now noted one = absurd leads
+noted_then h es s before [] [] asks steps added last request turn leads answers kept kept_then kept_now noted one idle = (
+  kept_now,
+  subst (λ (k : Kept). IsNoted h before.who request turn.reply turn.asks k kept_now) noted (subst (λ (x : Standing). IsNoted h x.who request turn.reply turn.asks kept_then kept_now) leads.3 one),
+  subst (λ (k : Kept). IsIdle k request turn.steps turn.asks) noted idle,
+  refl,
+)
+noted_then h es s before (q ∷ qs) (r ∷ rs) asks steps added last request turn leads answers kept kept_then kept_now noted one idle =
+    (noted.0, noted.1, noted.2, noted_then h es s leads.0.after qs rs leads.1 leads.2 leads.3 last request turn leads.9 answers noted.0 kept_then kept_now noted.3 one idle)
+noted_then h es s before [] (r ∷ rs) asks steps added last request turn leads answers kept kept_then kept_now noted one idle = absurd leads
+noted_then h es s before (q ∷ qs) [] asks steps added last request turn leads answers kept kept_then kept_now noted one idle = absurd leads
 
 -- what is reported of a session is true
 pub report_is_true : {h : Head} {low : ℕ} {report : Reported} {asks : List Told} {later : ℕ} {kept kept_now : Kept} → IsServedSo h low report asks later kept kept_now → IsTrueReport h report.seen low report asks

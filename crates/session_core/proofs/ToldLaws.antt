@@ -23,7 +23,7 @@ use Rattle.verdict_words.specs.Histories.{own}
 use Rattle.verdict_words.specs.Rule.{last_met, met_after}
 use Rattle.session_core.specs.Records.{AreNoted, Kept}
 use Rattle.session_core.specs.Standing.{Standing, beginning}
-use Rattle.session_core.specs.Told.{Answers, AreAsked, Calls, Changes, GivesUp, GoesUnrecorded, IsPlaceIn, IsSeen, IsTold, Judges, Keeps, Leads, Looks, Meets, Misses, Runs, Turn, AreAskedInVain, checked, state_at, stepped, verdict_reply}
+use Rattle.session_core.specs.Told.{Answers, AreAsked, Calls, Changes, GivesUp, GoesUnrecorded, IsPlaceIn, IsSeen, Judges, Keeps, Leads, Looks, Meets, Misses, Runs, Turn, AreAskedInVain, checked, state_at, stepped, verdict_reply}
 use Rattle.session_core.specs.Told as told
 use Rattle.session_core.specs.ToldLaws.{NotedStaysNoted, OnlyAllowedRuns, OnlyDoneAdds, ToldStaysTold, is_ran}
 
@@ -132,7 +132,7 @@ pub noted_on : (h : Head) (es more : List EntryTree) (s : ℕ) (before : Standin
 unfolding leads_on
 noted_on h es more s before [] [] asks steps added last leads kept kept_now noted = noted
 noted_on h es more s before (q ∷ qs) (r ∷ rs) asks steps added last leads kept kept_now noted =
-    (noted.0, noted.1, noted_on h es more s leads.0.after qs rs leads.1 leads.2 leads.3 last leads.9 noted.0 kept_now noted.2)
+    (noted.0, noted.1, noted.2, noted_on h es more s leads.0.after qs rs leads.1 leads.2 leads.3 last leads.9 noted.0 kept_now noted.3)
 noted_on h es more s before [] (r ∷ rs) asks steps added last leads kept kept_now noted = absurd leads
 noted_on h es more s before (q ∷ qs) [] asks steps added last leads kept kept_now noted = absurd leads
 

@@ -98,12 +98,17 @@ pub data IsNoted (h : Head) (who : Option ℕ) (request : Request) (reply : Repl
       → IsNoted h who request reply asks kept kept_now
   later : kept.wanted ≡ true → kept.broken ≡ true → IsUnrecordedCall request reply → asks ≡ [] → kept_now ≡ kept → IsNoted h who request reply asks kept kept_now
 
+-- behind a record that was cut off nothing is done for a call, whatever it is told: its session takes no step, and nobody is asked
+abbrev pub IsIdle : Kept → Request → List Item → List Ask → Type 0
+IsIdle kept request steps asks = kept.broken ≡ true → IsCall request → (steps ≡ []) × (asks ≡ [])
+
 -- So it is of each request of a session, in their order
 abbrev pub AreNoted : (h : Head) (es : List EntryTree) (s : ℕ) (before : Standing) (requests : List Request) (replies : List Reply) (asks : List Ask) (steps : List Item) (added : List EntryTree) (last : Standing)
     → Leads h es s before requests replies asks steps added last → Kept → Kept → Type 0
 AreNoted h es s before [] [] asks steps added last led kept kept_now = kept_now ≡ kept
 AreNoted h es s before (request ∷ requests) (reply ∷ replies) asks steps added last led kept kept_now =
-    (kept_then : Kept) × IsNoted h before.who request led.0.reply led.0.asks kept kept_then × AreNoted h es s led.0.after requests replies led.1 led.2 led.3 last led.9 kept_then kept_now
+    (kept_then : Kept) × IsNoted h before.who request led.0.reply led.0.asks kept kept_then × IsIdle kept request led.0.steps led.0.asks
+    × AreNoted h es s led.0.after requests replies led.1 led.2 led.3 last led.9 kept_then kept_now
 AreNoted h es s before _ _ asks steps added last led kept kept_now = ⊥
 
 -- a session was told this, and so much was recorded of it

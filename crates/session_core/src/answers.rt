@@ -53,8 +53,10 @@ impl Session {
     ) -> Reply
         requires number { 1 ≤ self.old.number }
         requires principal { IfSome self.old.principal (λ p. p < length journal.old.head.principals) }
-        ensures outcome { HasOutcome journal.old.head (entry_trees journal.old.entries) self.old.number self.old.principal request.now
-            (outcome_of result self.new.principal (asked_since (P.history panel.old) (P.history panel.new)) (entry_trees journal.old.entries) (entry_trees journal.new.entries)) }
+        ensures outcome { HasOutcome journal.old.head (entry_trees journal.old.entries) self.old.number
+            self.old.principal request.now
+            (outcome_of result self.new.principal (asked_since (P.history panel.old) (P.history panel.new))
+            (entry_trees journal.old.entries) (entry_trees journal.new.entries)) }
         ensures memory { IsFrugal self.old.principal request.now → result ≢ Reply.NoMemory }
         ensures number { self.new.number ≡ self.old.number }
         ensures principal { IfSome self.new.principal (λ p. p < length journal.new.head.principals) }
@@ -79,7 +81,9 @@ impl Session {
     /// Answers a hello.
     fn open(&mut self, journal: &Journal, name: &Name, secret: &Secret) -> Reply
         requires { IfSome self.old.principal (λ p. p < length journal.now.head.principals) }
-        ensures outcome { replied self.new.principal result ≡ greeted (length journal.now.entries) self.old.number self.old.principal (admitted journal.now.head.principals name.now secret.now) }
+        ensures outcome { replied self.new.principal result
+            ≡ greeted (length journal.now.entries) self.old.number self.old.principal
+            (admitted journal.now.head.principals name.now secret.now) }
         ensures number { self.new.number ≡ self.old.number }
         ensures principal { IfSome self.new.principal (λ p. p < length journal.now.head.principals) }
     {
@@ -117,7 +121,8 @@ fn serve<P: Panel, R: Net<Listener = TcpListener, Stream = TcpStream> + Clock>(
     requires principal { principal < length journal.old.head.principals }
     requires no_hello { ¬ IsHello request.now }
     ensures outcome { HasOutcome journal.old.head (entry_trees journal.old.entries) session (Some principal) request.now
-        (outcome_of result (Some principal) (asked_since (P.history panel.old) (P.history panel.new)) (entry_trees journal.old.entries) (entry_trees journal.new.entries)) }
+        (outcome_of result (Some principal) (asked_since (P.history panel.old) (P.history panel.new))
+        (entry_trees journal.old.entries) (entry_trees journal.new.entries)) }
     ensures head { journal.new.head ≡ journal.old.head }
     ensures grows { Grows (entry_trees journal.old.entries) (entry_trees journal.new.entries) }
     ensures asked { HasOnlyAsked (P.history panel.old) (P.history panel.new) }
@@ -138,7 +143,8 @@ fn change(
 ) -> Reply
     requires principal { principal < length journal.old.head.principals }
     requires change { IsChange request.now }
-    ensures outcome { IsChanged journal.old.head (entry_trees journal.old.entries) (entry_trees journal.new.entries) session principal request.now result }
+    ensures outcome { IsChanged journal.old.head (entry_trees journal.old.entries) (entry_trees journal.new.entries)
+        session principal request.now result }
     ensures head { journal.new.head ≡ journal.old.head }
 {
     let Ok(found) = event_of(alloc, request) else {
@@ -154,7 +160,8 @@ fn change(
 /// Adds the event to the journal, if it is accepted.
 fn decide(journal: &mut Journal, session: u64, principal: u32, event: Event) -> Reply
     requires { principal < length journal.old.head.principals }
-    ensures outcome { IsDecided journal.old.head (entry_trees journal.old.entries) (entry_trees journal.new.entries) session principal (event_tree event) result }
+    ensures outcome { IsDecided journal.old.head (entry_trees journal.old.entries) (entry_trees journal.new.entries)
+        session principal (event_tree event) result }
     ensures head { journal.new.head ≡ journal.old.head }
 {
     let at = journal.count();
@@ -191,7 +198,8 @@ fn call<P: Panel, R: Net<Listener = TcpListener, Stream = TcpStream> + Clock>(
     panel: &mut P,
 ) -> Reply
     requires { principal < length journal.now.head.principals }
-    ensures outcome { IsCallReply journal.now.head (entry_trees journal.now.entries) principal op.now object.now (asked_since (P.history panel.old) (P.history panel.new)) result }
+    ensures outcome { IsCallReply journal.now.head (entry_trees journal.now.entries) principal op.now object.now
+        (asked_since (P.history panel.old) (P.history panel.new)) result }
     ensures asked { HasOnlyAsked (P.history panel.old) (P.history panel.new) }
 {
     let at = journal.count();

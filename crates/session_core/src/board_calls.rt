@@ -87,6 +87,8 @@ impl BoardSession {
         ensures asked { HasOnlyAsked (P.history panel.old) (P.history panel.new) }
         ensures noted { IsNoted (head_of self) (who_of self) (Call op.now object.now arg) result.1
             (asked_since (P.history panel.old) (P.history panel.new)) records.old records.new }
+        ensures idle { records.old.broken ≡ true
+            → (result.0 ≡ self) × (asked_since (P.history panel.old) (P.history panel.new) ≡ []) }
         ensures book { B.board book.new ≡ B.board book.old }
         ensures counted { AreCounted (B.unrecorded book.old) (B.unrecorded book.new)
             (Call op.now object.now arg ∷ []) (result.1 ∷ []) }
@@ -299,7 +301,8 @@ impl BoardSession {
         requires known { knows_row self.known.rows op.now room.object ≡ true → taken.now.place ≢ None }
         requires whole { records.old.broken ≡ false }
         ensures checked { IsChecked principal op.now room.object arg taken.now.object taken.now.place
-            (case_tree taken.now.case) self result.0 (asked_since (P.history panel.old) (P.history panel.new)) result.1 }
+            (case_tree taken.now.case) self result.0 (asked_since (P.history panel.old) (P.history panel.new))
+            result.1 }
         ensures asked { HasOnlyAsked (P.history panel.old) (P.history panel.new) }
         ensures noted { IsNoted (head_of self) (Some principal) (Call op.now room.object arg) result.1
             (asked_since (P.history panel.old) (P.history panel.new)) records.old records.new }
@@ -521,9 +524,11 @@ fn keep(
     requires known { is_known ≡ true → taken.now.place ≢ None }
     requires of_proof { IsOfProof (verdict_of finding.now) }
     requires count { HasCount (case_tree taken.now.case) finding.now }
-    requires right { (place : CasePlace) (held : Held) → taken.now.place ≡ Some place → StandsFor (verdict_of finding.now) held → IsLasting (case_tree taken.now.case) (verdict_of finding.now)
+    requires right { (place : CasePlace) (held : Held) → taken.now.place ≡ Some place
+        → StandsFor (verdict_of finding.now) held → IsLasting (case_tree taken.now.case) (verdict_of finding.now)
         → IsHeldRight board.now.origin.setting (entry_trees pass.old.seen) place.case held }
-    ensures { HasKept pass.old pass.new is_known taken.now.at taken.now.place (case_tree taken.now.case) (verdict_of finding.now) }
+    ensures { HasKept pass.old pass.new is_known taken.now.at taken.now.place (case_tree taken.now.case)
+        (verdict_of finding.now) }
 {
     if !is_known {
         return;

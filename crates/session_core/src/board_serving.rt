@@ -1,8 +1,8 @@
 //! A session over a link and the shared board.
-ghost use Rattle.std.specs.Prelude.{◌≡◌, ◌≢◌, ◌≤◌, [], false, true, length, All, Some};
+ghost use Rattle.std.specs.Prelude.{◌≡◌, ◌≢◌, ◌≤◌, [], false, true, length, All};
 ghost use Rattle.std.specs.Option.{is_some};
-ghost use Rattle.nx_io.specs.Links.{KeepsOrigin};
-ghost use Rattle.nx_io.specs.Streams.{Gave, MayRise};
+ghost use Rattle.nx_io.specs.Views.{HasTaken, IsSameLink};
+ghost use Rattle.nx_io.specs.Streams.{MayRise};
 ghost use Rattle.authority_ask.specs.PanelCalls.{HasOnlyAsked, asked_since};
 ghost use Rattle.policy_history.specs.Values.{entry_trees};
 ghost use Rattle.verdict_words.specs.Histories.{IsPrefix};
@@ -163,10 +163,10 @@ pub fn serve_link<
     ensures board { result.pass.board ≡ beside.now.board.now }
     ensures seen { IsPrefix pass.seen result.pass.seen }
     ensures known { IsPrefix pass.known result.pass.known }
-    ensures bytes { Gave (L.left link) (L.left result.link) (L.taken link) (L.taken result.link) }
+    ensures bytes { HasTaken L.Link link result.link }
     ensures over { L.over result.link ≡ is_over result.end }
     ensures closed { L.closed result.link ≡ true }
-    ensures origin { KeepsOrigin (L.place link) (L.place result.link) (L.toward link) (L.toward result.link) }
+    ensures origin { IsSameLink L.Link link result.link }
     ensures admitted { L.admitted result.link ≡ is_some result.principal }
     ensures link_later { L.faults link ≤ L.faults result.link }
     ensures link_count { MayRise (faults_after_end result.end (L.faults link)) (L.faults result.link) }
@@ -224,10 +224,10 @@ fn sit<
         (B.unrecorded book.old) (B.unrecorded book.new) records.old records.new)
         result.1 (L.taken link.new) (L.sent link.new) }
     ensures book { B.board book.new ≡ beside.now.board.now }
-    ensures bytes { Gave (L.left link.old) (L.left link.new) (L.taken link.old) (L.taken link.new) }
+    ensures bytes { HasTaken L.Link link.old link.new }
     ensures over { L.over link.new ≡ is_over result.1 }
     ensures is_open { L.closed link.new ≡ false }
-    ensures origin { KeepsOrigin (L.place link.old) (L.place link.new) (L.toward link.old) (L.toward link.new) }
+    ensures origin { IsSameLink L.Link link.old link.new }
     ensures admitted { L.admitted link.new ≡ is_some (who_of result.0) }
     ensures link_later { L.faults link.old ≤ L.faults link.new }
     ensures link_count { L.faults link.new ≡ faults_after_end result.1 (L.faults link.old) }

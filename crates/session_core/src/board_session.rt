@@ -1,5 +1,5 @@
 //! A session over the shared board: what each request is answered, with verdicts that are kept.
-ghost use Rattle.std.specs.Prelude.{◌≡◌, ◌∷◌, [], List, Some, None};
+ghost use Rattle.std.specs.Prelude.{◌≡◌, ◌∷◌, [], List, Some, None, true};
 ghost use Rattle.authority_ask.specs.PanelCalls.{HasOnlyAsked, asked_since};
 ghost use Rattle.authority_ask.specs.Panels.{Told};
 ghost use Rattle.session_wire.specs.declared.requests.Request.TheVariants.{Hello, Call};
@@ -87,6 +87,8 @@ impl BoardSession {
         ensures asked { HasOnlyAsked (P.history panel.old) (P.history panel.new) }
         ensures noted { IsNoted (head_of self) (who_of self) request.now result.1
             (asked_since (P.history panel.old) (P.history panel.new)) records.old records.new }
+        ensures idle { IsCall request.now → records.old.broken ≡ true
+            → (result.0 ≡ self) × (asked_since (P.history panel.old) (P.history panel.new) ≡ []) }
         ensures book { B.board book.new ≡ B.board book.old }
         ensures counted { AreCounted (B.unrecorded book.old) (B.unrecorded book.new)
             (request.now ∷ []) (result.1 ∷ []) }

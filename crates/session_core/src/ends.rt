@@ -1,6 +1,6 @@
 //! How a session over a link ends.
 
-/// Why a session over a link has ended. `docs/GUARANTEES.md`, "session_core", says what was taken and sent then.
+/// Why a session over a link has ended. `HasEnded` says what was taken and sent then.
 #[derive(Clone, Copy, Debug, PartialEq, Eq)]
 pub enum SessionEnd {
     /// The link ended behind a whole frame, or before the first.

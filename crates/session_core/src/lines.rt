@@ -1,7 +1,6 @@
 //! Requests of several sessions over one journal, one after another.
-ghost use Rattle.std.specs.Prelude.{◌≡◌, ◌≤◌, ◌<◌, ◌+◌, ◌^◌, IfOk, OnErr, length};
+ghost use Rattle.std.specs.Prelude.{◌≡◌, ◌≤◌, ◌<◌, ◌+◌, ◌^◌, IfOk, OnErr};
 ghost use Rattle.std.specs.List.{All};
-ghost use Rattle.nx_io.specs.Streams.{Grows, gained};
 ghost use Rattle.authority_ask.specs.PanelCalls.{HasOnlyAsked, asked_since};
 ghost use Rattle.policy_history.specs.Values.{entry_trees, greatest_of};
 ghost use Rattle.session_core.specs.Sessions.{Point, Told1, at_start};
@@ -39,8 +38,11 @@ pub fn answer_all<P: Panel, R: Net<Listener = TcpListener, Stream = TcpStream> +
     requires new { greatest_of (entry_trees journal.old.entries) < first }
     requires numbers { first + 64 ≤ 2 ^ 64 }
     requires places { All (λ a. a.place < 64) askings.now }
-    ensures told { IfOk result (λ replies. (last : Point) × Told1 journal.old.head first (at_start (entry_trees journal.old.entries)) askings.now replies.items
-        (asked_since (P.history panel.old) (P.history panel.new)) last × (last.entries ≡ entry_trees journal.new.entries)) }
+    ensures told { IfOk result
+        (λ replies. (last : Point)
+        × Told1 journal.old.head first (at_start (entry_trees journal.old.entries)) askings.now replies.items
+        (asked_since (P.history panel.old) (P.history panel.new)) last
+        × (last.entries ≡ entry_trees journal.new.entries)) }
     ensures kept { OnErr result ((journal.new ≡ journal.old) × (panel.new ≡ panel.old)) }
     ensures head { journal.new.head ≡ journal.old.head }
     ensures asked { HasOnlyAsked (P.history panel.old) (P.history panel.new) }

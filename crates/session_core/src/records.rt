@@ -1,5 +1,5 @@
 //! The records of calls: whether they are wanted, and what was sent of them.
-ghost use Rattle.std.specs.Prelude.{◌≡◌, ◌≤◌, ℕ, Bool, List, MatchOption, false, true, length};
+ghost use Rattle.std.specs.Prelude.{◌≡◌, ◌≤◌, ℕ, MatchOption, false, true, length};
 ghost use Rattle.nal_term.specs.Names.{IsName};
 ghost use Rattle.policy_history.specs.PolicyTexts.{ended};
 ghost use Rattle.audit_check.specs.declared.records.Answers.TheVariants.{Known};

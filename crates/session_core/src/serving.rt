@@ -1,7 +1,7 @@
 //! A session over a link that is alone over a journal.
 ghost use Rattle.std.specs.Prelude.{◌≡◌, ◌≤◌, ◌<◌, [], false, true};
-ghost use Rattle.nx_io.specs.Links.{KeepsOrigin};
-ghost use Rattle.nx_io.specs.Streams.{Gave, Grows, MayRise, gained};
+ghost use Rattle.nx_io.specs.Views.{HasTaken, IsSameLink};
+ghost use Rattle.nx_io.specs.Streams.{MayRise};
 ghost use Rattle.authority_ask.specs.PanelCalls.{HasOnlyAsked, asked_since};
 ghost use Rattle.policy_history.specs.Values.{entry_trees, greatest_of};
 ghost use Rattle.session_core.specs.Ends.{IsServed, faults_after_end, is_over};
@@ -88,12 +88,13 @@ pub fn serve_on<L: Link, P: Panel, R: Net<Listener = TcpListener, Stream = TcpSt
     requires over { L.over link.old ≡ false }
     requires closed { L.closed link.old ≡ false }
     requires admitted { L.admitted link.old ≡ false }
-    ensures served { IsServed result journal.old.head session (entry_trees journal.old.entries) (entry_trees journal.new.entries) (L.taken link.new) (L.sent link.new)
+    ensures served { IsServed result journal.old.head session (entry_trees journal.old.entries)
+        (entry_trees journal.new.entries) (L.taken link.new) (L.sent link.new)
         (asked_since (P.history panel.old) (P.history panel.new)) (L.admitted link.new) }
-    ensures bytes { Gave (L.left link.old) (L.left link.new) (L.taken link.old) (L.taken link.new) }
+    ensures bytes { HasTaken L.Link link.old link.new }
     ensures over { L.over link.new ≡ is_over result }
     ensures closed { L.closed link.new ≡ true }
-    ensures origin { KeepsOrigin (L.place link.old) (L.place link.new) (L.toward link.old) (L.toward link.new) }
+    ensures origin { IsSameLink L.Link link.old link.new }
     ensures link_later { L.faults link.old ≤ L.faults link.new }
     ensures link_count { MayRise (faults_after_end result (L.faults link.old)) (L.faults link.new) }
     ensures head { journal.new.head ≡ journal.old.head }

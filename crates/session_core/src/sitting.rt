@@ -1,7 +1,7 @@
 //! A session over a link: frames are taken and answered one after another, whoever answers them.
-ghost use Rattle.std.specs.Prelude.{◌≡◌, ◌≤◌, [], false, true, length};
-ghost use Rattle.nx_io.specs.Links.{KeepsComing, KeepsGoing, KeepsOrigin};
-ghost use Rattle.nx_io.specs.Streams.{Gave};
+ghost use Rattle.std.specs.Prelude.{◌≡◌, ◌≤◌, [], false, true};
+ghost use Rattle.nx_io.specs.Links.{KeepsComing, KeepsGoing};
+ghost use Rattle.nx_io.specs.Views.{HasTaken, IsSameLink};
 ghost use Rattle.session_core.specs.Ends.{faults_after_end, is_over};
 ghost use Rattle.session_core.specs.Inner.Serving.{IsSent, faults_after_sending};
 ghost use Rattle.session_core.specs.Inner.Sittings.{HasSat, IsTurnOf, TellsMore};
@@ -84,10 +84,10 @@ pub fn serve_sitting<R, B, P, S: Sitting<R, B, P> + Drop, L: Link>(
     ensures ready { S.ready result.0 book.new panel.new }
     ensures served { HasSat (S.told sitting book.old panel.old result.0 book.new panel.new) result.1 (L.taken
         link.new) (L.sent link.new) }
-    ensures bytes { Gave (L.left link.old) (L.left link.new) (L.taken link.old) (L.taken link.new) }
+    ensures bytes { HasTaken L.Link link.old link.new }
     ensures over { L.over link.new ≡ is_over result.1 }
     ensures is_open { L.closed link.new ≡ false }
-    ensures origin { KeepsOrigin (L.place link.old) (L.place link.new) (L.toward link.old) (L.toward link.new) }
+    ensures origin { IsSameLink L.Link link.old link.new }
     ensures admitted { L.admitted link.new ≡ S.admitted result.0 }
     ensures link_later { L.faults link.old ≤ L.faults link.new }
     ensures link_count { L.faults link.new ≡ faults_after_end result.1 (L.faults link.old) }
@@ -127,7 +127,7 @@ fn serve_framed<R, B, P, S: Sitting<R, B, P>, L: Link>(
         book_first panel_first result.0 book.new panel.new) (L.sent link.old) (L.sent link.new) result.1 }
     ensures coming { KeepsComing (L.left link.old) (L.left link.new) (L.taken link.old) (L.taken link.new) (L.over
         link.old) (L.over link.new) }
-    ensures origin { KeepsOrigin (L.place link.old) (L.place link.new) (L.toward link.old) (L.toward link.new) }
+    ensures origin { IsSameLink L.Link link.old link.new }
     ensures link_later { L.faults link.old ≤ L.faults link.new }
     ensures link_count { L.faults link.new ≡ faults_after_sending result.1 (L.faults link.old) }
 {
@@ -165,7 +165,7 @@ fn admit<R, B, P, S: Sitting<R, B, P>, L: Link>(sitting: &S, link: &mut L)
     ensures coming { KeepsComing (L.left link.old) (L.left link.new) (L.taken link.old) (L.taken link.new) (L.over
         link.old) (L.over link.new) }
     ensures going { KeepsGoing (L.sent link.old) (L.sent link.new) (L.closed link.old) (L.closed link.new) }
-    ensures origin { KeepsOrigin (L.place link.old) (L.place link.new) (L.toward link.old) (L.toward link.new) }
+    ensures origin { IsSameLink L.Link link.old link.new }
     ensures count { L.faults link.new ≡ L.faults link.old }
 {
     if sitting.is_admitted() {
@@ -187,7 +187,7 @@ fn send_reply<L: Link>(link: &mut L, reply: &Reply) -> Option<SessionEnd>
     ensures is_open { L.closed link.new ≡ false }
     ensures coming { KeepsComing (L.left link.old) (L.left link.new) (L.taken link.old) (L.taken link.new) (L.over
         link.old) (L.over link.new) }
-    ensures origin { KeepsOrigin (L.place link.old) (L.place link.new) (L.toward link.old) (L.toward link.new) }
+    ensures origin { IsSameLink L.Link link.old link.new }
     ensures admitted { L.admitted link.new ≡ L.admitted link.old }
     ensures later { L.faults link.old ≤ L.faults link.new }
     ensures count { L.faults link.new ≡ faults_after_sending result (L.faults link.old) }

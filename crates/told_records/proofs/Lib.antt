@@ -7,7 +7,9 @@ mod OneLines
 mod ShortProofs
 mod RightLines
 mod Recorded
-mod Spelled
+mod Added
+mod Audited
+pub mod ForCallers
 mod Peers
 mod PeersBeside
 mod PeersAlone

@@ -26,7 +26,7 @@ use Rattle.peer_labels.specs.Bundles as bundle
 use Rattle.peer_labels.specs.Requests.{label_request}
 use Rattle.told_records.specs.PeerSessions.{AreOfPeer, AreSaidInOrder}
 use Rattle.told_records.specs.PeerSessions as said
-use Rattle.told_records.proofs.Spelled.{spelled_spellable}
+use Rattle.kept_policies.proofs.ForCallers.{spelled_spellable}
 
 -- ---- The labels of a bundle
 

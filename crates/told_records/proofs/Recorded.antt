@@ -38,7 +38,7 @@ use Rattle.told_records.proofs.Turns.{replies_are_right}
 
 module _ (h : Head) (es : List EntryTree) where
   -- nothing was sent
-  nothing : {kept kept_now : Kept} → kept_now ≡ kept → AreRightLines h es kept kept_now
+  pub nothing : {kept kept_now : Kept} → kept_now ≡ kept → AreRightLines h es kept kept_now
   nothing {kept} same = subst (AreRightLines h es kept) (sym same) (record {
     lines = [];
     part = [];
@@ -156,7 +156,7 @@ module _ (h : Head) (es : List EntryTree) (written : IsWritten h es) where
   lines_along s before [] [] asks steps added last led kept kept_now noted = nothing h es noted
   lines_along s before (q ∷ qs) (r ∷ rs) asks steps added last led kept kept_now noted =
       behind h es (noted_right before q led.0 (replies_are_right h es s before q led.0 led.4) kept noted.0 noted.1)
-      (lines_along s led.0.after qs rs led.1 led.2 led.3 last led.9 noted.0 kept_now noted.2)
+      (lines_along s led.0.after qs rs led.1 led.2 led.3 last led.9 noted.0 kept_now noted.3)
   lines_along s before [] (r ∷ rs) asks steps added last led kept kept_now noted = absurd noted
   lines_along s before (q ∷ qs) [] asks steps added last led kept kept_now noted = absurd noted
 

@@ -1,3 +1,4 @@
 pub mod ToldRecords
 pub mod Recordings
+pub mod Audited
 pub mod PeerSessions

@@ -1,4 +1,5 @@
 //! The laws between the service and the auditor, and between the service and peers.
+ghost use Rattle.told_records.specs.Audited.{AddedAreKept, FreshKeepersAreAudited, RightKeepersAreAudited};
 ghost use Rattle.told_records.specs.PeerSessions.{LonePeersSayLabels, PeersSayLabels};
 ghost use Rattle.told_records.specs.Recordings.{NoneIsLeftOut, OneBehindTheOther, RecordedIsRight};
 ghost use Rattle.told_records.specs.ToldRecords.{AloneIsRight, RepliesAreRight, ToldIsRight};
@@ -20,6 +21,15 @@ pub fn recorded_lines_are_right()
     ensures session { RecordedIsRight }
     ensures each { NoneIsLeftOut }
     ensures behind { OneBehindTheOther }
+{}
+
+/// What comes of the frames of a session is kept, so that it is read again as the program writes it. Where the lines that keepers were sent
+/// are right over a policy, and whatever is recovered from a text begins with that policy, so many of these lines as `audit` takes, in any
+/// order, are audited behind what is recovered, and all are right. The call does nothing. `docs/LOGIC.md`, "Records of a service".
+pub fn recorded_lines_are_audited()
+    ensures added { AddedAreKept }
+    ensures right { RightKeepersAreAudited }
+    ensures fresh { FreshKeepersAreAudited }
 {}
 
 /// Where a peer sends the requests of a bundle to a service, each entry that comes of it is that by which the peer says a label of the

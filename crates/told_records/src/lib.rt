@@ -4,4 +4,7 @@
 
 mod laws;
 
-pub use laws::{peers_say_their_labels, recorded_lines_are_right, replies_make_right_records};
+pub use laws::{
+    peers_say_their_labels, recorded_lines_are_audited, recorded_lines_are_right,
+    replies_make_right_records,
+};

@@ -3,7 +3,7 @@ use Rattle.std.specs.Prelude.{◌≡◌, ◌+◌, ℕ, List, [], ◌∷◌, leng
 use Rattle.policy_history.specs.declared.events.Entry.{Entry}
 use Rattle.policy_history.specs.declared.heads.Head.{Head}
 use Rattle.verdict_words.specs.Values.{Identity, PassValue}
-use Rattle.nexus_serve.specs.Views.{DoorView}
+use Rattle.nx_io.specs.Views.{DoorView}
 use Rattle.nexus_serve.specs.Inner.Working.{AreNumbered, IsUnused, WorkerValue}
 
 -- what contracts see of a desk: the number of the first session, and the passes

@@ -1,9 +1,10 @@
 -- What the workers leave, taken apart and put together again.
 use Rattle.std.specs.Prelude.{◌≡◌, ◌≤◌, ◌-◌, ℕ, List, [], ◌∷◌, ◌++◌, length, map, Bool, false, ◌||◌}
+use Rattle.nx_io.specs.Views.{DoorView}
 use Rattle.policy_history.specs.declared.events.Entry.{Entry}
 use Rattle.policy_history.specs.declared.heads.Head.{Head}
 use Rattle.verdict_words.specs.Values.{PassValue}
-use Rattle.nexus_serve.specs.Views.{DoorView, ReportView, SessionView, joined}
+use Rattle.nexus_serve.specs.Views.{ReportView, SessionView, joined}
 use Rattle.nexus_serve.specs.Inner.Working.{WorkerValue}
 
 -- a report without its pass

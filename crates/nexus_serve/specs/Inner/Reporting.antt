@@ -1,13 +1,14 @@
 -- What is handed back behind the workers.
 use Rattle.std.specs.Prelude.{◌≡◌, List, [], length, map, All, Some, Bool, true, false, codes}
 use Rattle.nx_io.specs.Streams.{Rose, Sends}
+use Rattle.nx_io.specs.Views.{DoorView, SinkView}
 use Rattle.policy_history.specs.PolicyTexts.{ended}
 use Rattle.verdict_words.specs.Settling.{all_met, all_of, flat}
 use Rattle.verdict_words.specs.declared.views.AtomicStep.{AtomicStep}
 use Rattle.policy_book.specs.Books.{AreGatheredIn, AreLasting, BookValue, IsLegalBook, IsMetIn, IsNumbered, SendsFront, head_of, trees_of}
 use Rattle.nexus_serve.specs.declared.closing.ServeEnd.{ServeEnd}
-use Rattle.nexus_serve.specs.Views.{DoorView, ReportView}
-use Rattle.nexus_serve.specs.Services.{IsJournal, IsTextSent, ServedView, SinkView}
+use Rattle.nexus_serve.specs.Views.{ReportView}
+use Rattle.nexus_serve.specs.Services.{IsJournal, IsTextSent, ServedView}
 use Rattle.nexus_serve.specs.Inner.Gathering.{GatheredValue, joined_each}
 use Rattle.nexus_serve.specs.Inner.Working.{end_of}
 

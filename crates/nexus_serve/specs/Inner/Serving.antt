@@ -1,10 +1,11 @@
 -- Workers that were hired, and those that are done.
 use Rattle.std.specs.Prelude.{◌≡◌, ◌+◌, ℕ, List, [], ◌∷◌, map, All}
+use Rattle.nx_io.specs.Views.{DoorView}
 use Rattle.nexus_serve.specs.Means.{MeansHistory}
 use Rattle.policy_history.specs.declared.events.Entry.{Entry}
 use Rattle.policy_history.specs.declared.heads.Head.{Head}
 use Rattle.verdict_words.specs.Values.{Identity}
-use Rattle.nexus_serve.specs.Views.{DoorView, ReportView}
+use Rattle.nexus_serve.specs.Views.{ReportView}
 use Rattle.nexus_serve.specs.Inner.Working.{IsDone, IsHired, IsUnused, WorkerValue}
 
 -- the workers have not begun, the first of them with sessions numbered from `first` on, and each with the next `most` numbers

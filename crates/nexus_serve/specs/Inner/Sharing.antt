@@ -7,7 +7,7 @@ use Rattle.policy_history.specs.declared.heads.Head.{Head}
 use Rattle.nexus_serve.specs.declared.shares.Unready.{Unready}
 use Rattle.nexus_serve.specs.declared.shares.Unready.TheVariants.{Panel, Records, Door, Memory}
 use Rattle.nexus_serve.specs.declared.means.Means.{Means}
-use Rattle.nexus_serve.specs.Views.{DoorView, RecorderView}
+use Rattle.nx_io.specs.Views.{DoorView, RecorderView}
 use Rattle.session_core.specs.Records.{Kept}
 use Rattle.nexus_serve.specs.Hosting.{AreReady, HasCalledPanel, HasFailed, HasFailedPanel, HasFailedToLend, HasLent, HasNoneToLend, HaveShares, IsHeld, Plan, kept_of, listening_of, panel_calls, ready_calls}
 

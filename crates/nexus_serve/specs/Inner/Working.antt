@@ -1,5 +1,6 @@
 -- How far a worker is.
 use Rattle.std.specs.Prelude.{◌≡◌, ◌≢◌, ◌<◌, ◌+◌, ℕ, List, [], ◌∷◌, length, All, Bool, true, false, if◌then◌else◌}
+use Rattle.nx_io.specs.Views.{DoorView}
 use Rattle.nexus_serve.specs.Means.{MeansHistory}
 use Rattle.nx_io.specs.Streams.{Rose}
 use Rattle.nx_io.specs.DoorCalls.{faults_in}
@@ -8,7 +9,7 @@ use Rattle.policy_history.specs.declared.heads.Head.{Head}
 use Rattle.verdict_words.specs.Values.{Identity, PassValue}
 use Rattle.nexus_serve.specs.declared.closing.ServeEnd.{ServeEnd}
 use Rattle.nexus_serve.specs.declared.closing.ServeEnd.TheVariants.{Done, DoorFault, NoRoom}
-use Rattle.nexus_serve.specs.Views.{DoorView, ReportView}
+use Rattle.nexus_serve.specs.Views.{ReportView}
 use Rattle.nexus_serve.specs.Workers.{HasWorked, IsCutShort, Works}
 
 -- What contracts see of a worker: the number of its first session, its door and its means, the passes that it has not used, the reports of

@@ -1,14 +1,14 @@
 use Rattle.std.proofs.Common.{◌≡◌, ◌≤◌, ◌+◌, ◌++◌, length, map}
 use Rattle.std.specs.Vec.{vec_capacity}
-use Rattle.nexus_serve.specs.Views.{door_view, link_view}
+use Rattle.nx_io.specs.Views.{door_view}
 use Rattle.nexus_serve.specs.Inner.Desks.{seated}
 use Rattle.nexus_serve.proofs.hiring.seat.Given as goal
 
 abbrev pub invariant-loop-desk : goal.invariant-loop-desk
 invariant-loop-desk g l = record {
   workers :
-      l.workers.items ++ seated l.desks.items (map (door_view (link_view g.D.Link.Link.left g.D.Link.Link.taken g.D.Link.Link.sent g.D.Link.Link.over g.D.Link.Link.closed g.D.Link.Link.admitted g.D.Link.Link.place g.D.Link.Link.toward g.D.Link.Link.faults) g.D.Door.links g.D.Door.origin g.D.Door.calls) l.doors.items) l.means.items
-      ≡ seated l.fn.desks.items (map (door_view (link_view g.D.Link.Link.left g.D.Link.Link.taken g.D.Link.Link.sent g.D.Link.Link.over g.D.Link.Link.closed g.D.Link.Link.admitted g.D.Link.Link.place g.D.Link.Link.toward g.D.Link.Link.faults) g.D.Door.links g.D.Door.origin g.D.Door.calls) l.fn.doors.items) l.fn.means.items;
+      l.workers.items ++ seated l.desks.items (map (door_view g.D.Door g.D.Link.Link) l.doors.items) l.means.items
+      ≡ seated l.fn.desks.items (map (door_view g.D.Door g.D.Link.Link) l.fn.doors.items) l.fn.means.items;
   doors : length l.doors.items ≡ length l.desks.items;
   means : length l.means.items ≡ length l.desks.items;
   room : length l.workers.items + length l.desks.items ≤ vec_capacity l.workers;

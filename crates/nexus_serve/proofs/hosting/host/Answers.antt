@@ -2,7 +2,7 @@ use Rattle.std.proofs.Common.{◌≡◌, Err, Option, length, map, sym, subst, �
 use Rattle.std.proofs.lemmas.List.{length-map}
 use Rattle.std.specs.Prelude.{option_map}
 use Rattle.nexus_serve.specs.declared.means.Means.{Means}
-use Rattle.nexus_serve.specs.Views.{RecorderView, door_view, link_view, recorder_view}
+use Rattle.nx_io.specs.Views.{RecorderView, door_view, link_view, recorder_view}
 use Rattle.nexus_serve.specs.Services.{ServedView}
 use Rattle.nexus_serve.specs.Hosting.{Plan, served, some_cut_off, status_of}
 use Rattle.nexus_serve.specs.Inner.Sharing.{IsMade}
@@ -28,7 +28,7 @@ serve-served-requires-clause-numbers g c κs within =
 
 pub returns-in-Ok : goal.returns-in-Ok
 returns-in-Ok g c =
-    let door = door_view (link_view g.D.Link.Link.left g.D.Link.Link.taken g.D.Link.Link.sent g.D.Link.Link.over g.D.Link.Link.closed g.D.Link.Link.admitted g.D.Link.Link.place g.D.Link.Link.toward g.D.Link.Link.faults) g.D.Door.links g.D.Door.origin g.D.Door.calls in
+    let door = door_view g.D.Door g.D.Link.Link in
     let ready = rw (c.head.ensures) at c.in-Ok.ensures.made c.args.sessions in
     record {
       hosted = served (map door c.make_ready-ready.new.doors.items) c.make_ready-ready.new.means.items ready c.serve-served.ensures.served
@@ -39,15 +39,15 @@ returns-in-Ok g c =
 pub returns-in-Err : goal.returns-in-Err
 returns-in-Err g c =
     let plan : Plan = record { address = c.args.address.now; patience = c.args.patience; workers = c.args.workers; sessions = c.args.sessions } in
-    let viewed = link_view g.D.Link.Link.left g.D.Link.Link.taken g.D.Link.Link.sent g.D.Link.Link.over g.D.Link.Link.closed g.D.Link.Link.admitted g.D.Link.Link.place g.D.Link.Link.toward g.D.Link.Link.faults in
-    let door = door_view viewed g.D.Door.links g.D.Door.origin g.D.Door.calls in
+    let viewed = link_view g.D.Link.Link in
+    let door = door_view g.D.Door g.D.Link.Link in
     let seen = g.P.Panel.history in
     let before = c.args.outside in
     let now = c.make_ready-ready.new.outside in
     let doors = c.make_ready-ready.new.doors.items in
     let means = c.make_ready-ready.new.means.items in
     let links = λ (d : g.row.D.Denot). option_map (map viewed) (g.D.Door.links d) in
-    let recorder : Option g.row.C.Denot → Option RecorderView = λ r. option_map (recorder_view g.C.Sink.sent g.C.Sink.synced g.C.Sink.faults g.C.Recorder.shares) r in
+    let recorder : Option g.row.C.Denot → Option RecorderView = λ r. option_map (recorder_view g.C.Sink g.C.Recorder) r in
     let back = c.idle.ensures.back in
     let made = subst (λ h. IsMade {A = Unit {0}} seen plan h (door before.door) (door now.door) (seen before.panel) (seen now.panel) (recorder before.recorder) (recorder now.recorder) (map door doors) means (Err c.in-Err.unready)) c.head.ensures (c.in-Err.ensures.made c.args.sessions) in
     let as_doors = subst (λ ds. IsMade {A = Unit {0}} seen plan c.args.journal.head (door before.door) (door now.door) (seen before.panel) (seen now.panel) (recorder before.recorder) (recorder now.recorder) ds means (Err c.in-Err.unready)) (sym back.doors_are) made in

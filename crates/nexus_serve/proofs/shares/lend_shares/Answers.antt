@@ -2,7 +2,7 @@ use Rattle.std.proofs.Common.{◌≡◌, ◌<◌, [], true, false, ap, ◌∙◌
 use Rattle.std.proofs.lemmas.List.{length-map, length-set, map-set}
 use Rattle.std.proofs.Math.Seq.{map-set_same}
 use Rattle.session_core.specs.Records.{Kept}
-use Rattle.nexus_serve.specs.Views.{RecorderView, recorder_view}
+use Rattle.nx_io.specs.Views.{RecorderView, recorder_view}
 use Rattle.nexus_serve.specs.Hosting.{kept_of}
 use Rattle.nexus_serve.proofs.Recorders.{asked_once, one_lent, over_share}
 use Rattle.nexus_serve.proofs.shares.lend_shares.Goals as goal
@@ -22,7 +22,7 @@ loop-place-preserved g c =
     let same = c.len-place-end.ensures in
     let test = c.loop-place-test.true in
     omega (arith, long, count, whole, same, test)) in
-    let view : g.row.C.Denot → RecorderView = recorder_view g.C.Sink.sent g.C.Sink.synced g.C.Sink.faults g.C.Recorder.shares in
+    let view : g.row.C.Denot → RecorderView = recorder_view g.C.Sink g.C.Recorder in
     let kept = one_lent first (kept_of items) place i.keepers.0 i.keepers.1 within in
     record {
       count = length-set items place _ ∙ i.count;

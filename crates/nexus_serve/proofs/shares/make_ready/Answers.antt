@@ -1,7 +1,7 @@
 use Rattle.std.proofs.Common.{◌≡◌, ◌∙◌, [], Err, Option, ap, replicate, map, refl, subst, length}
 use Rattle.std.specs.Prelude.{option_map}
 use Rattle.authority_ask.specs.PanelCalls.{shared}
-use Rattle.nexus_serve.specs.Views.{DoorView, RecorderView, door_view, link_view, recorder_view}
+use Rattle.nx_io.specs.Views.{DoorView, RecorderView, door_view, link_view, recorder_view}
 use Rattle.nexus_serve.specs.Hosting.{HasCalled, HasCalledPanel, HasLent, HaveShares, IsPanelShare, kept_of, panel_calls}
 use Rattle.nexus_serve.specs.Inner.Sharing.{SharesRecorder}
 use Rattle.nexus_serve.proofs.Readiness.{door_made, handed_on, panel_ready, panel_unmade, recorder_unmade}
@@ -14,7 +14,7 @@ returns-in_ok-share_recorder-in-Ready-clause-made g c =
     let shares = c.in_ok-share_panel-in-Ready.ensures in
     let lends = c.in_ok-share_recorder-in-Ready.ensures in
     let e = c.listen_and_share.ensures in
-    let viewed = link_view g.D.Link.Link.left g.D.Link.Link.taken g.D.Link.Link.sent g.D.Link.Link.over g.D.Link.Link.closed g.D.Link.Link.admitted g.D.Link.Link.place g.D.Link.Link.toward g.D.Link.Link.faults in
+    let viewed = link_view g.D.Link.Link in
     let asked = g.P.Panel.history c.args.outside.now.panel in
     let reached = g.P.Panel.history c.reach_all.new.panel in
     let asked_now = g.P.Panel.history c.share_panel.new.panel in
@@ -23,9 +23,9 @@ returns-in_ok-share_recorder-in-Ready-clause-made g c =
     let all = subst (λ cs. HasCalledPanel cs reached asked_now) shares.calls.2.1 shares.calls.1 in
     let many = subst (λ n. HasCalledPanel (replicate n shared) reached asked_now) shares.calls.2.0 all in
     let ready : HasCalledPanel (panel_calls c.args.head.now c.args.workers) asked asked_now = panel_ready c.args.head.now asked reached asked_now reach.reached c.args.workers many in
-    let called : HasCalled e.calls.0 (door_view viewed g.D.Door.links g.D.Door.origin g.D.Door.calls c.args.outside.now.door) (door_view viewed g.D.Door.links g.D.Door.origin g.D.Door.calls c.listen_and_share.new.door) = rw (e.links, e.origin, e.calls.1) refl in
+    let called : HasCalled e.calls.0 (door_view g.D.Door g.D.Link.Link c.args.outside.now.door) (door_view g.D.Door g.D.Link.Link c.listen_and_share.new.door) = rw (e.links, e.origin, e.calls.1) refl in
     let count : length means ≡ c.args.workers = as_many before means lends.panels ∙ shares.calls.2.0 in
-    let recorder : Option g.row.C.Denot → Option RecorderView = λ r. option_map (recorder_view g.C.Sink.sent g.C.Sink.synced g.C.Sink.faults g.C.Recorder.shares) r in
+    let recorder : Option g.row.C.Denot → Option RecorderView = λ r. option_map (recorder_view g.C.Sink g.C.Recorder) r in
     let recorder_now = recorder c.share_recorder.new.recorder in
     let lent : HasLent c.args.workers (recorder c.args.outside.now.recorder) recorder_now = subst (λ n. HasLent n (recorder c.args.outside.now.recorder) recorder_now) shares.calls.2.0 lends.lent.2.1 in
     let keepers : HaveShares c.args.workers (recorder c.args.outside.now.recorder) (kept_of means) = subst (λ n. HaveShares n (recorder c.args.outside.now.recorder) (kept_of means)) (lends.lent.2.0 ∙ shares.calls.2.0) lends.lent.1 in
@@ -47,9 +47,9 @@ returns-in_err-share_recorder-in-Ready-clause-panels_shared g c =
 pub returns-in_err-share_panel-in-Ready-clause-made : goal.returns-in_err-share_panel-in-Ready-clause-made
 returns-in_err-share_panel-in-Ready-clause-made g c =
     let shares = c.in_err-share_panel-in-Ready.ensures in
-    let viewed = link_view g.D.Link.Link.left g.D.Link.Link.taken g.D.Link.Link.sent g.D.Link.Link.over g.D.Link.Link.closed g.D.Link.Link.admitted g.D.Link.Link.place g.D.Link.Link.toward g.D.Link.Link.faults in
-    let door : g.row.D.Denot → DoorView = door_view viewed g.D.Door.links g.D.Door.origin g.D.Door.calls in
-    let recorder : Option g.row.C.Denot → Option RecorderView = λ r. option_map (recorder_view g.C.Sink.sent g.C.Sink.synced g.C.Sink.faults g.C.Recorder.shares) r in
+    let viewed = link_view g.D.Link.Link in
+    let door : g.row.D.Denot → DoorView = door_view g.D.Door g.D.Link.Link in
+    let recorder : Option g.row.C.Denot → Option RecorderView = λ r. option_map (recorder_view g.C.Sink g.C.Recorder) r in
     let no_doors : map door c.make_room.new.doors.items ≡ [] = ap (map door) (c.in_ok-make_room-in-Ready.ensures.items.0 ∙ c.requires.none.0) in
     λ sessions.
     panel_unmade (Unit {0}) g.P.Panel.history (record { address = c.args.address.now; patience = c.args.patience; workers = c.args.workers; sessions = sessions }) c.args.head.now (door c.args.outside.now.door) (g.P.Panel.history c.args.outside.now.panel)
@@ -61,9 +61,9 @@ returns-in_err-share_recorder-in-Ready-clause-made g c =
     let reach = c.in-Ready.ensures in
     let shares = c.in_ok-share_panel-in-Ready.ensures in
     let lends = c.in_err-share_recorder-in-Ready.ensures in
-    let viewed = link_view g.D.Link.Link.left g.D.Link.Link.taken g.D.Link.Link.sent g.D.Link.Link.over g.D.Link.Link.closed g.D.Link.Link.admitted g.D.Link.Link.place g.D.Link.Link.toward g.D.Link.Link.faults in
-    let door : g.row.D.Denot → DoorView = door_view viewed g.D.Door.links g.D.Door.origin g.D.Door.calls in
-    let recorder : Option g.row.C.Denot → Option RecorderView = λ r. option_map (recorder_view g.C.Sink.sent g.C.Sink.synced g.C.Sink.faults g.C.Recorder.shares) r in
+    let viewed = link_view g.D.Link.Link in
+    let door : g.row.D.Denot → DoorView = door_view g.D.Door g.D.Link.Link in
+    let recorder : Option g.row.C.Denot → Option RecorderView = λ r. option_map (recorder_view g.C.Sink g.C.Recorder) r in
     let no_doors : map door c.make_room.new.doors.items ≡ [] = ap (map door) (c.in_ok-make_room-in-Ready.ensures.items.0 ∙ c.requires.none.0) in
     let asked = g.P.Panel.history c.args.outside.now.panel in
     let reached = g.P.Panel.history c.reach_all.new.panel in

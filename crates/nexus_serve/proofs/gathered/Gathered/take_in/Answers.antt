@@ -1,13 +1,14 @@
 use Rattle.std.proofs.Common.{◌≡◌, ◌∷◌, [], ◌++◌, length, map, refl, sym, ◌∙◌, ap, arith}
 use Rattle.std.proofs.lemmas.List.{length-map, map-append}
-use Rattle.nexus_serve.specs.Views.{LinkView, door_view, link_view, session_view}
+use Rattle.nx_io.specs.Views.{LinkView, door_view, link_view}
+use Rattle.nexus_serve.specs.Views.{session_view}
 use Rattle.nexus_serve.proofs.Gathering.{gathered_same, passes_back, sessions_back}
 use Rattle.nexus_serve.proofs.gathered.Gathered.take_in.Goals as goal
 
 pub returns-clause-gathered : goal.returns-clause-gathered
 returns-clause-gathered g c =
-    let link : g.row.D-Link.Denot → LinkView = (link_view g.D.Link.Link.left g.D.Link.Link.taken g.D.Link.Link.sent g.D.Link.Link.over g.D.Link.Link.closed g.D.Link.Link.admitted g.D.Link.Link.place g.D.Link.Link.toward g.D.Link.Link.faults) in
-    let door = door_view link g.D.Door.links g.D.Door.origin g.D.Door.calls in
+    let link : g.row.D-Link.Denot → LinkView = (link_view g.D.Link.Link) in
+    let door = door_view g.D.Door g.D.Link.Link in
     let sessions = c.worker.inside.sessions.items in
     let used = c.worker.inside.used.items in
     let pairs : length (map (session_view link) sessions) ≡ length used = length-map sessions (session_view link) ∙ c.worker.invariant in

@@ -1,9 +1,10 @@
 use Rattle.std.proofs.Common.{◌≡◌, ◌<◌, ◌++◌, ◌∷◌, [], length, map, refl, sym, ap, ◌∙◌, arith}
 use Rattle.std.proofs.lemmas.List.{length-map, map-append}
 use Rattle.nx_io.specs.declared.doors.Next.TheVariants.{Link as NextLink, NoMore as NextNoMore, Failed as NextFailed}
+use Rattle.nx_io.specs.Views.{LinkView, link_view}
 use Rattle.nexus_serve.specs.Means.{means_history}
 use Rattle.nexus_serve.specs.declared.reporting.ServedSession.{ServedSession}
-use Rattle.nexus_serve.specs.Views.{LinkView, joined, link_view, session_view}
+use Rattle.nexus_serve.specs.Views.{joined, session_view}
 use Rattle.nexus_serve.proofs.Gathering.{joined_last}
 use Rattle.nexus_serve.proofs.Views.{answered_viewed}
 use Rattle.nexus_serve.proofs.Working.{done_failed, done_no_more, done_no_room, first_unused, heard_weaker, working_on}
@@ -25,10 +26,9 @@ returns-then-not-has_taken_room-clause-went g c start w =
 
 pub returns-in-Some-clause-went : goal.returns-in-Some-clause-went
 returns-in-Some-clause-went g c start w =
-    let link : g.row.D-Link.Denot → LinkView = (link_view g.D.Link.Link.left g.D.Link.Link.taken g.D.Link.Link.sent g.D.Link.Link.over g.D.Link.Link.closed g.D.Link.Link.admitted g.D.Link.Link.place g.D.Link.Link.toward g.D.Link.Link.faults) in
+    let link : g.row.D-Link.Denot → LinkView = (link_view g.D.Link.Link) in
     let e = c.in-Link.ensures in
-    let answered = answered_viewed g.D.Link.Link.left g.D.Link.Link.taken g.D.Link.Link.sent g.D.Link.Link.over g.D.Link.Link.closed g.D.Link.Link.admitted g.D.Link.Link.place g.D.Link.Link.toward g.D.Link.Link.faults
-    g.D.Door.links g.D.Door.origin g.D.Door.calls (NextLink c.in-Link.link) c.self.inside.door c.next.new.self e.fresh e.place e.toward e.links e.calls e.origin in
+    let answered = answered_viewed g.D.Link.Link g.D.Door (NextLink c.in-Link.link) c.self.inside.door c.next.new.self e.fresh e.place e.toward e.links e.calls e.origin in
     let told = c.serve_link-report.ensures in
     let report = c.serve_link-report.result in
     let some : g.B.BookAccess.unrecorded c.args.book.now < g.B.BookAccess.unrecorded c.serve_link-report.new.book → 0 < g.B.BookAccess.unrecorded c.serve_link-report.new.book = λ more. omega (arith, more) in
@@ -68,15 +68,13 @@ returns-in-Some-clause-went g c start w =
 pub returns-in-Failed-clause-went : goal.returns-in-Failed-clause-went
 returns-in-Failed-clause-went g c start w =
     let e = c.in-Failed.ensures in
-    let answered = answered_viewed g.D.Link.Link.left g.D.Link.Link.taken g.D.Link.Link.sent g.D.Link.Link.over g.D.Link.Link.closed g.D.Link.Link.admitted g.D.Link.Link.place g.D.Link.Link.toward g.D.Link.Link.faults
-    g.D.Door.links g.D.Door.origin g.D.Door.calls NextFailed c.self.inside.door c.next.new.self e.fresh e.place e.toward e.links e.calls e.origin in
+    let answered = answered_viewed g.D.Link.Link g.D.Door NextFailed c.self.inside.door c.next.new.self e.fresh e.place e.toward e.links e.calls e.origin in
     rw (c.has_taken_room.ensures.items.0, c.has_taken_room.ensures.items.1)
     (done_failed (means_history g.P.Panel.history) c.args.board.now start _ _ (rw (← c.self.view_is) at w) _ (rw (← c.self.view_is) at c.requires.some) answered)
 
 pub returns-in-NoMore-clause-went : goal.returns-in-NoMore-clause-went
 returns-in-NoMore-clause-went g c start w =
     let e = c.in-NoMore.ensures in
-    let answered = answered_viewed g.D.Link.Link.left g.D.Link.Link.taken g.D.Link.Link.sent g.D.Link.Link.over g.D.Link.Link.closed g.D.Link.Link.admitted g.D.Link.Link.place g.D.Link.Link.toward g.D.Link.Link.faults
-    g.D.Door.links g.D.Door.origin g.D.Door.calls NextNoMore c.self.inside.door c.next.new.self e.fresh e.place e.toward e.links e.calls e.origin in
+    let answered = answered_viewed g.D.Link.Link g.D.Door NextNoMore c.self.inside.door c.next.new.self e.fresh e.place e.toward e.links e.calls e.origin in
     rw (c.has_taken_room.ensures.items.0, c.has_taken_room.ensures.items.1)
     (done_no_more (means_history g.P.Panel.history) c.args.board.now start _ _ (rw (← c.self.view_is) at w) _ (rw (← c.self.view_is) at c.requires.some) answered)

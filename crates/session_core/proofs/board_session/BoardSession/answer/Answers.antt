@@ -3,15 +3,17 @@ use Rattle.session_core.proofs.BoardTurns.{quiet_counted}
 use Rattle.session_core.proofs.board_session.BoardSession.answer.Goals as goal
 
 -- a change asks nobody
-pub returns-in_default : goal.returns-in_default
-returns-in_default g c = record {
-  ready = rw c.requires.named at c.change.ensures.ready;
-  turn = rw since_nothing c.change.ensures.turn;
-  asked = only_nothing _;
-  noted = c.change.ensures.noted _ _;
-  book = c.change.ensures.book;
-  counted = c.change.ensures.counted;
-}
+pub returns-in_default-clause-ready : goal.returns-in_default-clause-ready
+returns-in_default-clause-ready g c = rw c.requires.named at c.change.ensures.ready
+
+pub returns-in_default-clause-turn : goal.returns-in_default-clause-turn
+returns-in_default-clause-turn g c = rw since_nothing c.change.ensures.turn
+
+pub returns-in_default-clause-asked : goal.returns-in_default-clause-asked
+returns-in_default-clause-asked g c = only_nothing _
+
+pub returns-in_default-clause-noted : goal.returns-in_default-clause-noted
+returns-in_default-clause-noted g c = c.change.ensures.noted _ _
 
 pub returns-in-Hello-clause-counted : goal.returns-in-Hello-clause-counted
 returns-in-Hello-clause-counted g c = quiet_counted _ _ _ _ c.open.ensures.book.1 c.open.ensures.recorded

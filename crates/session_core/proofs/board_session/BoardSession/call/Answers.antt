@@ -42,3 +42,16 @@ returns-in-None-clause-noted g c =
 
 pub returns-in-None-clause-counted : goal.returns-in-None-clause-counted
 returns-in-None-clause-counted g c = call_counted _ _ _ _ _ _ c.snap.ensures.book.1
+
+pub returns-in_default-clause-idle : goal.returns-in_default-clause-idle
+returns-in_default-clause-idle g c = λ broken. (refl, since_nothing (g.P.Panel.history c.args.panel.now))
+
+pub returns-then-is_broken-clause-idle : goal.returns-then-is_broken-clause-idle
+returns-then-is_broken-clause-idle g c = λ broken. (refl, since_nothing (g.P.Panel.history c.args.panel.now))
+
+-- a keeper whose record was cut off is asked for no other
+pub returns-in-Some-found-clause-idle : goal.returns-in-Some-found-clause-idle
+returns-in-Some-found-clause-idle g c = λ broken. absurd (cc (sym c.is_broken.ensures.broken ∙ c.if-is_broken.false, broken))
+
+pub returns-in-None-clause-idle : goal.returns-in-None-clause-idle
+returns-in-None-clause-idle g c = λ broken. absurd (cc (sym c.is_broken.ensures.broken ∙ c.if-is_broken.false, broken))
