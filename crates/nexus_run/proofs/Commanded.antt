@@ -2,7 +2,8 @@
 use Rattle.std.proofs.Common.{◌≡◌, ◌==◌, ◌∷◌, inl, inr, false, ℕ, List, [], Option, None, refl, sym, ap, subst, ◌∙◌}
 use Rattle.std.proofs.lemmas.Bool.Decides.{Decides-eqb}
 use Rattle.policy_history.specs.Values.{History}
-use Rattle.run_streams.specs.Runs.{SinkRun, SourceRun, sink_run}
+use Rattle.nx_io.specs.Streams.{gained}
+use Rattle.run_streams.specs.Runs.{SinkRun, SourceRun}
 use Rattle.nexus_run.specs.declared.commands.Command.TheVariants.{Check, Script, Core, Trust, Prove, Audit, Explain, Recover, Compact, Drill}
 use Rattle.nexus_run.specs.Commands.{IsDrill, IsExportCall, IsLoad, IsNamed, IsPlain, audit_words, check_words, compact_words, core_words, drill_words, explain_words, export_words, prove_words, recover_words, script_words, trust_words}
 use Rattle.nexus_run.specs.Commanded.{RunsCommand, RunsLasting}
@@ -245,13 +246,17 @@ drill_commanded {source = source} {sink = sink} {status = status} l m n are mine
 
 -- ---- Where there was no memory for the words, nothing was read or written
 
+-- what a sink did, by what it was sent and how often it failed before and after
+abbrev ran : List ℕ → List ℕ → ℕ → ℕ → SinkRun
+ran sent sent_now faults faults_now = record { sent = gained sent sent_now; faults = faults; faults_now = faults_now }
+
 -- a run, and then what becomes of its text
-pub lasting_runs : (runs : SinkRun → ℕ → Type 0) {synced : Type 0} {status : ℕ} (before now last : List ℕ) (u v w written : ℕ) → last ≡ now → runs (sink_run before now u v) written
-    → EndsLasting synced written status v w → RunsLasting runs (sink_run before last u w) synced status
+pub lasting_runs : (runs : SinkRun → ℕ → Type 0) {synced : Type 0} {status : ℕ} (before now last : List ℕ) (u v w written : ℕ) → last ≡ now → runs (ran before now u v) written
+    → EndsLasting synced written status v w → RunsLasting runs (ran before last u w) synced status
 lasting_runs runs before now last u v w written same run ends = record {
   written = written;
   faults = v;
-  runs_so = subst (λ (n : List ℕ). runs (sink_run before n u v) written) (sym same) run;
+  runs_so = subst (λ (n : List ℕ). runs (ran before n u v) written) (sym same) run;
   ends = ends;
 }
 

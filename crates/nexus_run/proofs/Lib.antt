@@ -3,5 +3,6 @@ mod LoadEnds
 mod Commanded
 pub mod ClientCalls
 mod TrueRuns
+mod Running
 mod ServiceAsks
 mod Recordings

@@ -4,8 +4,7 @@ use Rattle.run_streams.specs.Runs.{SourceRun}
 use Rattle.authority_ask.specs.PanelCalls.{PanelHistory}
 use Rattle.nexus_serve.specs.Hosting.{Plan}
 use Rattle.nexus_serve.specs.Hosting as host
-use Rattle.nexus_serve.specs.Services.{SinkView}
-use Rattle.nexus_serve.specs.Views.{DoorView, RecorderView}
+use Rattle.nx_io.specs.Views.{DoorView, RecorderView, SinkView}
 use Rattle.script_command.specs.Scripts.{HasMore}
 use Rattle.script_command.proofs.ForCallers.{more_nothing}
 use Rattle.service_commands.specs.Services.{EndedView, EndsService}

@@ -1,14 +1,16 @@
 -- The reports of a run are true.
-use Rattle.std.proofs.Common.{◌≡◌, ℕ, List, [], length, Option, Some, None}
+use Rattle.std.proofs.Common.{◌≡◌, ℕ, List, [], length, Option, Some, None, ap}
+use Rattle.nx_io.specs.Views.{DoorView, RecorderView, SinkView}
 use Rattle.policy_history.specs.declared.heads.Head.{Head}
 use Rattle.policy_history.specs.declared.events.Entry.{Entry}
 use Rattle.policy_history.specs.Values.{History, entry_trees}
 use Rattle.run_streams.specs.Runs.{SourceRun}
 use Rattle.nexus_serve.specs.Hosting.{Plan}
-use Rattle.nexus_serve.specs.Services.{IsJournal, SinkView}
+use Rattle.nexus_serve.specs.Services.{IsJournal}
 use Rattle.nexus_serve.specs.TrueReports.{AreTrue}
 use Rattle.authority_ask.specs.PanelCalls.{PanelHistory}
-use Rattle.nexus_serve.specs.Views.{DoorView, RecorderView, ReportView}
+use Rattle.nexus_serve.specs.Views.{ReportView}
+use Rattle.verdict_words.specs.Settling.{flat}
 use Rattle.nexus_serve.proofs.ForCallers.{hosts_true, none_true}
 use Rattle.service_commands.specs.Services.{EndedView, EndsService}
 use Rattle.service_commands.specs.Services as service
@@ -32,5 +34,5 @@ service_true h es (service.source_failed status unbegun output rose) is = absurd
 service_true h es (service.no_memory status unbegun output still) is = absurd (no_journal _ h es unbegun.journal is)
 
 -- a run of another command, which has no report
-pub no_report_true : (h : Head) (es : List Entry) (reports : List ReportView) → reports ≡ [] → AreTrueReports h es reports
-no_report_true h es reports none = (0, none_true h (entry_trees es) 0 reports none)
+pub no_report_true : (h : Head) (es : List Entry) (reports : List (List ReportView)) → reports ≡ [] → AreTrueReports h es (flat reports)
+no_report_true h es reports none = (0, none_true h (entry_trees es) 0 (flat reports) (ap flat none))

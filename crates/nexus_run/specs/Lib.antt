@@ -3,3 +3,4 @@ pub mod Arguments
 pub mod Lasting
 pub mod LoadRuns
 pub mod Commanded
+pub mod Runs

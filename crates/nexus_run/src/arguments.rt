@@ -1,5 +1,5 @@
 // The arguments of the program's call.
-ghost use Rattle.std.specs.Prelude.{◌≡◌, ◌++◌, ◌∷◌, [], ◌≢◌, Bool, IfOk, IsTrue, List, MatchOption, OnErr, map, ℕ};
+ghost use Rattle.std.specs.Prelude.{◌≡◌, ◌++◌, ◌∷◌, [], Bool, IfOk, IsTrue, List, MatchOption, OnErr, map, ℕ};
 ghost use Rattle.std.specs.List.{All};
 ghost use Rattle.std.specs.Str.{IsUtf8};
 ghost use Rattle.nx_io.specs.Streams.{Grows, gained};

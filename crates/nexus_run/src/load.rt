@@ -18,7 +18,7 @@ use std::thread::Threads;
 pub fn load<K: Sink>(alloc: Global, number: u64, steps: u64, output: &mut K) -> u8
     ensures sent { Grows (K.sent output.old) (K.sent output.new) }
     ensures untouched { (result ≡ 4) ⊎ (result ≡ 6) → output.new ≡ output.old }
-    ensures ends { EndsLoad (IsCoreLine number steps) (sink_run (K.sent output.old) (K.sent output.new) (K.faults output.old) (K.faults output.new)) result }
+    ensures ends { EndsLoad (IsCoreLine number steps) (sink_run K.Sink output.old output.new) result }
 {
     let Ok(text) = core_text(alloc, number, steps) else {
         return 6;
@@ -46,7 +46,7 @@ where
     requires calls { calls ≤ 4000 }
     ensures sent { Grows (K.sent output.old) (K.sent output.new) }
     ensures untouched { (result ≡ 4) ⊎ (result ≡ 6) → output.new ≡ output.old }
-    ensures ends { EndsLoad (IsDrillLine number workers calls) (sink_run (K.sent output.old) (K.sent output.new) (K.faults output.old) (K.faults output.new)) result }
+    ensures ends { EndsLoad (IsDrillLine number workers calls) (sink_run K.Sink output.old output.new) result }
 {
     let Ok(text) = drill_text(rt, alloc, number, workers, calls) else {
         return 6;

@@ -1,6 +1,7 @@
 //! The commands that are neither a service nor a talk.
 ghost use Rattle.std.specs.Prelude.{◌≡◌, ◌≢◌, ◌⊎◌, ℕ, None, length, map};
-ghost use Rattle.nx_io.specs.Streams.{Gave, Grows, gained};
+ghost use Rattle.nx_io.specs.Streams.{Grows};
+ghost use Rattle.nx_io.specs.Views.{HasGiven};
 ghost use Rattle.run_streams.specs.Runs.{sink_run, source_run};
 ghost use Rattle.nexus_run.specs.Commanded.{RunsCommand};
 ghost use Rattle.nexus_run.specs.Lasting.{EndsLasting};
@@ -56,17 +57,16 @@ where
     R: Net<Listener = TcpListener, Stream = TcpStream> + Clock + Wait + Threads + Sync,
     ensures other_words { ¬ IsPlain (map (λ w. w.now) words.now)
         → (result.status ≡ 2) × (input.new ≡ input.old) × (output.new ≡ output.old) }
-    ensures gave { Gave (S.left input.old) (S.left input.new) (S.given input.old) (S.given input.new) }
+    ensures gave { HasGiven S.Source input.old input.new }
     ensures sent { Grows (K.sent output.old) (K.sent output.new) }
     ensures recorded { Grows (C.sent records.old) (C.sent records.new) }
     ensures unrecorded { map (λ w. w.now) words.now ≢ compact_words → records.new ≡ records.old }
     ensures asked { HasMore (P.history panel) (P.history result.panel) }
     ensures untouched { (result.status ≡ 4) ⊎ (result.status ≡ 6) → output.new ≡ output.old }
     ensures command { RunsCommand (map (λ w. w.now) words.now)
-        (source_run (S.left input.old) (S.given input.old) (S.given input.new) (S.over input.new) (S.faults
-        input.old) (S.faults input.new))
-        (sink_run (K.sent output.old) (K.sent output.new) (K.faults output.old) (K.faults output.new))
-        (sink_run (C.sent records.old) (C.sent records.new) (C.faults records.old) (C.faults records.new))
+        (source_run S.Source input.old input.new)
+        (sink_run K.Sink output.old output.new)
+        (sink_run C.Sink records.old records.new)
         (K.synced output.new ≡ length (K.sent output.new))
         (panel_run (P.history panel) (P.history result.panel))
         result.journal result.status }

@@ -4,8 +4,7 @@ use Rattle.std.specs.Prelude.{option_map}
 use Rattle.std.proofs.Common.{◌≡◌, ℕ, Bool, true, false, not, List, Option, None, Some, refl, sym, ap, subst, ◌∙◌}
 use Rattle.authority_ask.specs.PanelCalls.{PanelHistory}
 use Rattle.nexus_serve.specs.Hosting.{Plan}
-use Rattle.nexus_serve.specs.Services.{SinkView}
-use Rattle.nexus_serve.specs.Views.{DoorView, RecorderView}
+use Rattle.nx_io.specs.Views.{DoorView, RecorderView, SinkView}
 use Rattle.run_streams.specs.Runs.{SourceRun}
 use Rattle.service_commands.specs.Services.{EndedView, EndsService, HandsBack, RunsService, only_where}
 use Rattle.service_commands.proofs.ServiceEnds.{IsStillUnsent, runs_service, still_unsent}

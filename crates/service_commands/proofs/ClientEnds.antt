@@ -18,7 +18,7 @@ use Rattle.nx_io.proofs.DoorCalls.{faults_more}
 use Rattle.nexus_client.specs.TalkLaws.{IsInOrder}
 use Rattle.nexus_client.specs.Talks.{link_faults_after, sink_faults_after, talk_call, Talks, done, answered, unsent, untaken, cut_off, no_reply, unwritten, no_memory as no_room}
 use Rattle.nexus_serve.specs.Hosting.{HasCalled}
-use Rattle.nexus_serve.specs.Views.{DoorView, LinkView}
+use Rattle.nx_io.specs.Views.{DoorView, LinkView}
 use Rattle.run_streams.specs.declared.outcomes.Outcome.{Outcome}
 use Rattle.run_streams.specs.declared.outcomes.Outcome.TheVariants.{Refused}
 use Rattle.run_streams.specs.Outcomes.{output_of}

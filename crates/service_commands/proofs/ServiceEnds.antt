@@ -21,8 +21,8 @@ use Rattle.authority_ask.specs.PanelCalls as panels
 use Rattle.session_core.specs.Reaching.{reached_at}
 use Rattle.nexus_serve.specs.declared.means.Means.{Means}
 use Rattle.nexus_serve.specs.Means.{means_history}
-use Rattle.nexus_serve.specs.Views.{DoorView, RecorderView}
-use Rattle.nexus_serve.specs.Services.{IsTextSent, Serves, SinkView, whole as text_whole, line_cut, end_cut, done, unopened, no_memory as nothing_served}
+use Rattle.nx_io.specs.Views.{DoorView, RecorderView, SinkView}
+use Rattle.nexus_serve.specs.Services.{IsTextSent, Serves, whole as text_whole, line_cut, end_cut, done, unopened, no_memory as nothing_served}
 use Rattle.nexus_serve.specs.Hosting.{AreReady, HasFailed, HasFailedPanel, HasFailedToLend, HasLent, HasNoneToLend, Hosts, IsHeld, Plan, no_door, no_lists, no_panel, no_recorder, not_heard, not_made, not_reached, panel_calls, ready_calls, served, some_cut_off, status_of, unheard, unlent, unreached, unready, unshared}
 use Rattle.run_streams.specs.Runs.{SourceRun, most_bytes}
 use Rattle.run_streams.proofs.ForCallers.{read_whole, not_refused, refusal_status, refused_by, apart}

@@ -9,7 +9,7 @@ use Rattle.nexus_client.specs.TalkInputs.{AreFramesOf, IsWrongLineOf}
 use Rattle.nexus_client.specs.TalkLaws.{IsInOrder}
 use Rattle.nexus_client.specs.Talks.{Talks, link_faults_after, sink_faults_after}
 use Rattle.nexus_serve.specs.Hosting.{HasCalled}
-use Rattle.nexus_serve.specs.Views.{DoorView, LinkView}
+use Rattle.nx_io.specs.Views.{DoorView, LinkView}
 use Rattle.run_streams.specs.Runs.{IsProperPart, IsReadWhole, SinkRun, SourceRun, most_bytes}
 use Rattle.run_streams.specs.declared.outcomes.Outcome.{Outcome}
 use Rattle.run_streams.specs.Outcomes.{output_of}

@@ -1,5 +1,10 @@
 -- How a run of `serve` ends: the status, what the source gave, what is handed back, and what was written.
-use Rattle.std.specs.Prelude.{◌≡◌, ◌≢◌, ◌*◌, ◌+◌, ◌-◌, ◌^◌, ◌⊎◌, ◌≤◌, ◌∷◌, ℕ, List, [], length, codes, Bool, true, false, Option, Some, None}
+use Rattle.std.specs.Prelude.{◌≡◌, ◌≢◌, ◌*◌, ◌+◌, ◌-◌, ◌^◌, ◌⊎◌, ◌≤◌, ◌∷◌, ℕ, List, [], length, codes, map, option_map, Bool, true, false, Option, Some, None}
+use Rattle.nx_io.specs.Views.{DoorView, RecorderView, SinkView, door_view, recorder_view, sink_view}
+use Rattle.nx_io.specs.declared.doors.Door.{Ghosts as DoorGhosts}
+use Rattle.nx_io.specs.declared.links.Link.{Ghosts as LinkGhosts}
+use Rattle.nx_io.specs.declared.recorders.Recorder.{Ghosts as RecorderGhosts}
+use Rattle.nx_io.specs.declared.streams.Sink.{Ghosts as SinkGhosts}
 use Rattle.nal_term.specs.Secrets.{IsSecret}
 use Rattle.nx_io.specs.DoorCalls.{faults_in}
 use Rattle.nx_io.specs.Streams.{Rose, Sends, SendsPart, one_more}
@@ -8,13 +13,14 @@ use Rattle.policy_history.specs.declared.heads.Head.{Head}
 use Rattle.policy_history.specs.Events.{EntryTree}
 use Rattle.policy_history.specs.Values.{History, entry_trees}
 use Rattle.journal_text.specs.PolicyFronts.{IsFront, IsWrongFront}
+use Rattle.verdict_words.specs.Settling.{flat}
 use Rattle.nexus_serve.specs.declared.closing.ServeEnd.{ServeEnd}
 use Rattle.nexus_serve.specs.declared.means.Means.{Means}
 use Rattle.nexus_serve.specs.Means.{means_history}
 use Rattle.authority_ask.specs.PanelCalls.{PanelHistory}
 use Rattle.authority_ask.specs.PanelCalls as panels
-use Rattle.nexus_serve.specs.Views.{DoorView, RecorderView, ReportView}
-use Rattle.nexus_serve.specs.Services.{Serves, SinkView}
+use Rattle.nexus_serve.specs.Views.{ReportView}
+use Rattle.nexus_serve.specs.Services.{Serves}
 use Rattle.nexus_serve.specs.Hosting.{AreReady, HostedView, Hosts, Plan, some_cut_off, status_of}
 use Rattle.run_streams.specs.Runs.{IsReadWhole, SourceRun, most_bytes}
 use Rattle.run_streams.specs.declared.outcomes.Outcome.{Outcome}
@@ -86,6 +92,34 @@ pub record EndedView (P C : Type 0) : Type 0 where
   pub panel : P
   pub recorder : Option RecorderView
   pub means : List (Means P C)
+
+-- what the program hands back, where its objects are told as they are: the sink, and the one for records, where they are there; the link that was
+-- dialed, if any; the shares of the door that were made, and what the workers of a service had
+pub record EndedValue (K C D L P : Type 0) : Type 0 where
+  pub status : ℕ
+  pub output : Option K
+  pub records : Option C
+  pub journal : Option History
+  pub reports : List (List ReportView)
+  pub dialed : Option L
+  pub door : D
+  pub doors : List D
+  pub panel : P
+  pub means : List (Means P C)
+
+-- the same behind a service, by what its objects tell
+abbrev pub ended_view : {K C D L P : Type 0} → SinkGhosts K → SinkGhosts C → RecorderGhosts C → DoorGhosts D L → LinkGhosts L → EndedValue K C D L P → EndedView P C
+ended_view sink sent recorder door link ended = record {
+  status = ended.status;
+  output = option_map (sink_view sink) ended.output;
+  journal = ended.journal;
+  reports = flat ended.reports;
+  door = door_view door link ended.door;
+  doors = map (door_view door link) ended.doors;
+  panel = ended.panel;
+  recorder = option_map (recorder_view sent recorder) ended.records;
+  means = ended.means;
+}
 
 -- the same as what a service at an address hands back, whose text was written whole or not, and which ended so
 abbrev pub hosted_of : {P C : Type 0} → EndedView P C → Bool → ServeEnd → HostedView P C

@@ -1,8 +1,8 @@
 //! A run of `client` or `import`.
 ghost use Rattle.std.specs.Prelude.{◌≡◌, ◌≢◌, ◌⊎◌, IfErr, IfOk, None, option_map};
-ghost use Rattle.nx_io.specs.Streams.{Gave, Grows};
+ghost use Rattle.nx_io.specs.Streams.{Grows};
 ghost use Rattle.run_streams.specs.Runs.{sink_run, source_run};
-ghost use Rattle.nexus_serve.specs.Views.{door_view, link_view};
+ghost use Rattle.nx_io.specs.Views.{HasGiven, door_view, link_view};
 ghost use Rattle.service_commands.specs.Clients.{AreRequestsOf, EndsClient, client_status, requests_form};
 ghost use Rattle.run_streams.specs.Inner.Unread.{IsUnread, faults_after_input};
 
@@ -44,16 +44,16 @@ pub fn client<R, S: Source, K: Sink, D: Door>(
 where
     R: Net<Listener = TcpListener, Stream = TcpStream> + Clock,
     D::Link: Drop,
-    ensures gave { Gave (S.left input.old) (S.left input.new) (S.given input.old) (S.given input.new) }
+    ensures gave { HasGiven S.Source input.old input.new }
     ensures sent { Grows (K.sent output.old) (K.sent output.new) }
     ensures untouched { result.dialed ≡ None → (result.status ≡ 4) ⊎ (result.status ≡ 6) → output.new ≡ output.old }
     ensures undialed { result.dialed ≡ None → result.status ≢ 7 → door.new ≡ door.old }
     ensures ends { EndsClient call.entry.input call.entry.address.now
-        (source_run (S.left input.old) (S.given input.old) (S.given input.new) (S.over input.new) (S.faults input.old) (S.faults input.new))
-        (sink_run (K.sent output.old) (K.sent output.new) (K.faults output.old) (K.faults output.new))
-        (door_view (link_view D.Link.left D.Link.taken D.Link.sent D.Link.over D.Link.closed D.Link.admitted D.Link.place D.Link.toward D.Link.faults) D.links D.origin D.calls door.old)
-        (door_view (link_view D.Link.left D.Link.taken D.Link.sent D.Link.over D.Link.closed D.Link.admitted D.Link.place D.Link.toward D.Link.faults) D.links D.origin D.calls door.new)
-        (option_map (link_view D.Link.left D.Link.taken D.Link.sent D.Link.over D.Link.closed D.Link.admitted D.Link.place D.Link.toward D.Link.faults) result.dialed) result.status }
+        (source_run S.Source input.old input.new)
+        (sink_run K.Sink output.old output.new)
+        (door_view D.Door D.Link.Link door.old)
+        (door_view D.Door D.Link.Link door.new)
+        (option_map (link_view D.Link.Link) result.dialed) result.status }
 {
     match read_requests(alloc, call.input, input) {
         Ok(requests) => {
@@ -84,11 +84,11 @@ fn read_requests<S: Source>(
     form: TalkInput,
     input: &mut S,
 ) -> Result<Requests, Unread>
-    ensures gave { Gave (S.left input.old) (S.left input.new) (S.given input.old) (S.given input.new) }
+    ensures gave { HasGiven S.Source input.old input.new }
     ensures ok { IfOk result (AreRequestsOf form
-        (source_run (S.left input.old) (S.given input.old) (S.given input.new) (S.over input.new) (S.faults input.old) (S.faults input.new))) }
+        (source_run S.Source input.old input.new)) }
     ensures err { IfErr result (IsUnread (requests_form form)
-        (source_run (S.left input.old) (S.given input.old) (S.given input.new) (S.over input.new) (S.faults input.old) (S.faults input.new))) }
+        (source_run S.Source input.old input.new)) }
     ensures count { S.faults input.new ≡ faults_after_input result (S.faults input.old) }
 {
     match read_whole(alloc, input) {

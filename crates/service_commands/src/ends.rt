@@ -6,6 +6,7 @@ use authority_ask::Panel;
 use nexus_serve::{Means, Reports};
 use nx_io::{Door, Recorder, Sink};
 use policy_history::Journal;
+use std::marker::Model;
 
 /// How the program ended, and what it hands back.
 #[derive(Drop)]
@@ -16,7 +17,7 @@ pub struct Ended<D: Door, P: Panel, C: Recorder, K: Sink> {
     pub output: Option<K>,
     /// The sink for records that was handed in. The workers of a service whose calls are recorded had shares of it.
     pub records: Option<C>,
-    /// The journal at the end, where a policy was read and its text was to be written.
+    /// The journal at the end of a service or a script, where a policy was read and its text was to be written.
     pub journal: Option<Journal>,
     /// The reports of all sessions of a service, a list for each worker.
     pub reports: Vec<Reports<D::Link>>,
@@ -31,6 +32,30 @@ pub struct Ended<D: Door, P: Panel, C: Recorder, K: Sink> {
     /// What the workers of a service had: the shares of the panel that were made, and with each who kept the records of the worker's
     /// calls, which is a share of the sink for records where they are recorded.
     pub means: Vec<Means<P, C>>,
+}
+
+impl<D: Door, P: Panel, C: Recorder, K: Sink> Model for Ended<D, P, C, K> {
+    ghost use Rattle.std.specs.Coded.{codes};
+    ghost use Rattle.nal_term.specs.contracts.terms.Term as t;
+    ghost use Rattle.nal_term.specs.contracts.formulas.Formula as f;
+    ghost use Rattle.service_commands.specs.Services.{EndedValue};
+
+    ghost Value = { EndedValue K C D D.Link P };
+
+    ghost coded = { Prim.hlevel (codes, t.the_row.coded, f.the_row.coded) };
+
+    ghost view = { λ e. record {
+      status = e.status;
+      output = e.output;
+      records = e.records;
+      journal = e.journal;
+      reports = e.reports.items;
+      dialed = e.dialed;
+      door = e.door;
+      doors = e.doors.items;
+      panel = e.panel;
+      means = e.means.items;
+    } };
 }
 
 impl<D: Door + Drop, P: Panel + Drop, C: Recorder + Drop, K: Sink + Drop> Ended<D, P, C, K>

@@ -1,14 +1,12 @@
 //! A run of `serve`.
-ghost use Rattle.std.specs.Prelude.{◌≡◌, ◌≢◌, not, ◌⊎◌, ◌≤◌, ◌+◌, ◌*◌, ◌-◌, ◌^◌, ℕ, List, [], IfErr, IfOk, None, Some, length, map, option_map};
-ghost use Rattle.nx_io.specs.Streams.{Gave};
+ghost use Rattle.std.specs.Prelude.{◌≡◌, ◌≢◌, not, ◌≤◌, ◌+◌, ◌*◌, ◌-◌, List, [], IfErr, IfOk, None, Some, length, option_map};
 ghost use Rattle.policy_history.specs.Values.{entry_trees};
 ghost use Rattle.policy_history.specs.Events.{EntryTree};
 ghost use Rattle.policy_history.specs.declared.heads.Head.{Head};
 ghost use Rattle.journal_text.specs.PolicyFronts.{AreBelow};
 ghost use Rattle.run_streams.specs.Runs.{most_bytes, source_run};
-ghost use Rattle.verdict_words.specs.Settling.{flat};
-ghost use Rattle.nexus_serve.specs.Views.{door_view, link_view, recorder_view};
-ghost use Rattle.service_commands.specs.Services.{EndsService, IsPolicy, IsPolicyOf, IsService, IsUnbegun, hosted_of, only_where, patience_in, policy_form};
+ghost use Rattle.nx_io.specs.Views.{HasGiven, door_view, recorder_view, sink_view};
+ghost use Rattle.service_commands.specs.Services.{EndsService, IsPolicy, IsPolicyOf, IsService, IsUnbegun, ended_view, hosted_of, only_where, patience_in, policy_form};
 ghost use Rattle.run_streams.specs.Inner.Unread.{faults_after_input, IsUnread};
 ghost use Rattle.service_commands.specs.Inner.ServiceEnds.{IsWrongText};
 
@@ -69,8 +67,8 @@ impl<'a> Service<'a> {
 /// the means that are handed back, and the recorder itself is sent nothing.
 ///
 /// The status is 3 where the input is refused, 4 where the source failed, and 6 where there was no memory for the input; nothing is asked
-/// of door, panel and recorder then. Else it is that of `host` of `nexus_serve`: 5 also where the recorder could not be shared, so that
-/// nobody was served; or where the record of a call was cut off, the text being whole.
+/// of door, panel and recorder then, nor with 5 where the refusal could not be written. Else it is that of `host` of `nexus_serve`: 5 also
+/// where the recorder could not be shared, so that nobody was served; or where the record of a call was cut off, the text being whole.
 // It stands apart, so that the other commands have no room on the stack for a service.
 #[inline(never)]
 pub fn run_service<R, S: Source, K, D, P, C, G>(
@@ -91,32 +89,17 @@ where
     G: Gate + Sync,
     R: Net<Listener = TcpListener, Stream = TcpStream> + Clock + Files + Wait + Threads + Sync,
     requires within { IsService service.address.now service.workers service.sessions service.patience }
-    ensures gave { Gave (S.left input.old) (S.left input.new) (S.given input.old) (S.given input.new) }
+    ensures gave { HasGiven S.Source input.old input.new }
     ensures ends { EndsService P.history (record {
       address = service.entry.address.now;
       workers = service.entry.workers;
       sessions = service.entry.sessions;
       patience = patience_in service.entry.patience;
     })
-        (source_run (S.left input.old) (S.given input.old) (S.given input.new) (S.over input.new) (S.faults
-        input.old) (S.faults input.new))
-        (record { sent = K.sent output; synced = K.synced output; faults = K.faults output }) (door_view (link_view
-        D.Link.left D.Link.taken D.Link.sent D.Link.over D.Link.closed D.Link.admitted D.Link.place
-        D.Link.toward D.Link.faults) D.links D.origin D.calls outside.door) outside.panel
-        (option_map (recorder_view C.sent C.synced C.faults C.shares) outside.recorder)
-        (record {
-          status = result.status;
-          output = option_map (λ k. record { sent = K.sent k; synced = K.synced k; faults = K.faults k }) result.output;
-          journal = result.journal;
-          reports = flat result.reports.items;
-          door = (door_view (link_view D.Link.left D.Link.taken D.Link.sent D.Link.over D.Link.closed
-              D.Link.admitted D.Link.place D.Link.toward D.Link.faults) D.links D.origin D.calls result.door);
-          doors = map (door_view (link_view D.Link.left D.Link.taken D.Link.sent D.Link.over D.Link.closed
-              D.Link.admitted D.Link.place D.Link.toward D.Link.faults) D.links D.origin D.calls) result.doors.items;
-          panel = result.panel;
-          recorder = option_map (recorder_view C.sent C.synced C.faults C.shares) result.records;
-          means = result.means.items;
-        }) }
+        (source_run S.Source input.old input.new)
+        (sink_view K.Sink output) (door_view D.Door D.Link.Link outside.door) outside.panel
+        (option_map (recorder_view C.Sink C.Recorder.own) outside.recorder)
+        (ended_view K.Sink C.Sink C.Recorder.own D.Door D.Link.Link result) }
     ensures dialed { result.dialed ≡ None }
 {
     let most = u64::MAX - 1 - service.workers * service.sessions;
@@ -145,12 +128,12 @@ where
 
 /// Reads the input of a service, in which no session's number is above the bound.
 fn read_policy_input<S: Source>(alloc: Global, input: &mut S, most: u64) -> Result<Journal, Unread>
-    ensures gave { Gave (S.left input.old) (S.left input.new) (S.given input.old) (S.given input.new) }
+    ensures gave { HasGiven S.Source input.old input.new }
     ensures ok { IfOk result (λ journal. IsPolicyOf
-        (source_run (S.left input.old) (S.given input.old) (S.given input.new) (S.over input.new) (S.faults input.old) (S.faults input.new)) most journal.head (entry_trees journal.entries)) }
+        (source_run S.Source input.old input.new) most journal.head (entry_trees journal.entries)) }
     ensures below { IfOk result (λ journal. AreBelow most (entry_trees journal.entries)) }
     ensures err { IfErr result (IsUnread (policy_form most)
-        (source_run (S.left input.old) (S.given input.old) (S.given input.new) (S.over input.new) (S.faults input.old) (S.faults input.new))) }
+        (source_run S.Source input.old input.new)) }
     ensures count { S.faults input.new ≡ faults_after_input result (S.faults input.old) }
 {
     match read_whole(alloc, input) {
@@ -180,7 +163,8 @@ fn read_policy_text(alloc: Global, text: &[u8], most: u64) -> Result<Journal, Po
     ensures ok { IfOk result (λ journal. IsPolicy most text.now journal.head (entry_trees journal.entries)) }
     ensures below { IfOk result (λ journal. AreBelow most (entry_trees journal.entries)) }
     ensures wrong { IfErr result (IsWrongText most text.now) }
-    ensures refused { IfErr result (λ e. e ≢ PolicyTextError.Memory → (h : Head) (es : List EntryTree) → ¬ IsPolicy most text.now h es) }
+    ensures refused { IfErr result
+        (λ e. e ≢ PolicyTextError.Memory → (h : Head) (es : List EntryTree) → ¬ IsPolicy most text.now h es) }
 {
     match read_front(alloc, text, most) {
         Ok(
@@ -210,19 +194,8 @@ fn ended_by<D: Door + Drop, P: Panel + Drop, C: Recorder + Drop, K: Sink + Drop>
 ) -> Ended<D, P, C, K>
 where
     D::Link: Drop,
-    ensures hosted { hosted_of (record {
-      status = result.status;
-      output = option_map (λ k. record { sent = K.sent k; synced = K.synced k; faults = K.faults k }) result.output;
-      journal = result.journal;
-      reports = flat result.reports.items;
-      door = (door_view (link_view D.Link.left D.Link.taken D.Link.sent D.Link.over D.Link.closed D.Link.admitted
-          D.Link.place D.Link.toward D.Link.faults) D.links D.origin D.calls result.door);
-      doors = map (door_view (link_view D.Link.left D.Link.taken D.Link.sent D.Link.over D.Link.closed D.Link.admitted
-          D.Link.place D.Link.toward D.Link.faults) D.links D.origin D.calls) result.doors.items;
-      panel = result.panel;
-      recorder = option_map (recorder_view C.sent C.synced C.faults C.shares) result.records;
-      means = result.means.items;
-    }) hosted.served.written hosted.served.end ≡ hosted }
+    ensures hosted { hosted_of (ended_view K.Sink C.Sink C.Recorder.own D.Door D.Link.Link result) hosted.served.written
+        hosted.served.end ≡ hosted }
     ensures dialed { result.dialed ≡ None }
 {
     let Hosted {
@@ -265,22 +238,9 @@ where
     D::Link: Drop,
     ensures status { result.status ≡ status }
     ensures output { result.output ≡ Some output }
-    ensures unbegun { IsUnbegun (door_view (link_view D.Link.left D.Link.taken D.Link.sent D.Link.over
-        D.Link.closed D.Link.admitted D.Link.place D.Link.toward D.Link.faults) D.links D.origin D.calls outside.door)
-        outside.panel (option_map (recorder_view C.sent C.synced C.faults C.shares) outside.recorder)
-        (record {
-          status = result.status;
-          output = option_map (λ k. record { sent = K.sent k; synced = K.synced k; faults = K.faults k }) result.output;
-          journal = result.journal;
-          reports = flat result.reports.items;
-          door = (door_view (link_view D.Link.left D.Link.taken D.Link.sent D.Link.over D.Link.closed
-              D.Link.admitted D.Link.place D.Link.toward D.Link.faults) D.links D.origin D.calls result.door);
-          doors = map (door_view (link_view D.Link.left D.Link.taken D.Link.sent D.Link.over D.Link.closed
-              D.Link.admitted D.Link.place D.Link.toward D.Link.faults) D.links D.origin D.calls) result.doors.items;
-          panel = result.panel;
-          recorder = option_map (recorder_view C.sent C.synced C.faults C.shares) result.records;
-          means = result.means.items;
-        }) }
+    ensures unbegun { IsUnbegun (door_view D.Door D.Link.Link outside.door)
+        outside.panel (option_map (recorder_view C.Sink C.Recorder.own) outside.recorder)
+        (ended_view K.Sink C.Sink C.Recorder.own D.Door D.Link.Link result) }
     ensures dialed { result.dialed ≡ None }
 {
     let Outside {

@@ -1,13 +1,13 @@
 use Rattle.std.proofs.Common.{refl}
 use Rattle.nx_io.proofs.ForCallers.{gained-nothing}
-use Rattle.nexus_serve.specs.Views.{link_view}
+use Rattle.nx_io.specs.Views.{link_view}
 use Rattle.service_commands.proofs.ClientEnds.{refusal_ends, talk_ends, unreached_failed, unreached_status}
 use Rattle.service_commands.proofs.clients.client.Goals as goal
 
 pub returns-in-Ok-clause-ends : goal.returns-in-Ok-clause-ends
 returns-in-Ok-clause-ends g c =
     let e = c.talk-dialed.ensures in
-    talk_ends (link_view g.D.Link.Link.left g.D.Link.Link.taken g.D.Link.Link.sent g.D.Link.Link.over g.D.Link.Link.closed g.D.Link.Link.admitted g.D.Link.Link.place g.D.Link.Link.toward g.D.Link.Link.faults) c.in-Ok.requests c.talk-dialed.result.dialed c.talk-dialed.result.end _ c.in-Ok.ensures.ok c.in-Ok.ensures.count c.status_of.ensures e.unreached
+    talk_ends (link_view g.D.Link.Link) c.in-Ok.requests c.talk-dialed.result.dialed c.talk-dialed.result.end _ c.in-Ok.ensures.ok c.in-Ok.ensures.count c.status_of.ensures e.unreached
     (λ none. rw (e.unheard none) (gained-nothing (g.K.Sink.sent c.args.output.now))) e.talks e.in_order e.closed e.toward e.place e.link_count e.output_count
     (rw (e.links, e.origin, e.calls) refl)
 

@@ -3,8 +3,7 @@ use Rattle.std.proofs.lemmas.Nat.{mul-le}
 use Rattle.std.specs.Prelude.{option_map}
 use Rattle.policy_history.specs.Values.{entry_trees}
 use Rattle.journal_text.proofs.ForCallers.{greatest_at_most}
-use Rattle.nexus_serve.specs.Views.{door_view, link_view, recorder_view}
-use Rattle.nexus_serve.specs.Services.{SinkView}
+use Rattle.nx_io.specs.Views.{SinkView, door_view, recorder_view, sink_view}
 use Rattle.nexus_serve.specs.Hosting.{Hosts, Plan}
 use Rattle.run_streams.specs.Telling.{Tells}
 use Rattle.service_commands.specs.Services.{hosted, no_memory, patience_in, source_failed}
@@ -20,28 +19,28 @@ host-requires-clause-numbers g c κs within =
 pub returns-in-Ok-clause-ends : goal.returns-in-Ok-clause-ends
 returns-in-Ok-clause-ends g c =
     let plan : Plan = record { address = c.args.service.address.now; workers = c.args.service.workers; sessions = c.args.service.sessions; patience = patience_in c.args.service.patience } in
-    let sink : SinkView = record { sent = g.K.Sink.sent c.args.output; synced = g.K.Sink.synced c.args.output; faults = g.K.Sink.faults c.args.output } in
+    let sink : SinkView = sink_view g.K.Sink c.args.output in
     hosted c.in-Ok.journal.head c.in-Ok.journal.entries c.host.result.served.written c.host.result.served.end c.in-Ok.ensures.ok c.in-Ok.ensures.count
-    (subst (λ x. Hosts g.P.Panel.history plan c.in-Ok.journal.head c.in-Ok.journal.entries sink (door_view (link_view g.D.Link.Link.left g.D.Link.Link.taken g.D.Link.Link.sent g.D.Link.Link.over g.D.Link.Link.closed g.D.Link.Link.admitted g.D.Link.Link.place g.D.Link.Link.toward g.D.Link.Link.faults) g.D.Door.links g.D.Door.origin g.D.Door.calls c.args.outside.door) c.args.outside.panel (option_map (recorder_view g.C.Sink.sent g.C.Sink.synced g.C.Sink.faults g.C.Recorder.shares) c.args.outside.recorder) x) (sym c.ended_by.ensures.hosted) (rw c.seconds.ensures at c.host.ensures.hosted))
+    (subst (λ x. Hosts g.P.Panel.history plan c.in-Ok.journal.head c.in-Ok.journal.entries sink (door_view g.D.Door g.D.Link.Link c.args.outside.door) c.args.outside.panel (option_map (recorder_view g.C.Sink g.C.Recorder) c.args.outside.recorder) x) (sym c.ended_by.ensures.hosted) (rw c.seconds.ensures at c.host.ensures.hosted))
 
 pub returns-in-Err-Refused-clause-ends : goal.returns-in-Err-Refused-clause-ends
 returns-in-Err-Refused-clause-ends g c =
-    let view : g.row.K.Denot → SinkView = λ k. record { sent = g.K.Sink.sent k; synced = g.K.Sink.synced k; faults = g.K.Sink.faults k } in
+    let view : g.row.K.Denot → SinkView = sink_view g.K.Sink in
     let refusal = rw c.in-Err-Refused.field-0-is at c.in-Err-Refused.ensures.err in
     let still = rw c.in-Err-Refused.field-0-is at c.in-Err-Refused.ensures.count in
     let told = rw c.in-Err-Refused.field-0-is at c.tell-status.ensures.told in
-    policy_refusal_ends g.P.Panel.history _ _ (view c.args.output) (door_view (link_view g.D.Link.Link.left g.D.Link.Link.taken g.D.Link.Link.sent g.D.Link.Link.over g.D.Link.Link.closed g.D.Link.Link.admitted g.D.Link.Link.place g.D.Link.Link.toward g.D.Link.Link.faults) g.D.Door.links g.D.Door.origin g.D.Door.calls c.args.outside.door) c.args.outside.panel _ _ c.in-Err-Refused.outcome (view c.tell-status.new.output) refusal still c.unserved.ensures.unbegun (ap (option_map view) c.unserved.ensures.output)
+    policy_refusal_ends g.P.Panel.history _ _ (view c.args.output) (door_view g.D.Door g.D.Link.Link c.args.outside.door) c.args.outside.panel _ _ c.in-Err-Refused.outcome (view c.tell-status.new.output) refusal still c.unserved.ensures.unbegun (ap (option_map view) c.unserved.ensures.output)
     (λ six. ap view (c.tell-status.ensures.untouched (inr (sym c.unserved.ensures.status ∙ six))))
     (subst (λ s. Tells c.in-Err-Refused.outcome (g.K.Sink.sent c.args.output) (g.K.Sink.sent c.tell-status.new.output) (g.K.Sink.faults c.args.output) (g.K.Sink.faults c.tell-status.new.output) s) (sym c.unserved.ensures.status) told)
 
 pub returns-in-Err-Failed-clause-ends : goal.returns-in-Err-Failed-clause-ends
 returns-in-Err-Failed-clause-ends g c =
-    let view : g.row.K.Denot → SinkView = λ k. record { sent = g.K.Sink.sent k; synced = g.K.Sink.synced k; faults = g.K.Sink.faults k } in
+    let view : g.row.K.Denot → SinkView = sink_view g.K.Sink in
     let e = c.unserved-in-Err-Failed.ensures in
     source_failed e.status e.unbegun (ap (option_map view) e.output) (rw c.in-Err-Failed.field-0-is at c.in-Err-Failed.ensures.count)
 
 pub returns-in-Err-Memory-clause-ends : goal.returns-in-Err-Memory-clause-ends
 returns-in-Err-Memory-clause-ends g c =
-    let view : g.row.K.Denot → SinkView = λ k. record { sent = g.K.Sink.sent k; synced = g.K.Sink.synced k; faults = g.K.Sink.faults k } in
+    let view : g.row.K.Denot → SinkView = sink_view g.K.Sink in
     let e = c.unserved-in-Err-Memory.ensures in
     no_memory e.status e.unbegun (ap (option_map view) e.output) (rw c.in-Err-Memory.field-0-is at c.in-Err-Memory.ensures.count)
