@@ -1,7 +1,7 @@
 #!/usr/bin/env python3
 """Checks the documents: that each link and each quoted path leads to a file, that the README has at most 150 lines and what is
 guaranteed at most 300, that the README of a crate begins with the head of the crate's root, that each decision is dated, and that
-prose has at most 120 columns, but in the documents that are named here.
+prose has at most 120 columns.
 
     docs/check.py      prints what is wrong, and then ends with 1
     docs/check.py --heads
@@ -15,8 +15,6 @@ import textwrap
 from pathlib import Path
 
 ROOT = Path(__file__).resolve().parents[1]
-# Documents whose lines are wider for now. The list only gets shorter.
-WIDE = {"docs/ARCHITECTURE.md", "docs/DECISIONS.md", "docs/FORMATS.md", "docs/LOGIC.md", "docs/OPERATING.md"}
 # The most lines of some documents.
 MOST_LINES = {"README.md": 150, "docs/GUARANTEES.md": 300}
 # A quoted path begins with one of these. What stands for a name is in capitals, or has a sign of a pattern.
@@ -49,10 +47,9 @@ def wrong_of(name):
     if name == "docs/DECISIONS.md":
         for lead in re.findall(r"^\*\*[^*]+\*\*(?! \*\d{4}-\d\d-\d\d\.\*)", text, re.MULTILINE):
             yield f"{name}: no day stands behind {lead}"
-    if name not in WIDE:
-        for number, line in enumerate(text.splitlines(), 1):
-            if len(line) > 120 and not line.startswith(("|", "    ")):
-                yield f"{name}:{number}: more than 120 columns"
+    for number, line in enumerate(text.splitlines(), 1):
+        if len(line) > 120 and not line.startswith(("|", "    ")):
+            yield f"{name}:{number}: more than 120 columns"
 
 
 def head_of(crate):

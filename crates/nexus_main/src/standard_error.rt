@@ -1,9 +1,7 @@
 //! Standard error as a sink for records.
-ghost use Rattle.std.specs.Prelude.{◌≡◌, ◌≢◌, ◌<◌, ◌≤◌, [], length};
-ghost use Rattle.nx_io.specs.Doors.{IfMade};
+ghost use Rattle.std.specs.Prelude.{◌≡◌, ◌<◌, ◌≤◌, [], length};
 ghost use Rattle.nx_io.specs.Readers.{HandsTo};
-ghost use Rattle.nx_io.specs.Recorders.{faults_after_share};
-ghost use Rattle.nx_io.specs.Streams.{Writes, WritesWithin, faults_after_write, one_more};
+ghost use Rattle.nx_io.specs.Streams.{Writes, WritesWithin, faults_after_write};
 
 use nx_io::{Put, Reach, Recorder, Shared, Sink, StdRecorder};
 use std::fs::{self, Files};
