@@ -1,5 +1,5 @@
 //! Two sessions over one board, the seat of its book under a lock.
-ghost use Rattle.std.specs.Prelude.{◌≡◌, ◌≢◌, ◌<◌, [], ◌∷◌, ◌++◌, length, Some, None, if◌then◌else◌};
+ghost use Rattle.std.specs.Prelude.{◌≡◌, ◌<◌, [], ◌∷◌, ◌++◌, length, Some, None, if◌then◌else◌};
 ghost use Rattle.verdict_words.specs.Histories.{own};
 ghost use Rattle.verdict_words.specs.Rule.{last_met};
 ghost use Rattle.verdict_words.specs.Values.{met_seen};
@@ -38,9 +38,12 @@ impl<N: Naming<Flag, ()>> Desk<N> {
     fn raise(&mut self, board: &Board<Flags>, pass: Pass<Flags>, flag: u64) -> (Pass<Flags>, bool)
         requires board { N.board ≡ Some board.now }
         requires pass { pass.board ≡ board.now }
-        ensures pass { (result.0.board ≡ board.now) × (result.0.session ≡ pass.session) × (result.0.seen ≡ self.new) × (last_met result.0.trail ≡ length self.new) }
-        ensures entry { self.new ≡ self.old ++ (if result.1 then record { session = pass.session; flag = flag } ∷ [] else []) }
-        ensures own { own (λ e. e.session) self.new pass.session ≡ own (λ e. e.session) (met_seen pass) pass.session ++ (if result.1 then record { session = pass.session; flag = flag } ∷ [] else []) }
+        ensures pass { (result.0.board ≡ board.now) × (result.0.session ≡ pass.session) × (result.0.seen ≡ self.new)
+            × (last_met result.0.trail ≡ length self.new) }
+        ensures entry { self.new ≡ self.old
+            ++ (if result.1 then record { session = pass.session; flag = flag } ∷ [] else []) }
+        ensures own { own (λ e. e.session) self.new pass.session ≡ own (λ e. e.session) (met_seen pass) pass.session
+            ++ (if result.1 then record { session = pass.session; flag = flag } ∷ [] else []) }
     {
         let pass = board.meet(&mut self.seat, pass);
         if pass.at() >= MOST {
@@ -68,7 +71,8 @@ fn serve<N: Naming<Flag, ()>>(
     requires pass { (pass.board ≡ board.now) × (met_seen pass ≡ []) }
     requires flag { flag < 65536 }
     ensures pass { (result.0.board ≡ board.now) × (result.0.session ≡ pass.session) }
-    ensures own { own (λ e. e.session) (met_seen result.0) pass.session ≡ (if result.1 then record { session = pass.session; flag = flag } ∷ [] else []) }
+    ensures own { own (λ e. e.session) (met_seen result.0) pass.session
+        ≡ (if result.1 then record { session = pass.session; flag = flag } ∷ [] else []) }
 {
     let (mut pass, raised) = desk.lock(rt).raise(board, pass, flag);
     let touched = board.look(&mut pass, &case_place(flag));
@@ -94,8 +98,10 @@ fn serve_both<N: Naming<Flag, ()> + Send + Sync, R: Threads + Wait + Sync>(
     requires one { (one.board ≡ board.now) × (met_seen one ≡ []) }
     requires two { (two.board ≡ board.now) × (met_seen two ≡ []) }
     ensures seen { (result.1.0.seen ≡ result.0.entries) × (result.2.0.seen ≡ result.0.entries) }
-    ensures one { own (λ e. e.session) result.0.entries one.session ≡ (if result.1.1 then record { session = one.session; flag = 7 } ∷ [] else []) }
-    ensures two { own (λ e. e.session) result.0.entries two.session ≡ (if result.2.1 then record { session = two.session; flag = 8 } ∷ [] else []) }
+    ensures one { own (λ e. e.session) result.0.entries one.session
+        ≡ (if result.1.1 then record { session = one.session; flag = 7 } ∷ [] else []) }
+    ensures two { own (λ e. e.session) result.0.entries two.session
+        ≡ (if result.2.1 then record { session = two.session; flag = 8 } ∷ [] else []) }
 {
     let desk: Mutex<Desk<N>> = Mutex::new(Desk {
         seat,
@@ -105,11 +111,15 @@ fn serve_both<N: Naming<Flag, ()> + Send + Sync, R: Threads + Wait + Sync>(
         rt,
         || -> (Pass<Flags>, bool, Look, Look)
             requires { (N.board ≡ Some board.now) × (one.board ≡ board.now) × (met_seen one ≡ []) }
-            ensures { (N.board ≡ Some result.0.board) × (result.0.session ≡ one.session) × (own (λ e. e.session) (met_seen result.0) one.session ≡ (if result.1 then record { session = one.session; flag = 7 } ∷ [] else [])) }
+            ensures { (N.board ≡ Some result.0.board) × (result.0.session ≡ one.session)
+                × (own (λ e. e.session) (met_seen result.0) one.session
+                ≡ (if result.1 then record { session = one.session; flag = 7 } ∷ [] else [])) }
         { serve(rt, board, &desk, one, 7) },
         || -> (Pass<Flags>, bool, Look, Look)
             requires { (N.board ≡ Some board.now) × (two.board ≡ board.now) × (met_seen two ≡ []) }
-            ensures { (N.board ≡ Some result.0.board) × (result.0.session ≡ two.session) × (own (λ e. e.session) (met_seen result.0) two.session ≡ (if result.1 then record { session = two.session; flag = 8 } ∷ [] else [])) }
+            ensures { (N.board ≡ Some result.0.board) × (result.0.session ≡ two.session)
+                × (own (λ e. e.session) (met_seen result.0) two.session
+                ≡ (if result.1 then record { session = two.session; flag = 8 } ∷ [] else [])) }
         { serve(rt, board, &desk, two, 8) },
     );
     let Desk { mut seat, of: _ } = desk.into_inner();
