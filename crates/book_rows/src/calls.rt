@@ -95,7 +95,8 @@ fn look<B: BookAccess>(
 // The kept verdict of a case that was snapped now, if there is one.
 fn kept_of(board: &Board<NalMatter>, pass: &mut Pass<NalMatter>, snapped: &Snapped) -> Option<Told>
     requires board { pass.old.board ≡ board.now }
-    requires snapped { (subject : ℕ) × (op object : List ℕ) × IsSnap board.now.origin.setting (entry_trees pass.old.seen) subject op object snapped.now }
+    requires snapped { (subject : ℕ) × (op object : List ℕ)
+        × IsSnap board.now.origin.setting (entry_trees pass.old.seen) subject op object snapped.now }
     ensures { pass.new.board ≡ pass.old.board }
 {
     let Snapped::Case {
@@ -143,7 +144,8 @@ fn told_of<R: Net<Listener = TcpListener, Stream = TcpStream> + Clock>(
     snapped: &Snapped,
 ) -> Told
     requires board { pass.old.board ≡ board.now }
-    requires snapped { (subject : ℕ) × (op object : List ℕ) × IsSnap board.now.origin.setting (entry_trees pass.old.seen) subject op object snapped.now }
+    requires snapped { (subject : ℕ) × (op object : List ℕ)
+        × IsSnap board.now.origin.setting (entry_trees pass.old.seen) subject op object snapped.now }
     ensures { pass.new.board ≡ pass.old.board }
 {
     match snapped {
@@ -169,7 +171,8 @@ fn judged<R: Net<Listener = TcpListener, Stream = TcpStream> + Clock>(
     place: &Option<CasePlace>,
 ) -> Told
     requires board { pass.old.board ≡ board.now }
-    requires snapped { (subject n : ℕ) × (op object : List ℕ) × IsSnapOf board.now.origin.setting (entry_trees pass.old.seen) subject op object at case.now place.now n }
+    requires snapped { (subject n : ℕ) × (op object : List ℕ)
+        × IsSnapOf board.now.origin.setting (entry_trees pass.old.seen) subject op object at case.now place.now n }
     ensures { pass.new.board ≡ pass.old.board }
 {
     let Some(finding) = finding_of(rt, alloc, case) else {
@@ -187,7 +190,8 @@ fn finding_of<R: Net<Listener = TcpListener, Stream = TcpStream> + Clock>(
     alloc: Global,
     case: &Case,
 ) -> Option<Finding>
-    ensures judged { IfSome result (λ finding. (answers : List Bool) × IsVerdict (case_tree case.now) answers (verdict_of finding)) }
+    ensures judged { IfSome result
+        (λ finding. (answers : List Bool) × IsVerdict (case_tree case.now) answers (verdict_of finding)) }
     ensures count { IfSome result (HasCount (case_tree case.now)) }
 {
     let mut panel = MemPanel::new(alloc, &[], &[], &[]).ok()?;
@@ -207,7 +211,9 @@ fn keep(
     finding: &Finding,
 )
     requires board { pass.old.board ≡ board.now }
-    requires snapped { (subject n : ℕ) × (op object : List ℕ) × IsSnapOf board.now.origin.setting (entry_trees pass.old.seen) subject op object at case.now (Some place.now) n }
+    requires snapped { (subject n : ℕ) × (op object : List ℕ)
+        × IsSnapOf board.now.origin.setting (entry_trees pass.old.seen) subject op object at case.now (Some place.now)
+        n }
     requires judged { (answers : List Bool) × IsVerdict (case_tree case.now) answers (verdict_of finding.now) }
     requires count { HasCount (case_tree case.now) finding.now }
     ensures { pass.new.board ≡ pass.old.board }

@@ -12,7 +12,7 @@ use Rattle.session_wire.specs.Frames.{most_payload, number_bytes, request_frame,
 use Rattle.session_wire.proofs.ForCallers.{request_frames_then}
 use Rattle.nexus_drill.specs.declared.outcomes.DrillTotals.{DrillTotals}
 use Rattle.nexus_drill.specs.Draws.{draw_of, next, state_after}
-use Rattle.nexus_drill.specs.Drills.{first_requests, frames_of, goal_text, is_goal_set, object, one_allowed, one_denied, one_entry, outcome_of, plus, principal, proof_text, request_of, requests_of, secret, set_after, totals, totals_of, turning, worker_draw}
+use Rattle.nexus_drill.specs.Drills.{first_requests, frames_of, goal_text, is_goal_set, object, one_allowed, one_denied, one_entry, outcome_of, principal, proof_text, request_of, requests_of, secret, set_after, totals, totals_of, turning, worker_draw}
 use Rattle.nexus_drill.proofs.Loading.{next_state}
 
 -- ---- The draws

@@ -17,7 +17,7 @@ use Rattle.service_commands.specs.Services.{EndedValue, EndsService, HandsBack, 
 use Rattle.service_commands.specs.Services as service
 use Rattle.service_commands.proofs.ForCallers.{aside_back, runs_beside, runs_client, runs_service, sink_back, sink_of}
 use Rattle.nexus_run.specs.Commanded.{RunsCommand}
-use Rattle.nexus_run.specs.Commands.{IsCommand, IsPlain, IsRecordedCall, IsServiceCall, IsTalkCall, compact_words, core_words, drill_words, script_words, serve_words, talk_words}
+use Rattle.nexus_run.specs.Commands.{IsCommand, IsServiceCall, IsTalkCall, compact_words, core_words, drill_words, script_words, serve_words, talk_words}
 use Rattle.nexus_run.specs.Runs.{Handed, Runs, Tellers}
 use Rattle.nexus_run.proofs.ClientCalls.{handed, talk_not_plain, talk_same}
 use Rattle.nexus_run.proofs.Commanded.{memory_commanded, none_commanded, other_letter}

@@ -2,7 +2,7 @@
 use Rattle.std.proofs.Common.{◌≡◌, ◌+◌, ℕ, List, inl, inr}
 use Rattle.policy_history.specs.declared.heads.Head.{Head}
 use Rattle.policy_history.specs.Events.{EntryTree}
-use Rattle.journal_text.specs.PolicyFronts.{IsFront, IsFrontError, IsWrongFront, wrong, above}
+use Rattle.journal_text.specs.PolicyFronts.{IsFront, IsFrontError, wrong, above}
 use Rattle.journal_text.specs.PolicyText.{formless, refusal}
 use Rattle.journal_text.specs.declared.policy_reader.PolicyError.TheVariants.{Bad, Refused}
 use Rattle.policy_script.specs.declared.input.ScriptError.{ScriptError}

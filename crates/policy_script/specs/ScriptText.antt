@@ -1,5 +1,5 @@
 -- What `script` writes.
-use Rattle.std.specs.Prelude.{ℕ, List, ◌++◌, ◌∷◌, []}
+use Rattle.std.specs.Prelude.{ℕ, List, ◌++◌}
 use Rattle.std.specs.List.{flat_map}
 use Rattle.policy_history.specs.declared.heads.Head.{Head}
 use Rattle.policy_history.specs.Events.{EntryTree}

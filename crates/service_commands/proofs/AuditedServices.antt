@@ -1,15 +1,12 @@
 -- What a run of `serve` recorded is audited.
 use Rattle.std.proofs.Common.{◌≡◌, ◌≤◌, ◌+◌, ◌*◌, ◌-◌, ◌^◌, ℕ, List, [], Option, Some, None, option_map, refl, sym, subst, arith}
-use Rattle.std.specs.List.{All}
 use Rattle.std.proofs.lemmas.List.Elements.{All-nil}
 use Rattle.nx_io.specs.Streams.{gained}
 use Rattle.authority_ask.specs.PanelCalls.{PanelHistory}
-use Rattle.policy_history.specs.declared.events.Entry.{Entry}
 use Rattle.policy_history.specs.Values.{entry_trees, greatest_of}
 use Rattle.journal_text.proofs.ForCallers.{greatest_at_most}
 use Rattle.kept_policies.proofs.ForCallers.{front_is_written}
 use Rattle.run_streams.specs.Runs.{SourceRun}
-use Rattle.session_core.specs.Records.{Kept}
 use Rattle.told_records.specs.Audited.{AreAudited, IsFresh}
 use Rattle.told_records.proofs.ForCallers.{fresh_keepers_are_audited}
 use Rattle.nexus_serve.specs.declared.means.Means.{Means}

@@ -1,5 +1,5 @@
 -- The entries that come of the frames of a session are kept.
-use Rattle.std.proofs.Common.{◌≡◌, ℕ, List, [], ◌∷◌, ◌++◌, refl, sym, ap, subst}
+use Rattle.std.proofs.Common.{◌≡◌, ℕ, List, [], ◌∷◌, refl, sym, subst}
 use Rattle.std.specs.List.{All}
 use Rattle.std.proofs.lemmas.List.Elements.{All-append, All-cons, All-head, All-nil, All-tail}
 use Rattle.policy_history.specs.declared.heads.Head.{Head}
@@ -11,7 +11,7 @@ use Rattle.session_wire.specs.Frames.{HasFrame}
 use Rattle.verdict_words.specs.declared.views.Item.{Item}
 use Rattle.kept_policies.proofs.ForCallers.{asked_events}
 use Rattle.session_core.specs.Standing.{Standing, beginning}
-use Rattle.session_core.specs.Told.{Answers, Calls, Changes, GivesUp, GoesUnrecorded, Judges, Leads, Turn}
+use Rattle.session_core.specs.Told.{Answers, Judges, Leads, Turn}
 use Rattle.session_core.specs.Told as told
 use Rattle.told_records.specs.Audited.{AddedAreKept, IsKeptOf}
 

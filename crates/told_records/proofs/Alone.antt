@@ -11,7 +11,7 @@ use Rattle.guard_core.specs.declared.findings.Finding.TheVariants.{Allowed as Al
 use Rattle.guard_core.specs.Judging.{verdict_of}
 use Rattle.session_wire.specs.declared.replies.Reply.{Reply}
 use Rattle.session_wire.specs.declared.replies.Reply.TheVariants.{Down, NoMemory, Refused}
-use Rattle.session_core.specs.Answers.{HasOutcome, IsCalledOn, IsJudgedCall, Outcome, found_reply}
+use Rattle.session_core.specs.Answers.{IsCalledOn, Outcome, found_reply}
 use Rattle.session_core.specs.Answers as answers
 use Rattle.session_core.specs.Told.{state_at, verdict_reply}
 use Rattle.authority_ask.specs.Panels.{Told as Ask}

@@ -19,8 +19,7 @@ use Rattle.audit_form.proofs.ForCallers.{right_lines_are_audited}
 use Rattle.journal_text.specs.CutPolicies.{ReadsCut}
 use Rattle.kept_policies.proofs.ForCallers.{recovered_is_written}
 use Rattle.session_core.specs.Records.{Kept}
-use Rattle.told_records.specs.Audited.{AreAudited, AreSent, FreshKeepersAreAudited, HaveRightLines, IsFresh, RecoversTo, RightKeepersAreAudited}
-use Rattle.told_records.specs.Recordings.{AreRightLines}
+use Rattle.told_records.specs.Audited.{AreSent, FreshKeepersAreAudited, HaveRightLines, IsFresh, RightKeepersAreAudited}
 use Rattle.told_records.proofs.OneLines.{record_line}
 
 -- a record that is right stays right, whatever entries come

@@ -18,7 +18,7 @@ use Rattle.session_wire.specs.declared.replies.Reply.{Reply}
 use Rattle.session_wire.specs.declared.replies.Reply.TheVariants.{Refused, Down, NoMemory}
 use Rattle.verdict_words.specs.declared.places.CasePlace.{CasePlace}
 use Rattle.session_core.specs.Standing.{Standing}
-use Rattle.session_core.specs.Told.{Answers, Calls, GivesUp, IsPlaceIn, Judges, Turn, state_at, verdict_reply}
+use Rattle.session_core.specs.Told.{Calls, GivesUp, IsPlaceIn, Judges, Turn, state_at, verdict_reply}
 use Rattle.session_core.specs.Told as told
 use Rattle.audit_check.specs.declared.records.Recorded.{Recorded}
 use Rattle.audit_check.specs.declared.records.Recorded.TheVariants as recorded
