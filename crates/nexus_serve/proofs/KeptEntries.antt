@@ -1,11 +1,11 @@
 -- What a service leaves is written: its policy is read again as the program writes it.
-use Rattle.std.proofs.Common.{◌≡◌, ◌≢◌, ◌<◌, ◌≤◌, ◌+◌, ◌*◌, ◌-◌, ◌^◌, ◌==◌, ℕ, suc, Bool, true, List, [], ◌∷◌, ◌++◌, Contains, drop, length, length-append, map, take, refl, sym, ap, ◌∙◌, subst, arith}
+use Rattle.std.proofs.Common.{◌≡◌, ◌<◌, ◌≤◌, ◌+◌, ◌*◌, ◌-◌, ◌^◌, ◌==◌, ℕ, true, List, [], ◌∷◌, ◌++◌, Contains, drop, length, length-append, take, refl, sym, ap, ◌∙◌, subst, arith}
 use Rattle.std.specs.List.{All}
 use Rattle.std.proofs.Math.Nat.{suc-mul}
 use Rattle.std.proofs.Math.Seq.{drop-append_seam, take-append_seam}
 use Rattle.std.proofs.lemmas.Bool.{eq-eqb}
 use Rattle.std.proofs.lemmas.List.{map-append, take-map}
-use Rattle.std.proofs.lemmas.List.Elements.{All-append, All-cons, All-contains, All-contains_itself, All-head, All-map, All-nil, All-tail, All-weaker}
+use Rattle.std.proofs.lemmas.List.Elements.{All-append, All-cons, All-contains, All-contains_itself, All-map, All-nil, All-weaker}
 use Rattle.nx_io.specs.Views.{DoorView}
 use Rattle.authority_ask.specs.Panels.{Told}
 use Rattle.policy_history.specs.declared.events.Entry.{Entry}
@@ -21,7 +21,6 @@ use Rattle.verdict_words.specs.declared.views.Item.{Item}
 use Rattle.verdict_words.specs.declared.views.Item.TheVariants.{Met}
 use Rattle.verdict_words.specs.Histories.{own}
 use Rattle.verdict_words.specs.Rule.{last_met}
-use Rattle.policy_book.specs.Books.{session_of}
 use Rattle.session_core.specs.declared.ends.SessionEnd.{SessionEnd}
 use Rattle.session_core.specs.Ends.{HasEnded}
 use Rattle.session_core.specs.Ends as ends
@@ -34,7 +33,7 @@ use Rattle.nexus_serve.specs.declared.closing.ServeEnd.{ServeEnd}
 use Rattle.nexus_serve.specs.Means.{MeansHistory}
 use Rattle.nexus_serve.specs.Views.{ReportView, reported}
 use Rattle.nexus_serve.specs.Services.{HasSeenAll, IsServed, sessions_of}
-use Rattle.nexus_serve.specs.Workers.{HasWorked, HaveWorked, Stops, Works, nobody, next}
+use Rattle.nexus_serve.specs.Workers.{HaveWorked, Stops, Works, nobody, next}
 use Rattle.nexus_serve.specs.Workers as work
 use Rattle.nexus_serve.proofs.Lists.{all_both, all_right, all_unfilter, all_unmap}
 use Rattle.nexus_serve.proofs.TruthOfReports.{IsServedReport, have_served}
