@@ -107,8 +107,9 @@ play_service() {
     expect 'an object' 'done 1 0' "$(ask storage 'object report')"
     expect 'a goal' 'done 2 0' "$(ask storage 'goal read report : storage says may_read(?subject)')"
     kill_service
-    start_service
+    RECORDS=yes start_service 2>"$work/records"
     expect 'the goal after a kill' 'denied 2 NoProof' "$(ask bob 'call read report 0')"
+    expect 'the record of this call' '2 bob read report - : denied NoProof' "$(cat "$work/records")"
     expect 'one more change' 'done 3 3' "$(ask storage 'say storage : may_read(bob)')"
     kill_service
     expect 'who may read the files' '' "$(find "$STATE_DIRECTORY" -type f -perm /077)"
