@@ -109,15 +109,15 @@ pub record EndedValue (K C D L P : Type 0) : Type 0 where
 
 -- the same behind a service, by what its objects tell
 abbrev pub ended_view : {K C D L P : Type 0} → SinkGhosts K → SinkGhosts C → RecorderGhosts C → DoorGhosts D L → LinkGhosts L → EndedValue K C D L P → EndedView P C
-ended_view sink sent recorder door link ended = record {
+ended_view output records recorder door link ended = record {
   status = ended.status;
-  output = option_map (sink_view sink) ended.output;
+  output = option_map (sink_view output) ended.output;
   journal = ended.journal;
   reports = flat ended.reports;
   door = door_view door link ended.door;
   doors = map (door_view door link) ended.doors;
   panel = ended.panel;
-  recorder = option_map (recorder_view sent recorder) ended.records;
+  recorder = option_map (recorder_view records recorder) ended.records;
   means = ended.means;
 }
 
