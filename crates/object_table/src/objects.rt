@@ -8,9 +8,9 @@ use std::alloc::{AllocError, Global};
 use std::marker::Model;
 
 /// How many objects there may be.
-pub const MOST_OBJECTS: usize = 4096;
+pub const MOST_OBJECTS: usize = 65_536;
 
-/// The objects of the service, at most 4,096. Contracts see the list of its rows, each an object's name
+/// The objects of the service, at most 65,536. Contracts see the list of its rows, each an object's name
 /// and its owner; the place of a row, from 0, is the object's number. Beside the rows they see the number
 /// `spare` of rows that there is memory for.
 #[derive(Drop)]
@@ -27,7 +27,7 @@ impl Model for ObjectTable {
 
     ghost view = { λ t. record { rows = t.rows.entries; spare = room t.rows } };
 
-    ghost invariant = { λ t. length t.rows.entries ≤ 4096 };
+    ghost invariant = { λ t. length t.rows.entries ≤ 65536 };
 }
 
 impl ObjectTable {
@@ -53,7 +53,7 @@ impl ObjectTable {
     pub fn add(&mut self, name: Name, owner: u32) -> u64
         requires room { 1 ≤ self.old.spare }
         requires fresh { number_of self.old.rows name ≡ None }
-        requires bound { length self.old.rows < 4096 }
+        requires bound { length self.old.rows < 65536 }
         ensures rows { self.new.rows ≡ self.old.rows ++ (name, owner) ∷ [] }
         ensures number { result ≡ length self.old.rows }
         ensures spare { self.old.spare ≤ self.new.spare + 1 }
@@ -88,10 +88,10 @@ impl ObjectTable {
         }
     }
 
-    /// How many objects there are: at most 4,096.
+    /// How many objects there are: at most 65,536.
     pub fn count(&self) -> u64
         ensures count { result ≡ length self.now.rows }
-        ensures bound { result ≤ 4096 }
+        ensures bound { result ≤ 65536 }
     {
         self.rows.len() as u64
     }

@@ -122,7 +122,7 @@ pub held-set_value_at : (ops : List (List ℕ)) (es : List Entry) (i : ℕ) (w :
 held-set_value_at ops es i w held = record {
   distinct = held.distinct;
   places = All-from_recursion (IsPlacedBelow (length ops)) (set_value_at es i w) (kept es i (recursion_from_All (IsPlacedBelow (length ops)) es held.places));
-  bound = subst (λ n. n ≤ 65536) (sym (same_count es i)) held.bound;
+  bound = subst (λ n. n ≤ 262144) (sym (same_count es i)) held.bound;
 }
   where
     kept : (fs : List Entry) (j : ℕ) → AllByRecursion (IsPlacedBelow (length ops)) fs → AllByRecursion (IsPlacedBelow (length ops)) (set_value_at fs j w)
@@ -206,7 +206,7 @@ module _ (ops ops' : List (List ℕ)) (among : Bool) (op : List ℕ) (put : ops'
         by true rest = (h.0, h.1)
         by false rest = (h.0, rest)
 
-    count : (o : Option ℕ) → number_of (rows_in ops es) subject op object ≡ o → (number_of (rows_in ops es) subject op object ≡ None → length (rows_in ops es) < 65536) → length es ≤ 65536 → length es' ≤ 65536
+    count : (o : Option ℕ) → number_of (rows_in ops es) subject op object ≡ o → (number_of (rows_in ops es) subject op object ≡ None → length (rows_in ops es) < 262144) → length es ≤ 262144 → length es' ≤ 262144
     count None n room bound =
         let longer = ap length (set_fresh n).1 in
         let was = room n in
@@ -215,7 +215,7 @@ module _ (ops ops' : List (List ℕ)) (among : Bool) (op : List ℕ) (put : ops'
         let same = ap length (set_known k n).1 in
         omega (arith, sym (length-rows ops' es'), same, length-set (rows_in ops es) k new_row, length-rows ops es, bound)
 
-    pub set_held : (number_of (rows_in ops es) subject op object ≡ None → length (rows_in ops es) < 65536) → length es ≤ 65536 → AreHeld ops' es'
+    pub set_held : (number_of (rows_in ops es) subject op object ≡ None → length (rows_in ops es) < 262144) → length es ≤ 262144 → AreHeld ops' es'
     set_held room bound = record {
       distinct = distinct;
       places = subst (HasPlaces ops') (sym entries) (All-from_recursion IsPlaced (insert_entry same_key es key (Some proof)) (puts es (recursion_from_All IsPlaced es places_still)));

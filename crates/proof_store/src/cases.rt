@@ -11,9 +11,9 @@ use std::alloc::{AllocError, Global};
 use std::marker::Model;
 
 /// How many cases there may be.
-pub const MOST_CASES: usize = 65_536;
+pub const MOST_CASES: usize = 262_144;
 
-/// The proofs of the service, at most 65,536. Contracts see the list of its rows, each a subject, an
+/// The proofs of the service, at most 262,144. Contracts see the list of its rows, each a subject, an
 /// operation, an object and a proof or none; the place of a row, from 0, is its case number, which no other
 /// row is ever given. Beside the rows they see the number `spare` of rows that there is memory for.
 #[derive(Drop)]
@@ -69,7 +69,7 @@ impl ProofStore {
     /// their row, or in a new row, which goes last. It takes no memory.
     pub fn set(&mut self, subject: u32, op: Name, object: u64, proof: Proof) -> u64
         requires room { 1 ≤ self.old.spare }
-        requires bound { number_of (rows self.old) subject op object ≡ None → length (rows self.old) < 65536 }
+        requires bound { number_of (rows self.old) subject op object ≡ None → length (rows self.old) < 262144 }
         ensures known { (k : ℕ) → number_of (rows self.old) subject op object ≡ Some k
             → (result ≡ k)
             × (rows self.new ≡ slice_set (rows self.old) k (subject, op, object, Some (line_trees proof))) }
@@ -135,10 +135,10 @@ impl ProofStore {
         self.cases[case as usize].as_ref()
     }
 
-    /// How many cases there are: at most 65,536.
+    /// How many cases there are: at most 262,144.
     pub fn count(&self) -> u64
         ensures count { result ≡ length (rows self.now) }
-        ensures bound { result ≤ 65536 }
+        ensures bound { result ≤ 262144 }
     {
         self.cases.len() as u64
     }

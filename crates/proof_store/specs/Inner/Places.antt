@@ -12,4 +12,4 @@ HasPlaces ops es = All (λ (e : Entry). e.0.1 < length ops) es
 pub record AreHeld (ops : List (List ℕ)) (es : List Entry) : Type 0 where
   pub distinct : IsDistinct same_bytes ops
   pub places : HasPlaces ops es
-  pub bound : length es ≤ 65536
+  pub bound : length es ≤ 262144

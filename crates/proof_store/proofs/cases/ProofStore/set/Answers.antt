@@ -15,7 +15,7 @@ invariant_of-self c =
     let cases = c.insert_full-2.ensures in
     let entries = rw number at cases.entries in
     let index = rw number at cases.index in
-    let room = subst (λ s. number_of (rows s) c.args.subject c.args.op c.args.object ≡ None → length (rows s) < 65536) (sym c.self.view_is) c.requires.bound in
+    let room = subst (λ s. number_of (rows s) c.args.subject c.args.op c.args.object ≡ None → length (rows s) < 262144) (sym c.self.view_is) c.requires.bound in
     set_held c.self.inside.ops.keys c.insert_full.new.self.keys (list_any (same_bytes c.args.op) c.self.inside.ops.keys) c.args.op keys ops.unique
     c.self.inside.cases.entries c.self.invariant.places c.args.subject c.args.object c.unwrap-place.result.0 stored c.args.proof
     c.insert_full-2.new.self.entries c.unwrap-number.result.0 entries index room c.self.invariant.bound
