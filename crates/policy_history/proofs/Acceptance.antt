@@ -7,8 +7,8 @@ use Rattle.policy_history.specs.declared.tallies.Tally.{Tally}
 use Rattle.policy_history.specs.Events.{EventTree, say, transfer, delete, new_object, set_goal, clear_goal, set_proof, clear_proof, bind, unbind, name_of}
 use Rattle.policy_history.specs.PolicyLines.{entry_line}
 use Rattle.policy_history.specs.declared.events.Refusal.{Refusal}
-use Rattle.policy_history.specs.declared.events.Refusal.TheVariants.{NoSuchPrincipal, NotYourPrincipal, NoSuchLabel, NotHolder, NoSuchObject, NameTaken, NotOwner, NoGoal, NoSuchProof, NoBinding, BadPort, BadFormula, BadProof, Quota, ObjectsFull, CasesFull, NotRecorded}
-use Rattle.policy_history.specs.Machine.{applies, changed, is_spent, refusal_of, refusals}
+use Rattle.policy_history.specs.declared.events.Refusal.TheVariants.{NoSuchPrincipal, NotYourPrincipal, NoSuchLabel, NotHolder, NoSuchObject, NameTaken, NotOwner, NoGoal, NoSuchProof, NoBinding, BadPort, BadFormula, BadProof, Quota, JournalFull, ObjectsFull, CasesFull, NotRecorded}
+use Rattle.policy_history.specs.Machine.{applies, changed, is_full, is_spent, refusal_of, refusals}
 use Rattle.policy_history.specs.States.{State, tally_of}
 
 or_left : (a b : Bool) → (a || b) ≡ false → a ≡ false
@@ -31,6 +31,13 @@ pub unspent : (t : Tally) (n : ℕ) → is_spent t n ≡ false → (t.entries < 
 unspent t n e = (
   below 4096 t.entries (or_left (nat_le 4096 t.entries) (nat_lt 524288 (t.bytes + n)) e),
   ltb-false 524288 (t.bytes + n) (or_right (nat_le 4096 t.entries) (nat_lt 524288 (t.bytes + n)) e),
+)
+
+-- the journal may have one more line of this length
+pub fitting : (s : State) (n : ℕ) → is_full s n ≡ false → (s.entries < 262144) × (s.bytes + n ≤ 33554432)
+fitting s n e = (
+  below 262144 s.entries (or_left (nat_le 262144 s.entries) (nat_lt 33554432 (s.bytes + n)) e),
+  ltb-false 33554432 (s.bytes + n) (or_right (nat_le 262144 s.entries) (nat_lt 33554432 (s.bytes + n)) e),
 )
 
 -- an event changes no tally, and counts no entry
@@ -70,6 +77,24 @@ changed_entries h s p (bind None port) = refl
 changed_entries h s p (unbind (Some t)) = refl
 changed_entries h s p (unbind None) = refl
 
+pub changed_bytes : (h : Head) (s : State) (p : ℕ) (e : EventTree) → (changed h s p e).bytes ≡ s.bytes
+changed_bytes h s p (say (Some t) (Some f)) = refl
+changed_bytes h s p (say None f) = refl
+changed_bytes h s p (say (Some t) None) = refl
+changed_bytes h s p (transfer k to) = refl
+changed_bytes h s p (delete k) = refl
+changed_bytes h s p (new_object x) = refl
+changed_bytes h s p (set_goal op object (Some g)) = refl
+changed_bytes h s p (set_goal op object None) = refl
+changed_bytes h s p (clear_goal op object) = refl
+changed_bytes h s p (set_proof op object (Some ls)) = refl
+changed_bytes h s p (set_proof op object None) = refl
+changed_bytes h s p (clear_proof op object) = refl
+changed_bytes h s p (bind (Some t) port) = refl
+changed_bytes h s p (bind None port) = refl
+changed_bytes h s p (unbind (Some t)) = refl
+changed_bytes h s p (unbind None) = refl
+
 -- what each event that is accepted has in common
 pub quota_of : (h : Head) (s : State) (session p : ℕ) (e : EventTree) → applies h s session p e Quota ≡ is_spent (tally_of s p) (length (entry_line session (name_of h.principals p) e))
 quota_of h s session p (say t f) = refl
@@ -83,9 +108,26 @@ quota_of h s session p (clear_proof op object) = refl
 quota_of h s session p (bind t port) = refl
 quota_of h s session p (unbind t) = refl
 
+pub full_of : (h : Head) (s : State) (session p : ℕ) (e : EventTree) → applies h s session p e JournalFull ≡ is_full s (length (entry_line session (name_of h.principals p) e))
+full_of h s session p (say t f) = refl
+full_of h s session p (transfer k to) = refl
+full_of h s session p (delete k) = refl
+full_of h s session p (new_object x) = refl
+full_of h s session p (set_goal op object g) = refl
+full_of h s session p (clear_goal op object) = refl
+full_of h s session p (set_proof op object ls) = refl
+full_of h s session p (clear_proof op object) = refl
+full_of h s session p (bind t port) = refl
+full_of h s session p (unbind t) = refl
+
 pub line_unspent : (h : Head) (s : State) (session p : ℕ) (e : EventTree) → applies h s session p e Quota ≡ false
     → ((tally_of s p).entries < 4096) × ((tally_of s p).bytes + length (entry_line session (name_of h.principals p) e) ≤ 524288)
 line_unspent h s session p e free = unspent (tally_of s p) (length (entry_line session (name_of h.principals p) e)) (sym (quota_of h s session p e) ∙ free)
+
+-- there is room for the line in the journal
+pub line_fits : (h : Head) (s : State) (session p : ℕ) (e : EventTree) → applies h s session p e JournalFull ≡ false
+    → (s.entries < 262144) × (s.bytes + length (entry_line session (name_of h.principals p) e) ≤ 33554432)
+line_fits h s session p e free = fitting s (length (entry_line session (name_of h.principals p) e)) (sym (full_of h s session p e) ∙ free)
 
 -- no event is refused with `NotRecorded`
 pub never_unrecorded : (h : Head) (s : State) (session p : ℕ) (e : EventTree) → applies h s session p e NotRecorded ≡ false
@@ -134,8 +176,9 @@ none_applies h s session p e free BadPort = find_none_at (applies h s session p 
 none_applies h s session p e free BadFormula = find_none_at (applies h s session p e) refusals 11 BadFormula free (omega arith)
 none_applies h s session p e free BadProof = find_none_at (applies h s session p e) refusals 12 BadProof free (omega arith)
 none_applies h s session p e free Quota = find_none_at (applies h s session p e) refusals 13 Quota free (omega arith)
-none_applies h s session p e free ObjectsFull = find_none_at (applies h s session p e) refusals 14 ObjectsFull free (omega arith)
-none_applies h s session p e free CasesFull = find_none_at (applies h s session p e) refusals 15 CasesFull free (omega arith)
+none_applies h s session p e free JournalFull = find_none_at (applies h s session p e) refusals 14 JournalFull free (omega arith)
+none_applies h s session p e free ObjectsFull = find_none_at (applies h s session p e) refusals 15 ObjectsFull free (omega arith)
+none_applies h s session p e free CasesFull = find_none_at (applies h s session p e) refusals 16 CasesFull free (omega arith)
 none_applies h s session p e free NotRecorded = never_unrecorded h s session p e
 
 pub free_where : (h : Head) (s : State) (session p : ℕ) (e : EventTree) → ((refusal : Refusal) → applies h s session p e refusal ≡ false) → refusal_of h s session p e ≡ None

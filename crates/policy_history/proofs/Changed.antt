@@ -46,7 +46,7 @@ and_left : (a b : Bool) → (a && b) ≡ true → a ≡ true
 and_left true b e = refl
 and_left false b e = e
 
-and_right : (a b : Bool) → (a && b) ≡ true → b ≡ true
+pub and_right : (a b : Bool) → (a && b) ≡ true → b ≡ true
 and_right true b e = e
 and_right false b e = absurd (cc e)
 
@@ -58,9 +58,9 @@ short_of most n e = of (cases_lt n most)
     of (inr h) = absurd (cc (le-leb most n h, e))
 
 -- a new case has room
-pub cases_room : (o : Option ℕ) (f : ℕ → Option ℕ) (n : ℕ) → is_none o ≡ false → (is_none (option_and_then f o) && nat_le 65536 n) ≡ false → f (unwrap_or o 0) ≡ None → n < 65536
+pub cases_room : (o : Option ℕ) (f : ℕ → Option ℕ) (n : ℕ) → is_none o ≡ false → (is_none (option_and_then f o) && nat_le 262144 n) ≡ false → f (unwrap_or o 0) ≡ None → n < 262144
 cases_room None f n known room none = absurd (cc known)
-cases_room (Some k) f n known room none = short_of 65536 n (both_true (is_none (f k)) (nat_le 65536 n) (rw none refl) room)
+cases_room (Some k) f n known room none = short_of 262144 n (both_true (is_none (f k)) (nat_le 262144 n) (rw none refl) room)
 
 -- who is spelled, and not without a port, has one
 pub bound_there : {X : Type 0} (a : Bool) (o : Option X) → not a ≡ false → (a && is_none o) ≡ false → is_some o ≡ true

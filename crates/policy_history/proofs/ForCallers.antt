@@ -27,9 +27,10 @@ use Rattle.policy_history.proofs.Staying as staying
 pub use Rattle.policy_history.proofs.Staying.{objects_stay, case_numbers_stay, kept_by_all}
 pub use Rattle.policy_history.proofs.Changed.{same_triple}
 pub use Rattle.policy_history.proofs.Soundness.{accepted_after, replay_accepted}
--- a change of a table counts no entry; and when a principal has used up what it may add
-pub use Rattle.policy_history.proofs.Acceptance.{changed_entries, quota_of}
--- there are at most 65,536 cases
+-- a change of a table counts no entry and no byte; when a principal has used up what it may add, and the journal is full; and no
+-- event is refused as not recorded
+pub use Rattle.policy_history.proofs.Acceptance.{changed_bytes, changed_entries, fitting, full_of, never_unrecorded, quota_of, unspent}
+-- there are at most 262,144 cases
 pub use Rattle.policy_history.proofs.Bounds.{cases_bounded}
 -- the beginnings of a legal list
 pub use Rattle.policy_history.proofs.Replaying.{accepted_at, take_one_more}
@@ -50,7 +51,7 @@ pub replay_more : (h : Head) (es : List EntryTree) (e : EntryTree) → replay h 
 replay_more h es e = soundness.replay_more h (empty_state h) es e
 
 -- the lines of a legal list are at most 33,554,432 bytes together
-pub lines_bounded : (h : Head) (es : List EntryTree) → IsLegal h es → length h.principals ≤ 64
+pub lines_bounded : (h : Head) (es : List EntryTree) → IsLegal h es
     → length (flat_map (λ (e : EntryTree). entry_line e.session (name_of h.principals e.principal) e.event) es) ≤ 33554432
 lines_bounded = bytes.lines_bounded
 
@@ -70,13 +71,13 @@ right_stays = right.right_stays
 pub cases_stay : CasesStay
 cases_stay = staying.cases_stay
 
--- an object that has a number is one of 4,096
-pub object_there : (h : Head) (es : List EntryTree) (name : List ℕ) (k : ℕ) → number_of (replay h es).objects name ≡ Some k → k < 4096
+-- an object that has a number is one of 65,536
+pub object_there : (h : Head) (es : List EntryTree) (name : List ℕ) (k : ℕ) → number_of (replay h es).objects name ≡ Some k → k < 65536
 object_there = bounds.object_there
 
--- a case that has a number is the row in this place, of the subject, the operation and the object, one of 65,536
+-- a case that has a number is the row in this place, of the subject, the operation and the object, one of 262,144
 pub case_there : (h : Head) (es : List EntryTree) (subject : ℕ) (op : List ℕ) (object k : ℕ) → case_number (replay h es).cases subject op object ≡ Some k
-    → (row : CaseRow) × (slice_get (replay h es).cases k ≡ Some row) × (row.0 ≡ subject) × (row.1 ≡ op) × (row.2 ≡ object) × (k < 65536)
+    → (row : CaseRow) × (slice_get (replay h es).cases k ≡ Some row) × (row.0 ≡ subject) × (row.1 ≡ op) × (row.2 ≡ object) × (k < 262144)
 case_there = bounds.case_there
 
 -- a verdict that lasts rests on no answer

@@ -15,7 +15,7 @@ use Rattle.policy_history.specs.declared.heads.Authority.{Authority}
 
 -- the parts of a longer list
 module _ {X : Type 0} (R : X → X → Type 0) (xs : List X) (y d : X) where
-  pairs_before : AllPairs R (xs ++ y ∷ []) → (k : ℕ) → k < length xs → R (get_or xs k d) y
+  pub pairs_before : AllPairs R (xs ++ y ∷ []) → (k : ℕ) → k < length xs → R (get_or xs k d) y
   pairs_before pairs k below =
       let e = get_or_append_left xs (y ∷ []) d k below in
       let f = get_or_push xs y d (length xs) refl in
@@ -28,15 +28,15 @@ fresh_name xs y none k d below same =
     let fails = fails_at (λ (x : Principal). same_bytes y.name x.name) xs k d below none in
     absurd (cc (fails, (same_bytes-Decides y.name (get_or xs k d).name).1 (sym same)))
 
--- one more principal may be added where there are fewer than 64 and none has its name
-pub principals_more : (xs : List Principal) (y : Principal) → ArePrincipals xs → length xs < 64 → numbered xs y.name ≡ None → ArePrincipals (xs ++ y ∷ [])
+-- one more principal may be added where there are fewer than 16,384 and none has its name
+pub principals_more : (xs : List Principal) (y : Principal) → ArePrincipals xs → length xs < 16384 → numbered xs y.name ≡ None → ArePrincipals (xs ++ y ∷ [])
 principals_more xs y are short none = record {
   bound = let l = length-append xs (y ∷ []) in omega (arith, l);
   distinct = all_pairs_push (λ (x z : Principal). x.name ≢ z.name) xs y are.distinct (fresh_name xs y none);
 }
 
--- and may not where there are 64
-pub principals_full : (xs : List Principal) (y : Principal) → 64 ≤ length xs → ArePrincipals (xs ++ y ∷ []) → ⊥
+-- and may not where there are 16,384
+pub principals_full : (xs : List Principal) (y : Principal) → 16384 ≤ length xs → ArePrincipals (xs ++ y ∷ []) → ⊥
 principals_full xs y full are = let l = length-append xs (y ∷ []) in absurd (omega (arith, l, full, are.bound))
 
 -- or where one has its name

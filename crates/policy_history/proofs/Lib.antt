@@ -1,4 +1,6 @@
 pub mod HeadLists
+pub mod PrincipalNames
+pub mod SameBytes
 pub mod Limits
 pub mod RowLists
 pub mod Changed

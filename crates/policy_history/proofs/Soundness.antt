@@ -1,17 +1,15 @@
 -- Each list of entries leads to a sound state.
-use Rattle.std.proofs.Common.{◌≡◌, ◌<◌, ◌≤◌, ◌+◌, ◌*◌, ◌⊎◌, inl, inr, ℕ, zero, suc, Bool, true, false, List, [], ◌∷◌, ◌++◌, length, map, get_or, nat_lt, lt-ltb, max, Option, Some, None, Result, Ok, Err, unwrap_or, refl, sym, ap, ◌∙◌, subst, arith}
-use Rattle.std.specs.List.{All, sum_by}
+use Rattle.std.proofs.Common.{◌≡◌, ◌<◌, ◌≤◌, ◌+◌, ◌⊎◌, inl, inr, ℕ, zero, suc, Bool, true, false, List, [], ◌∷◌, ◌++◌, length, map, nat_lt, lt-ltb, max, Option, Some, None, Result, Ok, Err, unwrap_or, refl, sym, ap, ◌∙◌, subst, arith}
+use Rattle.std.specs.List.{All}
 use Rattle.std.proofs.lemmas.Bool.{ltb-true}
 use Rattle.std.proofs.lemmas.List.{length-map, length-set}
 use Rattle.std.proofs.lemmas.List.Elements.{All-nil, All-cons, All-head, All-tail, All-set, All-push}
-use Rattle.std.proofs.lemmas.List.Sums.{sum_by-cons, sum_by-set}
-use Rattle.std.proofs.lemmas.Option.{unwrap_or-slice_get}
 use Rattle.nal_term.specs.Trees.{says}
 use Rattle.label_store.specs.LabelRows.{LabelRow, has_number}
 use Rattle.policy_history.specs.declared.heads.Head.{Head}
 use Rattle.policy_history.specs.declared.heads.Principal.{Principal}
 use Rattle.policy_history.specs.declared.events.Refusal.{Refusal}
-use Rattle.policy_history.specs.declared.events.Refusal.TheVariants.{Quota}
+use Rattle.policy_history.specs.declared.events.Refusal.TheVariants.{Quota, JournalFull}
 use Rattle.policy_history.specs.declared.tallies.Tally.{Tally}
 use Rattle.policy_history.specs.Events.{EventTree, EntryTree, say, transfer, delete, new_object, set_goal, clear_goal, set_proof, clear_proof, bind, unbind, name_of, numbered}
 use Rattle.policy_history.specs.PolicyLines.{entry_line}
@@ -21,7 +19,7 @@ use Rattle.policy_history.specs.Values.{greatest_from}
 use Rattle.policy_history.specs.Rows.{alter, take_out}
 use Rattle.policy_history.specs.Inner.Sound.{IsSound, IsWithin}
 use Rattle.policy_history.specs.States.{State, empty_state, tally_of}
-use Rattle.policy_history.proofs.Acceptance.{changed_entries, changed_tallies, line_unspent, none_applies}
+use Rattle.policy_history.proofs.Acceptance.{changed_bytes, changed_entries, changed_tallies, line_fits, line_unspent, none_applies}
 
 module _ {R : Type 0} (P : R → Type 0) (p : R → Bool) where
   -- what holds of each row holds after one is changed, or goes
@@ -70,35 +68,34 @@ labels_changed h s p (unbind None) all = more s.entries s.labels all
 
 -- ---- What principals have added
 
-abbrev added : Tally → ℕ
-added t = t.entries
-
 abbrev nothing : Tally
 nothing = record { entries = 0; bytes = 0 }
 
 -- one more entry of a principal
-counted_sound : (h : Head) (s : State) (p b : ℕ) → p < length h.principals → length s.tallies ≡ length h.principals → All IsWithin s.tallies → sum_by added s.tallies ≡ s.entries
-    → All (IsBelow (s.entries + 1)) s.labels → (tally_of s p).entries < 4096 → (tally_of s p).bytes + b ≤ 524288 → IsSound h (counted s p b)
-counted_sound h s p b below long each total numbers some few =
+counted_sound : (h : Head) (s : State) (p b : ℕ) → length s.tallies ≡ length h.principals → All IsWithin s.tallies
+    → All (IsBelow (s.entries + 1)) s.labels → (tally_of s p).entries < 4096 → (tally_of s p).bytes + b ≤ 524288
+    → s.entries < 262144 → s.bytes + b ≤ 33554432 → IsSound h (counted s p b)
+counted_sound h s p b long each numbers some few fewer short =
     let grown : Tally = record { entries = (tally_of s p).entries + 1; bytes = (tally_of s p).bytes + b } in
-    let within : p < length s.tallies = omega (arith, below, long) in
-    let sums = sum_by-set added s.tallies p grown nothing within in
-    let had : (tally_of s p).entries ≡ (get_or s.tallies p nothing).entries = ap (λ (t : Tally). t.entries) (unwrap_or-slice_get s.tallies p nothing) in
     record {
       numbers = numbers;
       tallies = length-set s.tallies p grown ∙ long;
       each = All-set IsWithin s.tallies p grown (omega (arith, some), few) each;
-      total = omega (arith, sums, had, total);
+      entries_bound = omega (arith, fewer);
+      bytes_bound = short;
     }
 
-pub sound_accepted : (h : Head) (s : State) (session p : ℕ) (e : EventTree) → p < length h.principals → applies h s session p e Quota ≡ false → IsSound h s → IsSound h (accepted h s session p e)
-sound_accepted h s session p e below free sound =
+pub sound_accepted : (h : Head) (s : State) (session p : ℕ) (e : EventTree) → applies h s session p e Quota ≡ false → applies h s session p e JournalFull ≡ false
+    → IsSound h s → IsSound h (accepted h s session p e)
+sound_accepted h s session p e unspent fits sound =
     let c = changed h s p e in
     let ts : c.tallies ≡ s.tallies = changed_tallies h s p e in
     let es : c.entries ≡ s.entries = changed_entries h s p e in
-    let room = line_unspent h s session p e free in
-    counted_sound h c p (length (entry_line session (name_of h.principals p) e)) below (ap length ts ∙ sound.tallies) (rw ts sound.each) (ap (sum_by added) ts ∙ sound.total ∙ sym es)
-    (rw es (labels_changed h s p e sound.numbers)) (rw ts room.0) (rw ts room.1)
+    let bs : c.bytes ≡ s.bytes = changed_bytes h s p e in
+    let room = line_unspent h s session p e unspent in
+    let space = line_fits h s session p e fits in
+    counted_sound h c p (length (entry_line session (name_of h.principals p) e)) (ap length ts ∙ sound.tallies) (rw ts sound.each)
+    (rw es (labels_changed h s p e sound.numbers)) (rw ts room.0) (rw ts room.1) (rw es space.0) (rw bs space.1)
 
 -- ---- Lists of entries
 
@@ -127,15 +124,11 @@ sound_after h s e sound = of (after_cases h s e)
   where
     of : (after h s e ≡ s) ⊎ ((e.principal < length h.principals) × (refusal_of h s e.session e.principal e.event ≡ None) × (after h s e ≡ accepted h s e.session e.principal e.event)) → IsSound h (after h s e)
     of (inl same) = subst (IsSound h) (sym same) sound
-    of (inr (below, free, same)) = subst (IsSound h) (sym same) (sound_accepted h s e.session e.principal e.event below (none_applies h s e.session e.principal e.event free Quota) sound)
+    of (inr (below, free, same)) = subst (IsSound h) (sym same) (sound_accepted h s e.session e.principal e.event (none_applies h s e.session e.principal e.event free Quota) (none_applies h s e.session e.principal e.event free JournalFull) sound)
 
 sound_from : (h : Head) (s : State) (es : List EntryTree) → IsSound h s → IsSound h (replay_from h s es)
 sound_from h s [] sound = sound
 sound_from h s (e ∷ es) sound = sound_from h (after h s e) es (sound_after h s e sound)
-
-no_sum : (xs : List Principal) → sum_by added (map (λ (x : Principal). nothing) xs) ≡ 0
-no_sum [] = refl
-no_sum (x ∷ xs) = no_sum xs
 
 within_none : (xs : List Principal) → All IsWithin (map (λ (x : Principal). nothing) xs)
 within_none [] = All-nil IsWithin
@@ -146,43 +139,9 @@ sound_replay h es = sound_from h (empty_state h) es record {
   numbers = All-nil (IsBelow 0);
   tallies = length-map h.principals (λ (x : Principal). nothing);
   each = within_none h.principals;
-  total = no_sum h.principals;
+  entries_bound = omega arith;
+  bytes_bound = omega arith;
 }
-
--- ---- How many entries there may be
-
-pub sum_most : (ts : List Tally) → All IsWithin ts → sum_by added ts ≤ 4096 * length ts
-sum_most [] each = omega arith
-sum_most (t ∷ ts) each =
-    let here = All-head IsWithin t ts each in
-    let there = sum_most ts (All-tail IsWithin t ts each) in
-    let sum_is = sum_by-cons added t ts in
-    omega (arith, here.0, there, sum_is)
-
-pub sum_below : (ts : List Tally) (p : ℕ) (d : Tally) → All IsWithin ts → p < length ts → (get_or ts p d).entries < 4096 → sum_by added ts < 4096 * length ts
-sum_below [] p d each within some = absurd (omega (arith, within))
-sum_below (t ∷ ts) zero d each within some = let there = sum_most ts (All-tail IsWithin t ts each) in let sum_is = sum_by-cons added t ts in omega (arith, there, some, sum_is)
-sum_below (t ∷ ts) (suc p) d each within some =
-    let here = All-head IsWithin t ts each in
-    let there = sum_below ts p d (All-tail IsWithin t ts each) (omega (arith, within)) some in
-    let sum_is = sum_by-cons added t ts in
-    omega (arith, here.0, there, sum_is)
-
--- there is room for one more entry where the principal may add one
-pub entries_below : (h : Head) (s : State) (p : ℕ) → IsSound h s → length h.principals ≤ 64 → p < length h.principals → (tally_of s p).entries < 4096 → s.entries < 262144
-entries_below h s p sound few below some =
-    let had : (tally_of s p).entries ≡ (get_or s.tallies p nothing).entries = ap (λ (t : Tally). t.entries) (unwrap_or-slice_get s.tallies p nothing) in
-    let long = sound.tallies in
-    let total = sound.total in
-    let sums = sum_below s.tallies p nothing sound.each (omega (arith, below, long)) (omega (arith, had, some)) in
-    omega (arith, sums, long, total, few)
-
-pub entries_most : (h : Head) (s : State) → IsSound h s → length h.principals ≤ 64 → s.entries ≤ 262144
-entries_most h s sound few =
-    let long = sound.tallies in
-    let total = sound.total in
-    let sums = sum_most s.tallies sound.each in
-    omega (arith, sums, long, total, few)
 
 -- ---- One more entry
 

@@ -5,9 +5,9 @@ use Rattle.nal_term.specs.Secrets.{IsSecret}
 use Rattle.policy_history.specs.declared.heads.Principal.{Principal}
 use Rattle.policy_history.specs.declared.heads.Authority.{Authority}
 
--- at most 64 principals, each with a name of its own
+-- at most 16,384 principals, each with a name of its own
 pub record ArePrincipals (xs : List Principal) : Type 0 where
-  pub bound : length xs ≤ 64
+  pub bound : length xs ≤ 16384
   pub distinct : AllPairs (λ (x y : Principal). x.name ≢ y.name) xs
 
 -- the port is one of 0 to 15, and the address is made as a secret is

@@ -4,3 +4,4 @@ pub mod OneLine
 pub mod Sound
 pub mod Copies
 pub mod Kept
+pub mod Named

@@ -1,5 +1,5 @@
 -- The laws of the policy machine.
-use Rattle.std.specs.Prelude.{◌≡◌, ◌<◌, ◌≤◌, ◌↔◌, ℕ, List, [], ◌∷◌, ◌++◌, length, true, false, Some, None, Ok, codes, slice_get, IsTrue, All}
+use Rattle.std.specs.Prelude.{◌≡◌, ◌≢◌, ◌<◌, ◌≤◌, ◌↔◌, ℕ, List, [], ◌∷◌, ◌++◌, length, true, false, Some, None, Ok, codes, slice_get, IsTrue, All}
 use Rattle.nal_term.specs.Trees.{TermTree, FormulaTree}
 use Rattle.nal_term.specs.Free.{IsClosed, IsClosedBut, IsClosedTerm}
 use Rattle.nal_parse.specs.Canonical.{FormulaFits, TermFits}
@@ -11,7 +11,7 @@ use Rattle.label_store.specs.LabelRows.{LabelRow}
 use Rattle.nal_rules.specs.declared.verdicts.Verdict.{Verdict}
 use Rattle.policy_history.specs.declared.heads.Head.{Head}
 use Rattle.policy_history.specs.declared.events.Refusal.{Refusal}
-use Rattle.policy_history.specs.declared.events.Refusal.TheVariants.{NoSuchPrincipal, NotYourPrincipal, NoSuchLabel, NotHolder, NoSuchObject, NameTaken, NotOwner, NoGoal, NoSuchProof, NoBinding, BadPort, BadFormula, BadProof, Quota, ObjectsFull, CasesFull, NotRecorded}
+use Rattle.policy_history.specs.declared.events.Refusal.TheVariants.{NoSuchPrincipal, NotYourPrincipal, NoSuchLabel, NotHolder, NoSuchObject, NameTaken, NotOwner, NoGoal, NoSuchProof, NoBinding, BadPort, BadFormula, BadProof, Quota, JournalFull, ObjectsFull, CasesFull, NotRecorded}
 use Rattle.policy_history.specs.Events.{EventTree, EntryTree}
 use Rattle.policy_history.specs.States.{State}
 use Rattle.policy_history.specs.Machine.{applies, refusal_of, step, replay, is_stated, is_statement, is_goal_formula, is_proof}
@@ -36,19 +36,32 @@ refusal_number Quota = 17
 refusal_number ObjectsFull = 18
 refusal_number CasesFull = 19
 refusal_number NotRecorded = 20
+refusal_number JournalFull = 22
 
--- an event is refused with the refusal of the lowest number that applies to it, and with no other
+-- the order in which the refusals of an event are tried: that of their numbers, but `JournalFull` comes behind `Quota`
+abbrev pub refusal_rank : Refusal → ℕ
+refusal_rank JournalFull = 18
+refusal_rank ObjectsFull = 19
+refusal_rank CasesFull = 20
+refusal_rank NotRecorded = 21
+refusal_rank refusal = refusal_number refusal
+
+-- an event is refused with the first refusal in this order that applies to it, and with no other
 abbrev pub FirstRefusal : Type 0
 FirstRefusal =
     (h : Head) (s : State) (session p : ℕ) (e : EventTree) (refusal : Refusal)
     → (refusal_of h s session p e ≡ Some refusal)
-    ↔ ((applies h s session p e refusal ≡ true) × ((other : Refusal) → refusal_number other < refusal_number refusal → applies h s session p e other ≡ false))
+    ↔ ((applies h s session p e refusal ≡ true) × ((other : Refusal) → refusal_rank other < refusal_rank refusal → applies h s session p e other ≡ false))
 
 -- an event is accepted exactly where no refusal applies to it
 abbrev pub AcceptedElse : Type 0
 AcceptedElse =
     (h : Head) (s : State) (session p : ℕ) (e : EventTree)
     → (refusal_of h s session p e ≡ None) ↔ ((refusal : Refusal) → applies h s session p e refusal ≡ false)
+
+-- the journal is full before there are as many cases as there may be
+abbrev pub CasesNeverFull : Type 0
+CasesNeverFull = (h : Head) (es : List EntryTree) (session p : ℕ) (e : EventTree) → refusal_of h (replay h es) session p e ≢ Some CasesFull
 
 -- what the tests of terms, formulas and proofs say
 pub record PlainTests : Type 0 where

@@ -16,7 +16,7 @@ use Rattle.policy_history.specs.declared.heads.Head.{Head}
 use Rattle.policy_history.specs.declared.heads.Authority.{Authority}
 use Rattle.policy_history.specs.declared.tallies.Tally.{Tally}
 use Rattle.policy_history.specs.declared.events.Refusal.{Refusal}
-use Rattle.policy_history.specs.declared.events.Refusal.TheVariants.{NoSuchPrincipal, NotYourPrincipal, NoSuchLabel, NotHolder, NoSuchObject, NameTaken, NotOwner, NoGoal, NoSuchProof, NoBinding, BadPort, BadFormula, BadProof, Quota, ObjectsFull, CasesFull}
+use Rattle.policy_history.specs.declared.events.Refusal.TheVariants.{NoSuchPrincipal, NotYourPrincipal, NoSuchLabel, NotHolder, NoSuchObject, NameTaken, NotOwner, NoGoal, NoSuchProof, NoBinding, BadPort, BadFormula, BadProof, Quota, JournalFull, ObjectsFull, CasesFull}
 use Rattle.policy_history.specs.Events.{EventTree, EntryTree, say, transfer, delete, new_object, set_goal, clear_goal, set_proof, clear_proof, bind, unbind, name_of, numbered}
 use Rattle.policy_history.specs.PolicyLines.{entry_line}
 use Rattle.policy_history.specs.Rows.{put, alter, take_out}
@@ -92,6 +92,10 @@ is_portless s (Some t) = is_stated (Some t) && is_none (port_of s.ports t)
 abbrev pub is_spent : Tally → ℕ → Bool
 is_spent tally bytes = nat_le 4096 tally.entries || nat_lt 524288 (tally.bytes + bytes)
 
+-- one more line of this length is more than the journal may have
+abbrev pub is_full : State → ℕ → Bool
+is_full s bytes = nat_le 262144 s.entries || nat_lt 33554432 (s.bytes + bytes)
+
 -- `applies h s session p e refusal`: in the state s, the event e of principal p in this session has this against it
 abbrev pub applies : Head → State → ℕ → ℕ → EventTree → Refusal → Bool
 applies h s session p (transfer k to) NoSuchPrincipal = is_none (numbered h.principals to)
@@ -119,15 +123,16 @@ applies h s session p (unbind t) BadFormula = not (is_stated t)
 applies h s session p (set_goal op object g) BadFormula = not (is_goal_formula g)
 applies h s session p (set_proof op object ls) BadProof = not (is_proof ls)
 applies h s session p e Quota = is_spent (tally_of s p) (length (entry_line session (name_of h.principals p) e))
-applies h s session p (new_object x) ObjectsFull = nat_le 4096 (length s.objects)
-applies h s session p (set_proof op object ls) CasesFull = is_none (case_named s p op object) && nat_le 65536 (length s.cases)
+applies h s session p e JournalFull = is_full s (length (entry_line session (name_of h.principals p) e))
+applies h s session p (new_object x) ObjectsFull = nat_le 65536 (length s.objects)
+applies h s session p (set_proof op object ls) CasesFull = is_none (case_named s p op object) && nat_le 262144 (length s.cases)
 applies h s session p _ _ = false
 
 -- the refusals of the machine in their order; `NotRecorded` is none of them
 abbrev pub refusals : List Refusal
 refusals =
     NoSuchPrincipal ∷ NotYourPrincipal ∷ NoSuchLabel ∷ NotHolder ∷ NoSuchObject ∷ NameTaken ∷ NotOwner ∷ NoGoal
-    ∷ NoSuchProof ∷ NoBinding ∷ BadPort ∷ BadFormula ∷ BadProof ∷ Quota ∷ ObjectsFull ∷ CasesFull ∷ []
+    ∷ NoSuchProof ∷ NoBinding ∷ BadPort ∷ BadFormula ∷ BadProof ∷ Quota ∷ JournalFull ∷ ObjectsFull ∷ CasesFull ∷ []
 
 -- the refusal of an event: the first that applies; none where it is accepted
 abbrev pub refusal_of : Head → State → ℕ → ℕ → EventTree → Option Refusal
@@ -153,6 +158,7 @@ changed h s p _ = s
 abbrev pub counted : State → ℕ → ℕ → State
 counted s p bytes = record s {
   entries = s.entries + 1;
+  bytes = s.bytes + bytes;
   tallies = slice_set s.tallies p (record { entries = (tally_of s p).entries + 1; bytes = (tally_of s p).bytes + bytes });
 }
 

@@ -11,8 +11,9 @@ use Rattle.policy_history.specs.declared.heads.Principal.{Principal}
 use Rattle.policy_history.specs.declared.tallies.Tally.{Tally}
 
 -- the rows of labels (number, holder, label), of goals (operation, object, goal), of bindings (principal, port), of
--- proofs (subject, operation, object, proof or none) and of objects (name, owner); how many entries were accepted;
--- and for each principal, in the order of their numbers, how many of these are its own, with the bytes of their lines
+-- proofs (subject, operation, object, proof or none) and of objects (name, owner); how many entries were accepted, with
+-- the bytes of their lines; and for each principal, in the order of their numbers, how many of these are its own, with
+-- the bytes of their lines
 pub record State : Type 0 where
   pub labels : List LabelRow
   pub goals : List GoalRow
@@ -20,6 +21,7 @@ pub record State : Type 0 where
   pub cases : List CaseRow
   pub objects : List ObjectRow
   pub entries : ℕ
+  pub bytes : ℕ
   pub tallies : List Tally
 
 -- nothing was said, set, registered or bound yet
@@ -31,6 +33,7 @@ empty_state h = record {
   cases = [];
   objects = [];
   entries = 0;
+  bytes = 0;
   tallies = map (λ (x : Principal). record { entries = 0; bytes = 0 }) h.principals;
 }
 

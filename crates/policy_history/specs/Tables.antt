@@ -15,6 +15,7 @@ state_of p = record {
   cases = case_rows p.cases;
   objects = p.objects.rows;
   entries = p.entries;
+  bytes = p.bytes;
   tallies = p.tallies.items;
 }
 

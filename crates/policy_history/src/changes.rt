@@ -215,6 +215,7 @@ impl Policy {
 
     // Counts one more entry of this principal, whose line has so many bytes.
     fn count(&mut self, caller: u32, bytes: u64)
+        requires whole { self.old.bytes + bytes ≤ 33554432 }
         requires entries { self.old.entries + 1 < 2 ^ 64 }
         requires caller { caller < length self.old.tallies.items }
         requires within { (tally_of (state_of self.old) caller).entries < 4096 }
@@ -224,6 +225,7 @@ impl Policy {
     {
         let tally = self.tally(caller);
         self.entries += 1;
+        self.bytes += bytes;
         self.tallies[caller as usize] = Tally {
             entries: tally.entries + 1,
             bytes: tally.bytes + bytes,

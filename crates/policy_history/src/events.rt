@@ -83,6 +83,7 @@ pub enum Refusal {
     BadFormula,
     BadProof,
     Quota,
+    JournalFull,
     ObjectsFull,
     CasesFull,
     NotRecorded,

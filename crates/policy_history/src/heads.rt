@@ -4,8 +4,12 @@ ghost use Rattle.std.specs.List.{list_any};
 ghost use Rattle.std.specs.Option.{option_copied};
 ghost use Rattle.policy_history.specs.Events.{admitted, name_of, numbered};
 ghost use Rattle.policy_history.specs.Heads.{AreAuthorities, ArePrincipals, IsAuthority};
+ghost use Rattle.nal_term.specs.Names.{IsName};
+ghost use Rattle.nal_term.specs.TreeKeys.{same_bytes};
 
-use nal_term::{ListError, Name, Secret, is_secret};
+use indexmap::IndexSet;
+use keyed_hash::{HashKey, KeyedHash};
+use nal_term::{ListError, Name, NameError, Secret, is_secret};
 use nx_io::Bytes;
 use std::alloc::{AllocError, Global};
 use std::marker::Model;
@@ -24,22 +28,29 @@ pub struct Authority {
     pub address: Bytes,
 }
 
-/// The principals of a policy, numbered from 0: at most 64, each with a name of its own. Contracts see the list of them.
+/// How many principals a policy may have.
+pub const MOST_PRINCIPALS: usize = 16_384;
+
+/// The principals of a policy, numbered from 0: at most 16,384, each with a name of its own, which is found in a time that does
+/// not grow with their number. Contracts see the list of them.
 #[derive(Drop)]
 pub struct Principals {
+    alloc: Global,
     items: Vec<Principal>,
+    // Their names, each in the place of its principal.
+    names: IndexSet<Name, KeyedHash>,
 }
 
 impl Model for Principals {
     ghost use Rattle.std.specs.Prelude.{List};
     ghost use Rattle.policy_history.specs.declared.heads.Principal.{Principal};
-    ghost use Rattle.policy_history.specs.Heads.{ArePrincipals};
+    ghost use Rattle.policy_history.specs.Inner.Named.{AreNamed};
 
     ghost Value = { List Principal };
 
     ghost view = { λ p. p.items.items };
 
-    ghost invariant = { λ p. ArePrincipals p.items.items };
+    ghost invariant = { λ p. AreNamed p.items.items p.names.keys };
 }
 
 /// The authorities of a policy: at most 16, each with a port of its own from 0 to 15 and an address of 1 to 64 bytes
@@ -86,30 +97,60 @@ impl Principals {
         ensures { result ≡ [] }
     {
         Principals {
+            alloc,
             items: Vec::new(alloc),
+            // The names are those of the operator's own text, so no peer chooses which of them collide.
+            names: IndexSet::with_hasher(alloc, KeyedHash::new(HashKey::new(0, 0))),
         }
     }
 
-    /// Adds a principal at the end. `Bound` exactly where there are 64 or one has its name, `Memory` where there was
+    /// Adds a principal at the end. `Bound` exactly where there are 16,384 or one has its name, `Memory` where there was
     /// none for it; an `Err` changes nothing.
     pub fn push(&mut self, item: Principal) -> Result<(), ListError>
         ensures ok { OnOk result (self.new ≡ self.old ++ item ∷ []) }
         ensures bound { (result ≡ Err ListError.Bound) ↔ ¬ ArePrincipals (self.old ++ item ∷ []) }
         ensures err { OnErr result (self.new ≡ self.old) }
     {
-        if !takes_principal(self.items.as_slice(), &item) {
+        if !self.takes(&item) {
             return Err(ListError::Bound);
         }
-        match self.items.push(item) {
+        match self.add(item) {
             Ok(()) => Ok(()),
-            Err(_) => Err(ListError::Memory),
+            Err(AllocError) => Err(ListError::Memory),
         }
     }
 
-    /// How many principals there are: at most 64, no two of one name.
+    // Whether there may be this one more.
+    fn takes(&self, item: &Principal) -> bool
+        ensures { IsTrue result ↔ ArePrincipals (self.now ++ item.now ∷ []) }
+    {
+        if self.items.len() >= MOST_PRINCIPALS {
+            return false;
+        }
+        match self.number_of(&item.name) {
+            Some(_) => false,
+            None => true,
+        }
+    }
+
+    // Adds a principal at the end.
+    fn add(&mut self, item: Principal) -> Result<(), AllocError>
+        requires { ArePrincipals (self.old ++ item ∷ []) }
+        ensures ok { OnOk result (self.new ≡ self.old ++ item ∷ []) }
+        ensures err { OnErr result (self.new ≡ self.old) }
+    {
+        self.items.reserve(1)?;
+        self.names.reserve(1)?;
+        let name = Name::copy_of(self.alloc, item.name.as_slice())?;
+        self.names.insert(name).unwrap();
+        self.items.push(item).unwrap();
+        Ok(())
+    }
+
+    /// How many principals there are: at most 16,384, no two of one name.
     pub fn count(&self) -> u64
         ensures count { result ≡ length self.now }
-        ensures bound { result ≤ 64 }
+        ensures bound { result ≤ 16384 }
         ensures principals { ArePrincipals self.now }
     {
         self.items.len() as u64
@@ -146,20 +187,44 @@ impl Principals {
         ensures number { result ≡ numbered self.now name.now }
         ensures within { IfSome result (λ p. p < length self.now) }
     {
-        match place_of(self.items.as_slice(), name) {
+        match self.names.get_index_of(name) {
             Some(place) => Some(place as u32),
             None => None,
         }
     }
 
-    /// The number of the principal with this name and this secret. None exactly where nobody has both.
+    /// The number of the principal whose name are these bytes. None exactly where nobody has it; an `Err` is want of memory.
+    pub fn number_of_text(&self, alloc: Global, name: &[u8]) -> Result<Option<u32>, AllocError>
+        ensures number { IfOk result (λ number. number ≡ numbered self.now name.now) }
+        ensures within { IfOk result (λ number. IfSome number (λ p. p < length self.now)) }
+        ensures named { IfOk result (λ number. IfSome number (λ p. IsName name.now)) }
+    {
+        if self.items.is_empty() {
+            return Ok(None);
+        }
+        match Name::of(alloc, name) {
+            Ok(name) => Ok(self.number_of(&name)),
+            Err(NameError::Bad) => Ok(None),
+            Err(NameError::Memory) => Err(AllocError),
+        }
+    }
+
+    /// The number of the principal with this name and this secret. None exactly where nobody has both. One secret is compared,
+    /// in a time that does not hang on where it differs.
     pub fn admit(&self, name: &Name, secret: &Secret) -> Option<u32>
         ensures number { result ≡ admitted self.now name.now secret.now }
         ensures within { IfSome result (λ p. p < length self.now) }
     {
-        match place_with(self.items.as_slice(), name, secret) {
-            Some(place) => Some(place as u32),
+        match self.number_of(name) {
             None => None,
+            Some(number) => {
+                let own = &self.items[number as usize].secret;
+                if is_same_secret(secret.as_slice(), own.as_slice()) {
+                    Some(number)
+                } else {
+                    None
+                }
+            }
         }
     }
 
@@ -167,42 +232,27 @@ impl Principals {
     pub fn copy(&self, alloc: Global) -> Result<Principals, AllocError>
         ensures { IfOk result (λ copy. copy ≡ self.now) }
     {
-        let mut items = Vec::new(alloc);
+        let mut copy = Principals::new(alloc);
         for item in &self.items {
-            items.push(item.copy(alloc)?)?;
+            copy.add(item.copy(alloc)?)?;
         }
-        Ok(Principals { items })
+        Ok(copy)
     }
 }
 
-// The place of the principal with this name.
-fn place_of(items: &[Principal], name: &Name) -> Option<usize>
-    ensures place { result ≡ numbered items.now name.now }
-    ensures within { IfSome result (λ p. p < length items.now) }
+// Whether two secrets are the same. Where they are as long, each byte is looked at, wherever the first difference is: `==` would be
+// proved as well, and tell by its time how much of a secret was guessed.
+fn is_same_secret(told: &[u8], own: &[u8]) -> bool
+    ensures { result ≡ same_bytes told.now own.now }
 {
-    items.iter().position(|item| *name == item.name)
-}
-
-// The place of the principal with this name and this secret.
-fn place_with(items: &[Principal], name: &Name, secret: &Secret) -> Option<usize>
-    ensures place { result ≡ admitted items.now name.now secret.now }
-    ensures within { IfSome result (λ p. p < length items.now) }
-{
-    items.iter().position(|item| *name == item.name && secret.as_slice() == item.secret.as_slice())
-}
-
-// Whether the principals may have this one more.
-fn takes_principal(items: &[Principal], item: &Principal) -> bool
-    requires { ArePrincipals items.now }
-    ensures { IsTrue result ↔ ArePrincipals (items.now ++ item.now ∷ []) }
-{
-    if items.len() >= 64 {
+    if told.len() != own.len() {
         return false;
     }
-    match place_of(items, &item.name) {
-        Some(_) => false,
-        None => true,
+    let mut same = true;
+    for place in 0..own.len() {
+        same &= told[place] == own[place];
     }
+    same
 }
 
 // Whether one of the authorities has this port.

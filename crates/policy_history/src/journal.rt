@@ -107,7 +107,6 @@ impl Journal {
         ensures legal { IsLegal self.now.head (entry_trees self.now.entries) }
         ensures accepted { (state_after self.now).entries ≡ result }
     {
-        let _principals = self.head.principals.count();
         self.entries.len() as u64
     }
 
@@ -187,7 +186,6 @@ impl Journal {
             ≡ decision self.old.head (state_after self.old) session principal (event_tree event) }
         ensures room { self.old.room ≤ self.new.room + 1 }
     {
-        let _principals = self.head.principals.count();
         let due = self
             .policy
             .apply(&self.head, session, principal, &event, spare.copies);
@@ -225,7 +223,6 @@ impl Journal {
         ensures region { result ≡ region_in (state_after self.now) principal (event_tree event.now) }
         ensures within { IfSome result (λ region. region < 512) }
     {
-        let _principals = self.head.principals.count();
         self.policy.region(principal, event)
     }
 

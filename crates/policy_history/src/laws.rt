@@ -1,12 +1,14 @@
 //! The laws of the policy machine.
-ghost use Rattle.policy_history.specs.Laws.{AcceptedElse, CaseNumbersStay, CasesStay, FirstRefusal, LabelNumbers, ObjectsStay, PlainTests, ReplayIsByStep, RightStays};
+ghost use Rattle.policy_history.specs.Laws.{AcceptedElse, CaseNumbersStay, CasesNeverFull, CasesStay, FirstRefusal, LabelNumbers, ObjectsStay, PlainTests, ReplayIsByStep, RightStays};
 
-/// An event is refused with the refusal of the lowest number that applies to it, and is accepted where none does; the
-/// tests of terms, formulas and proofs say what they are named for. The call does nothing.
-#[tactic(auto, using(crate::proofs::FirstRefusals::accepted_else, crate::proofs::Limits::plain_tests))]
+/// An event is refused with the first refusal in their order that applies to it, and is accepted where none does; none is
+/// refused for the number of cases, since the journal is full before; the tests of terms, formulas and proofs say what
+/// they are named for. The call does nothing.
+#[tactic(auto, using(crate::proofs::Bounds::cases_never_full, crate::proofs::FirstRefusals::accepted_else, crate::proofs::Limits::plain_tests))]
 pub fn refusals_come_in_order()
     ensures first { FirstRefusal }
     ensures accepted { AcceptedElse }
+    ensures cases { CasesNeverFull }
     ensures tests { PlainTests }
 {}
 

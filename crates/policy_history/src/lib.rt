@@ -17,7 +17,8 @@ mod tables;
 mod tallies;
 
 pub use events::{Due, Entry, Event, Found, Refusal};
-pub use heads::{Authorities, Authority, Head, Principal, Principals};
+pub use heads::{Authorities, Authority, Head, MOST_PRINCIPALS, Principal, Principals};
 pub use journal::{Journal, Spare};
 pub use laws::{numbers_stay, refusals_come_in_order, replay_goes_by_steps, right_verdicts_stay};
 pub use policies::hash_key;
+pub use refusals::{MOST_ENTRIES, MOST_ENTRY_BYTES};

@@ -32,6 +32,7 @@ impl Policy {
             objects: ObjectTable::new(alloc, key),
             tallies,
             entries: 0,
+            bytes: 0,
             subject,
         })
     }

@@ -10,7 +10,7 @@ ghost use Rattle.object_table.specs.Objects.{number_of};
 ghost use Rattle.policy_history.specs.Judged.{object_region, region_in};
 ghost use Rattle.policy_history.specs.Inner.Sound.{IsSound};
 ghost use Rattle.policy_history.specs.Values.{decision};
-ghost use Rattle.policy_history.specs.Machine.{applies, is_another, is_portless, is_spent, refusal_of, reply_number};
+ghost use Rattle.policy_history.specs.Machine.{applies, is_another, is_full, is_portless, is_spent, refusal_of, reply_number};
 ghost use Rattle.policy_history.specs.States.{case_named, goal_named, owner_named, proof_named, tally_of};
 ghost use Rattle.policy_history.specs.Tables.{state_of};
 ghost use Rattle.policy_history.specs.declared.events.Refusal.TheVariants.{CasesFull, ObjectsFull};
@@ -22,7 +22,9 @@ use crate::spelled::{is_foreign, is_goal_formula, is_proof, is_stated, is_statem
 use crate::tables::Policy;
 use crate::tallies::Tally;
 use nal_term::{Formula, Name, Term};
+use object_table::MOST_OBJECTS;
 use proof_lines::Proof;
+use proof_store::MOST_CASES;
 
 // Whether there is someone, and it is another.
 fn is_another(found: Option<u32>, principal: u32) -> bool
@@ -40,6 +42,12 @@ fn is_spent(tally: &Tally, bytes: u64) -> bool
 {
     tally.entries >= 4096 || tally.bytes.saturating_add(bytes) > 524_288
 }
+
+/// How many entries a journal may have.
+pub const MOST_ENTRIES: u64 = 262_144;
+
+/// How many bytes the lines of a journal's entries may have together, line feeds counted.
+pub const MOST_ENTRY_BYTES: u64 = 33_554_432;
 
 impl Policy {
     // The owner of the object with this name.
@@ -302,6 +310,13 @@ impl Policy {
         }
     }
 
+    // Whether one more line of this length is more than the journal may have.
+    fn is_full(&self, bytes: u64) -> bool
+        ensures { result ≡ is_full (state_of self.now) bytes }
+    {
+        self.entries >= MOST_ENTRIES || self.bytes.saturating_add(bytes) > MOST_ENTRY_BYTES
+    }
+
     // The refusal of an event for which there is no room in a table.
     fn full_refusal(&self, head: &Head, caller: u32, event: &Event) -> Option<Refusal>
         ensures { (n : ℕ)
@@ -311,7 +326,7 @@ impl Policy {
     {
         match event {
             Event::NewObject { name: _ } => {
-                if self.objects.count() >= 4096 {
+                if self.objects.count() >= MOST_OBJECTS as u64 {
                     Some(Refusal::ObjectsFull)
                 } else {
                     None
@@ -322,7 +337,9 @@ impl Policy {
                 object,
                 proof: _,
             } => {
-                if self.case_named(caller, op, object).is_none() && self.cases.count() >= 65_536 {
+                if self.case_named(caller, op, object).is_none()
+                    && self.cases.count() >= MOST_CASES as u64
+                {
                     Some(Refusal::CasesFull)
                 } else {
                     None
@@ -355,6 +372,9 @@ impl Policy {
         let length = line_length(session, head.principals.name(caller), event);
         if is_spent(&self.tally(caller), length) {
             return Some(Refusal::Quota);
+        }
+        if self.is_full(length) {
+            return Some(Refusal::JournalFull);
         }
         self.full_refusal(head, caller, event)
     }
@@ -405,7 +425,6 @@ impl Policy {
         ensures decision { result ≡ decision head.now (state_of self.now) session caller (event_tree event.now) }
         ensures fewer { OnOk result (self.now.entries < 262144) }
     {
-        let _principals = head.principals.count();
         if let Some(refusal) = self.refusal(head, session, caller, event) {
             return Err(refusal);
         }
@@ -417,12 +436,11 @@ impl Policy {
 
     /// The region that an event touches.
     pub fn region(&self, caller: u32, event: &Event) -> Option<u64>
-        requires { caller < 256 }
         ensures region { result ≡ region_in (state_of self.now) caller (event_tree event.now) }
         ensures within { IfSome result (λ region. region < 512) }
     {
         match event {
-            Event::Transfer { .. } | Event::Delete { .. } => Some(256 + caller as u64),
+            Event::Transfer { .. } | Event::Delete { .. } => Some(256 + caller as u64 % 256),
             Event::SetGoal { object, .. } => self.object_region(object),
             Event::ClearGoal { object, .. } => self.object_region(object),
             Event::SetProof { object, .. } => self.object_region(object),

@@ -8,7 +8,7 @@ use nal_term::Name;
 use object_table::ObjectTable;
 use proof_store::ProofStore;
 
-/// The state of the policy, and the number of entries that led to it.
+/// The state of the policy, and the number of entries that led to it, with the bytes of their lines.
 #[derive(Drop)]
 pub struct Policy {
     pub labels: LabelStore,
@@ -17,6 +17,7 @@ pub struct Policy {
     pub objects: ObjectTable,
     pub tallies: Vec<Tally>,
     pub entries: u64,
+    pub bytes: u64,
     // The name of the variable that stands for the caller in a goal.
     pub subject: Name,
     ghost is_subject: { subject ≡ codes "subject" },

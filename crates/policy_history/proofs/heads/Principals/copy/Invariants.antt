@@ -2,4 +2,4 @@ use Rattle.std.proofs.Common.{◌≡◌, take}
 use Rattle.policy_history.proofs.heads.Principals.copy.Given as goal
 
 abbrev pub invariant-loop-item : goal.invariant-loop-item
-invariant-loop-item l = l.items.items ≡ take l.item-index l.item-items
+invariant-loop-item l = l.copy ≡ take l.item-index l.item-items

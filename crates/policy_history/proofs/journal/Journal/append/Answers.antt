@@ -1,10 +1,9 @@
-use Rattle.std.proofs.Common.{◌≤◌, length, arith}
+use Rattle.std.proofs.Common.{arith}
 use Rattle.policy_history.specs.Events.{event_tree}
 use Rattle.policy_history.specs.Machine.{replay}
 use Rattle.policy_history.specs.Tables.{state_of}
 use Rattle.policy_history.specs.Values.{entry_trees}
 use Rattle.policy_history.proofs.Acceptance.{none_applies}
-use Rattle.policy_history.proofs.Soundness.{entries_most}
 use Rattle.policy_history.proofs.Keeping.{accepted_where, decided, kept_sound, kept_more}
 use Rattle.policy_history.proofs.journal.Journal.append.Goals as goal
 
@@ -18,9 +17,7 @@ apply-due-requires-clause-sound c = kept_sound c.self.inside.head c.self.inside.
 
 pub apply-due-requires-clause-entries : goal.apply-due-requires-clause-entries
 apply-due-requires-clause-entries c =
-    let h = c.self.inside.head in
-    let few : length h.principals ≤ 64 = omega (arith, c.count-principals.ensures.count, c.count-principals.ensures.bound) in
-    let most = entries_most h (state_of c.self.inside.policy) (kept_sound c.self.inside.head c.self.inside.entries.items c.self.inside.policy c.self.inside.greatest_session c.self.invariant) few in
+    let most = (kept_sound c.self.inside.head c.self.inside.entries.items c.self.inside.policy c.self.inside.greatest_session c.self.invariant).entries_bound in
     omega (arith, most)
 
 pub invariant_of-self : goal.invariant_of-self

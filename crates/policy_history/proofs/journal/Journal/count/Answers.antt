@@ -1,16 +1,12 @@
-use Rattle.std.proofs.Common.{◌≡◌, ◌≤◌, length, ◌∙◌, arith}
+use Rattle.std.proofs.Common.{◌≡◌, length, ◌∙◌, arith}
 use Rattle.policy_history.specs.Machine.{replay}
-use Rattle.policy_history.specs.Tables.{state_of}
 use Rattle.policy_history.specs.Values.{entry_trees}
-use Rattle.policy_history.proofs.Soundness.{entries_most}
 use Rattle.policy_history.proofs.Keeping.{kept_accepted, kept_sound, kept_length}
 use Rattle.policy_history.proofs.journal.Journal.count.Goals as goal
 
 pub returns-clause-bound : goal.returns-clause-bound
 returns-clause-bound c =
-    let h = c.self.inside.head in
-    let few : length h.principals ≤ 64 = omega (arith, c.count-principals.ensures.count, c.count-principals.ensures.bound) in
-    let most = entries_most h (state_of c.self.inside.policy) (kept_sound c.self.inside.head c.self.inside.entries.items c.self.inside.policy c.self.inside.greatest_session c.self.invariant) few in
+    let most = (kept_sound c.self.inside.head c.self.inside.entries.items c.self.inside.policy c.self.inside.greatest_session c.self.invariant).entries_bound in
     let long = kept_length c.self.inside.head c.self.inside.entries.items c.self.inside.policy c.self.inside.greatest_session c.self.invariant in
     let size = c.self.inside.entries.ok.0 in
     omega (arith, most, long, c.len.ensures, size)

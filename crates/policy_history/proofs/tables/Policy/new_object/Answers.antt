@@ -8,4 +8,4 @@ add-requires-clause-fresh c =
     rw k (none_where _ (c.requires.accepted NameTaken))
 
 pub add-requires-clause-bound : goal.add-requires-clause-bound
-add-requires-clause-bound c = short_of 4096 _ (c.requires.accepted ObjectsFull)
+add-requires-clause-bound c = short_of 65536 _ (c.requires.accepted ObjectsFull)
