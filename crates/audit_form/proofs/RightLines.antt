@@ -168,7 +168,7 @@ policy_front h es rest w =
 
 pub right_lines_are_audited : RightLinesAreAudited
 right_lines_are_audited h es lines w each few =
-    let bounded = lines_bounded h es w.legal w.head.principals.bound in
+    let bounded = lines_bounded h es w.legal in
     let entries = few_entries h es in
     let told = lines_told h es [] lines (omega (arith, bounded, entries)) each (omega (arith, few)) in
     let rest = flat_map ended lines ++ ended (codes "end") in

@@ -1,5 +1,5 @@
 -- What a list of steps leaves.
-use Rattle.std.proofs.Common.{◌≡◌, ◌<◌, ◌≤◌, ℕ, List, [], ◌++◌, length, sym, ap, ◌∙◌, subst, arith}
+use Rattle.std.proofs.Common.{◌≡◌, ◌<◌, ℕ, List, [], ◌++◌, length, sym, ap, ◌∙◌, subst}
 use Rattle.std.specs.List.{All}
 use Rattle.policy_history.specs.declared.heads.Head.{Head}
 use Rattle.policy_history.specs.Events.{EntryTree}
@@ -16,10 +16,10 @@ use Rattle.cache_machine.proofs.Running.{itself}
 use Rattle.cache_machine.proofs.Starting.{first_worded}
 
 -- what is left by steps from the start of a machine
-pub outcome_of : (h : Head) (es : List EntryTree) (ps : List ℕ) (old new : MachineValue) (steps : List StepTree) (xs : List Happened) (outcome : Outcome) → length h.principals ≤ 64 → All (λ p. p < length h.principals) ps
+pub outcome_of : (h : Head) (es : List EntryTree) (ps : List ℕ) (old new : MachineValue) (steps : List StepTree) (xs : List Happened) (outcome : Outcome) → All (λ p. p < length h.principals) ps
     → state_in old ≡ first_state h es ps → old.told ≡ [] → old.idle ≡ 0 → AreTakenAs old steps xs new
     → outcome.journal ≡ new.world.journal → outcome.told ≡ new.told → outcome.idle ≡ new.idle → IsOutcomeAs (first_state h es ps) steps xs outcome
-outcome_of h es ps old new steps xs outcome few below start_is none zero_is taken journal told idle_is =
+outcome_of h es ps old new steps xs outcome below start_is none zero_is taken journal told idle_is =
     let start = first_state h es ps in
     let end = state_in new in
     let run : IsRun start steps xs end = subst (λ (s : MachineState). IsRun s steps xs end) start_is taken.run in
@@ -35,9 +35,5 @@ outcome_of h es ps old new steps xs outcome few below start_is none zero_is take
       own_entries = λ a y at. ap (own y.session) entries ∙ own_run h es ps xs a y at;
       told = told ∙ taken.told ∙ ap (λ (ts : List Told). ts ++ told_of xs) none;
       idle = idle_is ∙ taken.idle ∙ ap (idle_over xs) zero_is;
-      justified = subst (λ (zs : List EntryTree). IsJustified h zs start.actors xs) (sym end_is) (justified_run start steps xs end run (first_worded h es ps few below) (first_linked h es ps));
+      justified = subst (λ (zs : List EntryTree). IsJustified h zs start.actors xs) (sym end_is) (justified_run start steps xs end run (first_worded h es ps below) (first_linked h es ps));
     }
-
--- there are no more principals than were counted
-pub few_of : (h k : Head) (n : ℕ) → h ≡ k → n ≡ length h.principals → n ≤ 64 → length k.principals ≤ 64
-few_of h k n same count bound = let long : length h.principals ≡ length k.principals = ap (λ (z : Head). length z.principals) same in omega (arith, long, count, bound)

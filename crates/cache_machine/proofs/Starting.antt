@@ -74,9 +74,8 @@ first_at P session (p ∷ ps) all zero x e =
     (subst (λ (z : ActorTree). P z.principal) same all.0, sym (ap (λ (z : ActorTree). z.stage) same))
 first_at P session (p ∷ ps) all (suc a) x e = first_at P (session + 1) ps all.1 a x e
 
-pub first_worded : (h : Head) (es : List EntryTree) (ps : List ℕ) → length h.principals ≤ 64 → All (λ p. p < length h.principals) ps → IsWorded (first_state h es ps)
-first_worded h es ps few all = record {
-  few = few;
+pub first_worded : (h : Head) (es : List EntryTree) (ps : List ℕ) → All (λ p. p < length h.principals) ps → IsWorded (first_state h es ps)
+first_worded h es ps all = record {
   slots = length-replicate {A = Option Kept} 4096 None;
   regions = length-replicate 512 (length es);
   sound = λ i kept e. absurd (none_kept i kept e);

@@ -90,11 +90,11 @@ place_home h es p op name place e = of_object (number_of (replay h es).objects n
     of_object None e = absurd (cc e)
     of_object (Some n) e = of_case n (case_number rows p op n) refl e
 
-region_below : (s : State) (p : ℕ) (e : EventTree) (region : ℕ) → p < 256 → region_in s p e ≡ Some region → region < 512
-region_below s p e region low q = of e q
+region_below : (s : State) (p : ℕ) (e : EventTree) (region : ℕ) → region_in s p e ≡ Some region → region < 512
+region_below s p e region q = of e q
   where
     own : Some (store_region p) ≡ Some region → region < 512
-    own is = let same : store_region p ≡ region = some_same (store_region p) region is in omega (arith, same, low)
+    own is = let same : store_region p ≡ region = some_same (store_region p) region is in let small : p % 256 < 256 = omega arith in omega (arith, same, small)
 
     of_object : (o : Option ℕ) → option_map object_region o ≡ Some region → region < 512
     of_object None is = absurd (cc is)
@@ -335,7 +335,7 @@ module _ (s : MachineState) (w : IsWorded s) (a session p : ℕ) (own : p < leng
     where
       of : (o : Option Refusal) → refusal_of s.head (policy s) session p event ≡ o → (r : Option ℕ) → region_in (policy s) p event ≡ r → FitsHere (raised_move event o r)
       of None q None r = tt
-      of None q (Some region) r = (free, (own, q), r, region_below (policy s) p event region (let few = w.few in omega (arith, own, few)) r)
+      of None q (Some region) r = (free, (own, q), r, region_below (policy s) p event region r)
       of (Some refusal) q r r_is = tt
 
   written_fits : (x : ActorTree) → x.session ≡ session → x.principal ≡ p → (event : EventTree) (o : Option ℕ) → s.holder ≡ o → FitsHere (write_free s x event o)
@@ -424,7 +424,6 @@ module _ (s : MachineState) (w : IsWorded s) (a : ℕ) (x : ActorTree) (at : sli
 
   went : (stage : StageTree) → Knows s.head s.entries s.regions s.holder a x.session x.principal stage → IsWorded (record s { actors = moved_actors stage })
   went stage own = record {
-    few = w.few;
     slots = w.slots;
     regions = w.regions;
     sound = w.sound;
@@ -436,7 +435,6 @@ module _ (s : MachineState) (w : IsWorded s) (a : ℕ) (x : ActorTree) (at : sli
   filled : (stage : StageTree) (kept : Kept) → IsSoundIn s.head s.entries (Some kept) → Knows s.head s.entries s.regions s.holder a x.session x.principal stage
       → IsWorded (record s { actors = moved_actors stage; slots = slice_set s.slots (slot_of kept.case) (Some kept) })
   filled stage kept sound own = record {
-    few = w.few;
     slots = length-set s.slots (slot_of kept.case) (Some kept) ∙ w.slots;
     regions = w.regions;
     sound = λ i other e. elim (set_at s.slots (slot_of kept.case) (Some kept) i (Some other) e) [
@@ -457,7 +455,6 @@ module _ (s : MachineState) (w : IsWorded s) (a : ℕ) (x : ActorTree) (at : sli
       let many = w.regions in
       let here : slice_get s.regions region ≡ Some (get_or s.regions region 0) = slice_get-get_or s.regions region 0 (omega (arith, low, many)) in
       record {
-        few = w.few;
         slots = w.slots;
         regions = length-set s.regions region (length s.entries + 1) ∙ w.regions;
         sound = w.sound;
@@ -480,7 +477,6 @@ module _ (s : MachineState) (w : IsWorded s) (a : ℕ) (x : ActorTree) (at : sli
   written : (event : EventTree) → Fits s a x.session x.principal (writes event)
       → IsWorded (record s { actors = moved_actors (resting None); entries = s.entries ++ next_entry event ∷ []; holder = None })
   written event (next, holds, touches) = record {
-    few = w.few;
     slots = w.slots;
     regions = w.regions;
     sound = λ i kept e. sound_more s.head s.entries (next_entry event ∷ []) (Some kept) (w.sound i kept e);
@@ -598,9 +594,8 @@ module _ (s : MachineState) (w : IsWorded s) (a : ℕ) (x : ActorTree) (at : sli
   store_quiet point =
       let region = store_region x.principal in
       let many = w.regions in
-      let few = w.few in
-      let own = w.principals a x at in
-      untouched_take s.head s.entries point (region_at s region) region (region_quiet s w.words region (omega (arith, many, few, own)))
+      let small : x.principal % 256 < 256 = omega arith in
+      untouched_take s.head s.entries point (region_at s region) region (region_quiet s w.words region (omega (arith, many, small)))
 
   store_told : (stage : StageTree) → Knows s.head s.entries s.regions s.holder a x.session x.principal stage → (act : ActTree) (move : MoveTree) → move ≡ store_move s a x.principal stage → RightHere act move
   store_told (half place slot point word) known act move e = subst (RightHere act) (sym e) (hit_told act place slot point word (region_at s (store_region x.principal)) known.0 known.1 (store_quiet point))

@@ -23,7 +23,6 @@ pub fn drive(
         (IsOutcome (first_state journal.head (entry_trees journal.entries) actors.now.items)
         (map step_tree steps.now.items)) }
 {
-    let _few = journal.head().principals.count();
     let mut machine = Machine::new(alloc, journal, actors)?;
     take_all(&mut machine, steps)?;
     Ok(machine.finish())

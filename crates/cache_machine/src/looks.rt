@@ -94,7 +94,6 @@ impl World {
         ensures { move_tree result
             ≡ store_move (state_of self.now) number actor.now.principal (stage_tree actor.now.stage) }
     {
-        let _few = self.journal.head().principals.count();
         match &actor.stage {
             Stage::Half {
                 place,
@@ -102,7 +101,7 @@ impl World {
                 at,
                 word,
             } => {
-                let store = self.regions[256 + actor.principal as usize];
+                let store = self.regions[256 + actor.principal as usize % 256];
                 found(number, *at, hit(*slot, place.case, *word, store))
             }
             _ => Move::Idle,

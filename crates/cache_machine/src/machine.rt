@@ -125,9 +125,7 @@ impl Beginning {
         ensures actors { IfOk result
             (λ made. map actor_tree made.actors.items
             ≡ first_actors (greatest_of (entry_trees journal.now.entries) + 1) actors.now.items) }
-        ensures few { OnOk result (length journal.now.head.principals ≤ 64) }
     {
-        let _few = journal.head().principals.count();
         Ok(Beginning {
             slots: empty_slots(alloc)?,
             regions: Vec::from_elem(alloc, journal.count(), REGIONS as usize)?,

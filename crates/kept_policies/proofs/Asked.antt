@@ -4,7 +4,7 @@ use Rattle.nal_term.specs.Names.{IsName}
 use Rattle.policy_history.specs.Events.{EventTree}
 use Rattle.policy_history.specs.Events as event
 use Rattle.session_wire.specs.declared.requests.Request.{Request}
-use Rattle.session_wire.specs.declared.requests.Request.TheVariants.{Hello, Say, Transfer, Delete, NewObject, SetGoal, ClearGoal, SetProof, ClearProof, Bind, Unbind, Call}
+use Rattle.session_wire.specs.declared.requests.Request.TheVariants.{Hello, Say, Transfer, Delete, NewObject, SetGoal, ClearGoal, SetProof, ClearProof, Bind, Unbind, Call, See}
 use Rattle.session_wire.specs.Frames.{HasFittingParts}
 use Rattle.journal_text.specs.PolicyLaws.{IsKeptEvent}
 use Rattle.journal_text.specs.RequestEvents.{IsEventOf}
@@ -39,6 +39,7 @@ fitting_named (ClearProof op object) fits = fits
 fitting_named (Bind principal port) fits = fits.1
 fitting_named (Unbind principal) fits = tt
 fitting_named (Call op object arg) fits = tt
+fitting_named (See number) fits = tt
 
 writable_named : (request : Request) → IsWritable request → IsNamed request
 writable_named (Hello name secret) fits = tt
@@ -53,6 +54,7 @@ writable_named (ClearProof op object) fits = fits
 writable_named (Bind principal port) fits = fits.1
 writable_named (Unbind principal) fits = tt
 writable_named (Call op object arg) fits = tt
+writable_named (See number) fits = tt
 
 named_kept : (request : Request) (e : EventTree) → IsNamed request → IsEventOf request e → IsKeptEvent e
 named_kept (Say principal formula) (event.say (Some t) (Some f)) named is = (spelled_terms principal t is.0, spelled_formulas formula f is.1)
@@ -80,6 +82,7 @@ named_kept (Bind principal port) _ named is = absurd is
 named_kept (Unbind principal) _ named is = absurd is
 named_kept (Hello name secret) e named is = absurd is
 named_kept (Call op object arg) e named is = absurd is
+named_kept (See number) e named is = absurd is
 
 pub asked_events : AskedEvents
 asked_events request e fits is = named_kept request e (fitting_named request fits) is

@@ -179,9 +179,9 @@ holders_part holder (row ∷ rows) = of (nat_eq holder row.1) refl (holders_part
     of true e later = rw e (kept row.2 later)
     of false e later = rw e (left_out row.2 later)
 
--- what a holder has after a legal list of entries, of few principals
-pub held_labels : (h : Head) (es : List EntryTree) (holder : ℕ) → IsLegal h es → length h.principals ≤ 64 → length es ≤ 262144 → AreHeld (labels_of (replay h es).labels holder) 262144 33554432
-held_labels h es holder legal few short =
+-- what a holder has after a legal list of entries
+pub held_labels : (h : Head) (es : List EntryTree) (holder : ℕ) → IsLegal h es → length es ≤ 262144 → AreHeld (labels_of (replay h es).labels holder) 262144 33554432
+held_labels h es holder legal short =
     let nothing : AreHeld [] 0 0 = record { each = All-nil IsLabel; few = omega arith; short = omega arith } in
     let all = held_from h (empty_state h) es 0 0 legal nothing in
-    held_part (holders_part holder (replay h es).labels) (held_within 262144 33554432 all (omega (arith, short)) (omega (arith, lines_bounded h es legal few)))
+    held_part (holders_part holder (replay h es).labels) (held_within 262144 33554432 all (omega (arith, short)) (omega (arith, lines_bounded h es legal)))

@@ -21,9 +21,8 @@ pub fn print_bundle(alloc: Global, journal: &Journal, holder: u32) -> Result<Byt
     ensures read_again { IfOk result (λ text. IsBundle text (labels_of (state_after journal.now).labels holder)) }
     ensures short { IfOk result (λ text. length text ≤ most_bytes) }
 {
-    // For the contract alone: the entries are legal, and the principals few.
+    // For the contract alone: the entries are legal.
     let _entries = journal.count();
-    let _principals = journal.head().principals.count();
     let mut text = Bytes::of(alloc, b"nexus bundle 1\n")?;
     let mut labels = journal.labels(holder);
     while let Some(label) = labels.next() {

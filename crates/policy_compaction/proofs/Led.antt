@@ -22,6 +22,7 @@ pub record IsAlike (ks : List Numbered) (objects_at_end : List ObjectRow) (later
   pub labels : t.labels ≡ map (renumbered_row ks) (filter (stays later) s.labels)
   pub placed : All (IsPlacedRow ks) (filter (stays later) s.labels)
   pub tallies : AreAtMost t.tallies s.tallies
+  pub bytes : t.bytes ≤ s.bytes
   pub cases : length t.cases ≤ length (filter (is_left objects_at_end later) s.cases)
 
 -- and so after the first n entries
@@ -37,20 +38,25 @@ module _ (ks : List Numbered) (objects_at_end : List ObjectRow) (later : List En
       let most = most_at t.tallies s.tallies p alike.tallies in
       let e = most.entries in
       let f = most.bytes in
+      let all = alike.bytes in
       record {
         objects = alike.objects;
         labels = alike.labels;
         placed = alike.placed;
         tallies = most_both t.tallies s.tallies p _ _ alike.tallies (record { entries = omega (arith, e); bytes = omega (arith, f, short) });
+        bytes = omega (arith, all, short);
         cases = alike.cases;
       }
 
   -- one more of the history alone
   pub alike_more : (p c : ℕ) → IsAlike ks objects_at_end later (counted s p c) t
-  alike_more p c = record {
-    objects = alike.objects;
-    labels = alike.labels;
-    placed = alike.placed;
-    tallies = most_other t.tallies s.tallies p 1 c alike.tallies;
-    cases = alike.cases;
-  }
+  alike_more p c =
+      let all = alike.bytes in
+      record {
+        objects = alike.objects;
+        labels = alike.labels;
+        placed = alike.placed;
+        tallies = most_other t.tallies s.tallies p 1 c alike.tallies;
+        bytes = omega (arith, all);
+        cases = alike.cases;
+      }

@@ -59,6 +59,7 @@ module _ (h : Head) (ks : List Numbered) (objects : List ObjectRow) (s t : State
           labels = alike.labels ∙ ap (map (renumbered_row ks)) (sym same);
           placed = subst (All (IsPlacedRow ks)) (sym same) alike.placed;
           tallies = alike.tallies;
+          bytes = alike.bytes;
           cases = alike.cases;
         }
     alike_left (transfer k to) free left alike =
@@ -69,6 +70,7 @@ module _ (h : Head) (ks : List Numbered) (objects : List ObjectRow) (s t : State
           labels = alike.labels ∙ ap (map (renumbered_row ks)) (sym same);
           placed = subst (All (IsPlacedRow ks)) (sym same) alike.placed;
           tallies = alike.tallies;
+          bytes = alike.bytes;
           cases = alike.cases;
         }
     alike_left (delete k) free left alike =
@@ -78,6 +80,7 @@ module _ (h : Head) (ks : List Numbered) (objects : List ObjectRow) (s t : State
           labels = alike.labels ∙ ap (map (renumbered_row ks)) same;
           placed = subst (All (IsPlacedRow ks)) same alike.placed;
           tallies = alike.tallies;
+          bytes = alike.bytes;
           cases = alike.cases;
         }
     alike_left (set_proof op x (Some ls)) free left alike =
@@ -87,7 +90,7 @@ module _ (h : Head) (ks : List Numbered) (objects : List ObjectRow) (s t : State
         let few = wider_put (is_left objects (e ∷ later)) (is_left objects later) (left_later objects e later) (is_case p op k)
         (λ row is. changed_out objects e later row (rw at is)) (p, op, k, Some ls) s.cases in
         let had = alike.cases in
-        record { objects = alike.objects; labels = alike.labels; placed = alike.placed; tallies = alike.tallies; cases = omega (arith, had, few) }
+        record { objects = alike.objects; labels = alike.labels; placed = alike.placed; tallies = alike.tallies; bytes = alike.bytes; cases = omega (arith, had, few) }
     alike_left (clear_proof op x) free left alike =
         let e = entry_of session p (clear_proof op x) in
         let k = object_or_0 s x in
@@ -95,19 +98,19 @@ module _ (h : Head) (ks : List Numbered) (objects : List ObjectRow) (s t : State
         let few = wider_alter (is_left objects (e ∷ later)) (is_left objects later) (left_later objects e later) (is_case p op k)
         (λ row is. changed_out objects e later row (rw at is)) (λ (row : CaseRow). (row.0, row.1, row.2, None)) s.cases in
         let had = alike.cases in
-        record { objects = alike.objects; labels = alike.labels; placed = alike.placed; tallies = alike.tallies; cases = omega (arith, had, few) }
+        record { objects = alike.objects; labels = alike.labels; placed = alike.placed; tallies = alike.tallies; bytes = alike.bytes; cases = omega (arith, had, few) }
     alike_left (set_proof op x None) free left alike =
         let e = entry_of session p (set_proof op x None) in
         let few = wider (is_left objects (e ∷ later)) (is_left objects later) (left_later objects e later) s.cases in
         let had = alike.cases in
-        record { objects = alike.objects; labels = alike.labels; placed = alike.placed; tallies = alike.tallies; cases = omega (arith, had, few) }
+        record { objects = alike.objects; labels = alike.labels; placed = alike.placed; tallies = alike.tallies; bytes = alike.bytes; cases = omega (arith, had, few) }
     alike_left (new_object x) free left alike = absurd (cc (sym left ∙ ap not (never_undone x later)))
-    alike_left (say None f) free left alike = record { objects = alike.objects; labels = alike.labels; placed = alike.placed; tallies = alike.tallies; cases = alike.cases }
-    alike_left (say (Some a) None) free left alike = record { objects = alike.objects; labels = alike.labels; placed = alike.placed; tallies = alike.tallies; cases = alike.cases }
-    alike_left (set_goal op x (Some g)) free left alike = record { objects = alike.objects; labels = alike.labels; placed = alike.placed; tallies = alike.tallies; cases = alike.cases }
-    alike_left (set_goal op x None) free left alike = record { objects = alike.objects; labels = alike.labels; placed = alike.placed; tallies = alike.tallies; cases = alike.cases }
-    alike_left (clear_goal op x) free left alike = record { objects = alike.objects; labels = alike.labels; placed = alike.placed; tallies = alike.tallies; cases = alike.cases }
-    alike_left (bind (Some a) port) free left alike = record { objects = alike.objects; labels = alike.labels; placed = alike.placed; tallies = alike.tallies; cases = alike.cases }
-    alike_left (bind None port) free left alike = record { objects = alike.objects; labels = alike.labels; placed = alike.placed; tallies = alike.tallies; cases = alike.cases }
-    alike_left (unbind (Some a)) free left alike = record { objects = alike.objects; labels = alike.labels; placed = alike.placed; tallies = alike.tallies; cases = alike.cases }
-    alike_left (unbind None) free left alike = record { objects = alike.objects; labels = alike.labels; placed = alike.placed; tallies = alike.tallies; cases = alike.cases }
+    alike_left (say None f) free left alike = record { objects = alike.objects; labels = alike.labels; placed = alike.placed; tallies = alike.tallies; bytes = alike.bytes; cases = alike.cases }
+    alike_left (say (Some a) None) free left alike = record { objects = alike.objects; labels = alike.labels; placed = alike.placed; tallies = alike.tallies; bytes = alike.bytes; cases = alike.cases }
+    alike_left (set_goal op x (Some g)) free left alike = record { objects = alike.objects; labels = alike.labels; placed = alike.placed; tallies = alike.tallies; bytes = alike.bytes; cases = alike.cases }
+    alike_left (set_goal op x None) free left alike = record { objects = alike.objects; labels = alike.labels; placed = alike.placed; tallies = alike.tallies; bytes = alike.bytes; cases = alike.cases }
+    alike_left (clear_goal op x) free left alike = record { objects = alike.objects; labels = alike.labels; placed = alike.placed; tallies = alike.tallies; bytes = alike.bytes; cases = alike.cases }
+    alike_left (bind (Some a) port) free left alike = record { objects = alike.objects; labels = alike.labels; placed = alike.placed; tallies = alike.tallies; bytes = alike.bytes; cases = alike.cases }
+    alike_left (bind None port) free left alike = record { objects = alike.objects; labels = alike.labels; placed = alike.placed; tallies = alike.tallies; bytes = alike.bytes; cases = alike.cases }
+    alike_left (unbind (Some a)) free left alike = record { objects = alike.objects; labels = alike.labels; placed = alike.placed; tallies = alike.tallies; bytes = alike.bytes; cases = alike.cases }
+    alike_left (unbind None) free left alike = record { objects = alike.objects; labels = alike.labels; placed = alike.placed; tallies = alike.tallies; bytes = alike.bytes; cases = alike.cases }

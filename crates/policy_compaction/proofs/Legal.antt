@@ -10,7 +10,7 @@ use Rattle.policy_history.specs.Machine.{IsAccepted, IsLegal, IsLegalFrom, accep
 use Rattle.policy_history.specs.PolicyLines.{entry_line}
 use Rattle.policy_history.specs.States.{State, empty_state}
 use Rattle.policy_history.proofs.ForCallers.{accepted_after, cases_bounded, changed_entries, objects_stay, replay_accepted, replay_more}
-use Rattle.label_holdings.proofs.ForCallers.{IsSound, sound_at, sound_more}
+use Rattle.label_holdings.proofs.ForCallers.{IsSound, sound_all, sound_at, sound_more}
 use Rattle.policy_compaction.specs.Compactions.{HasNoMore}
 use Rattle.policy_compaction.specs.Kept.{Numbered, compacted, kept, kept_from, matters, moved, new_number, renumbered}
 use Rattle.policy_compaction.proofs.KeptEntries.{alike_kept, free_kept, line_kept}
@@ -104,7 +104,7 @@ module _ (h : Head) (es : List EntryTree) where
   started =
       let none = none_new es in
       record {
-        alike = record { objects = refl; labels = refl; placed = All-nil (IsPlacedRow ks); tallies = most_self (empty_state h).tallies; cases = omega arith };
+        alike = record { objects = refl; labels = refl; placed = All-nil (IsPlacedRow ks); tallies = most_self (empty_state h).tallies; bytes = omega arith; cases = omega arith };
         entries = sym none;
         low = omega (arith, none);
       }
@@ -133,4 +133,13 @@ same_labels h es legal p =
     sym (ap (λ (xs : List LabelRow). labels_of xs p) ((alike_at_end h es legal).labels ∙ ap (map (renumbered_row (kept es))) (all_stay rows)) ∙ labels_renumbered (kept es) p rows)
 
 pub no_more : (h : Head) (es : List EntryTree) → IsLegal h es → HasNoMore (replay h es) (replay h (compacted es))
-no_more h es legal = λ p. let most = most_at (replay h (compacted es)).tallies (replay h es).tallies p (alike_at_end h es legal).tallies in (most.entries, most.bytes)
+no_more h es legal =
+    let led = (walked h es legal).1 in
+    let counted : (replay h (compacted es)).entries ≡ new_number (kept es) (length es) = led.entries in
+    let low = led.low in
+    let all = (sound_all h es legal).entries in
+    record {
+      each = λ p. let most = most_at (replay h (compacted es)).tallies (replay h es).tallies p led.alike.tallies in (most.entries, most.bytes);
+      entries = omega (arith, counted, low, all);
+      bytes = led.alike.bytes;
+    }

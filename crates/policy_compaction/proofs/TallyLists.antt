@@ -3,8 +3,9 @@ use Rattle.std.proofs.Common.{◌≡◌, ◌≤◌, ◌+◌, ℕ, zero, suc, fal
 use Rattle.std.specs.List.{slice_get}
 use Rattle.std.proofs.lemmas.Bool.{lt-leb, le-ltb}
 use Rattle.policy_history.specs.declared.tallies.Tally.{Tally}
-use Rattle.policy_history.specs.Machine.{is_spent}
-use Rattle.policy_history.proofs.Acceptance.{unspent}
+use Rattle.policy_history.specs.Machine.{is_full, is_spent}
+use Rattle.policy_history.specs.States.{State}
+use Rattle.policy_history.proofs.ForCallers.{fitting, unspent}
 
 pub record IsAtMost (t u : Tally) : Type 0 where
   pub entries : t.entries ≤ u.entries
@@ -53,3 +54,9 @@ still_unspent t u m n most short free =
     let e = most.entries in
     let f = most.bytes in
     rw (lt-leb 4096 t.entries (omega (arith, e, left.0)), le-ltb 524288 (t.bytes + m) (omega (arith, f, short, left.1))) refl
+
+-- and so may a journal that has less
+pub still_fits : (s u : State) (m n : ℕ) → s.entries ≤ u.entries → s.bytes ≤ u.bytes → m ≤ n → is_full u n ≡ false → is_full s m ≡ false
+still_fits s u m n fewer less short free =
+    let left = fitting u n free in
+    rw (lt-leb 262144 s.entries (omega (arith, fewer, left.0)), le-ltb 33554432 (s.bytes + m) (omega (arith, less, short, left.1))) refl

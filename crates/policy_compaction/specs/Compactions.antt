@@ -13,9 +13,11 @@ use Rattle.policy_compaction.specs.Standing.{SameStanding}
 abbrev pub SameCases : Head → State → State → Type 0
 SameCases h s t = (p : ℕ) (op object : List ℕ) (number : ℕ) → number_of s.objects object ≡ Some number → case_at h s p op number ≡ case_at h t p op number
 
--- no principal has more entries, or more bytes of them
-abbrev pub HasNoMore : State → State → Type 0
-HasNoMore s t = (p : ℕ) → ((tally_of t p).entries ≤ (tally_of s p).entries) × ((tally_of t p).bytes ≤ (tally_of s p).bytes)
+-- no principal has more entries, or more bytes of them, and neither have all together
+pub record HasNoMore (s t : State) : Type 0 where
+  pub each : (p : ℕ) → ((tally_of t p).entries ≤ (tally_of s p).entries) × ((tally_of t p).bytes ≤ (tally_of s p).bytes)
+  pub entries : t.entries ≤ s.entries
+  pub bytes : t.bytes ≤ s.bytes
 
 -- `cs` is what is left of the history: the entries that still matter. It is legal, and leads to a state of one standing with that of the
 -- history, in which each case is the same and nobody has more entries; and compacted again it stays as it is.

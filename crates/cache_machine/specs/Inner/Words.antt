@@ -85,7 +85,6 @@ AreOfHead h actors = (a : ℕ) (x : ActorTree) → slice_get actors a ≡ Some x
 
 -- what always holds of a machine
 pub record IsWorded (s : MachineState) : Type 0 where
-  pub few : length s.head.principals ≤ 64
   pub slots : length s.slots ≡ 4096
   pub regions : length s.regions ≡ 512
   pub sound : AreSound s.head s.entries s.slots

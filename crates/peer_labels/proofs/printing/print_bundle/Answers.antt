@@ -5,7 +5,6 @@ use Rattle.std.proofs.lemmas.List.Elements.{All-cons, All-nil, All-same}
 use Rattle.nal_term.specs.Trees.{formula_tree}
 use Rattle.nal_parse.specs.Canonical.{IsSpellable}
 use Rattle.label_store.specs.LabelRows.{labels_of}
-use Rattle.policy_history.specs.declared.heads.Head.{Head}
 use Rattle.policy_history.specs.Events.{entry_tree}
 use Rattle.policy_history.specs.Values.{entry_trees, state_after}
 use Rattle.run_streams.specs.Runs.{most_bytes}
@@ -34,11 +33,9 @@ returns c =
     let i = c.loop-label.invariant in
     let none = no_label left c.in_default.ensures.label in
     let text = whole_text c.loop-label.text c.extend.new.self left labels none i.text c.in_ok-extend.ensures.ok in
-    let principals = c.count-principals.ensures in
-    let few : length c.head.result.now.principals ≤ 64 = omega (arith, principals.count, principals.bound) in
     let count = c.count-entries.ensures in
     let short : length (entry_trees entries) ≤ 262144 = omega (arith, length-map entries entry_tree, count.count, count.bound) in
-    let held = held_labels c.args.journal.now.head (entry_trees entries) c.args.holder count.legal (subst (λ (h : Head). length h.principals ≤ 64) c.head.ensures few) short in
+    let held = held_labels c.args.journal.now.head (entry_trees entries) c.args.holder count.legal short in
     let spellable = i.spellable (All-same IsSpellable left [] none (All-nil IsSpellable)) in
     record {
       text = text;

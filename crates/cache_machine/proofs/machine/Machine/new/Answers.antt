@@ -11,7 +11,7 @@ invariant_of-result c =
     subst IsWorded
     (made_first c.args.journal.head (entry_trees c.args.journal.entries) c.args.actors.now.items c.in-Ok.field-0.slots.items c.in-Ok.field-0.regions.items (map actor_tree c.in-Ok.field-0.actors.items)
     (length c.args.journal.entries) made.slots made.regions (trees_length c.args.journal.entries) made.actors)
-    (first_worded c.args.journal.head (entry_trees c.args.journal.entries) c.args.actors.now.items made.few c.requires.principals)
+    (first_worded c.args.journal.head (entry_trees c.args.journal.entries) c.args.actors.now.items c.requires.principals)
 
 pub returns-in-Ok-clause-state : goal.returns-in-Ok-clause-state
 returns-in-Ok-clause-state c =
