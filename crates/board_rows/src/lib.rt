@@ -4,6 +4,8 @@
 #[cfg(test)]
 mod flags;
 #[cfg(test)]
+mod limits;
+#[cfg(test)]
 mod rolls;
 #[cfg(test)]
 mod rows;

@@ -3,12 +3,12 @@
 ghost use Rattle.std.specs.Prelude.{◌≡◌, [], None};
 
 use crate::flags::{ALLOWED, Flag, Flags, case_place};
-use crate::{rolls, slots};
+use crate::{limits, rolls, slots};
 use std::alloc::{AllocError, Global};
 use std::process::Abort;
 use verdict_words::{Board, BookSeat};
 
-// A verdict of case 5 is found, also behind an entry of another region: the words of the regions 8202, 8198 and 8449, of the count,
+// A verdict of case 5 is found, also behind an entry of another region: the words 69642, 69638 and 69889 of regions, of the count,
 // the point and the session. It is kept anew and found; and it misses once a verdict of another case has its slot.
 fn entry(
     alloc: Global,
@@ -30,7 +30,7 @@ fn entry(
     board.publish(seat, &flag);
     let mut pass = board.meet(seat, pass);
     let second = board.look(&mut pass, &case_place(5));
-    let regions = [board.word(8202), board.word(8198), board.word(8449)];
+    let regions = [board.word(69_642), board.word(69_638), board.word(69_889)];
     let counts = [board.word(0), pass.at(), pass.session()];
     board.fill(&mut pass, &case_place(5), 1, &ALLOWED);
     let third = board.look(&mut pass, &case_place(5));
@@ -58,7 +58,7 @@ fn registers(
         board.run_add(&mut pass, 3, u64::MAX),
         board.run_add(&mut pass, 3, 2),
         board.run_read(&mut pass, 3),
-        board.run_read(&mut pass, 4095),
+        board.run_read(&mut pass, 65_535),
     ];
     drop(pass);
     let words = [board.word(4099), board.word(4100), board.word(4101)];
@@ -162,6 +162,9 @@ fn told_on(
         "a read is of the last step of any session" => reads(alloc, board, seat),
         "passes are met together" => meetings(alloc, board, seat),
         "sessions begin by a roll" => rolls::told(alloc, board, seat),
+        "stores 256 apart share a region" => limits::stores(alloc, board, seat),
+        "the last case has the last slot" => limits::last_case(alloc, board, seat),
+        "the last object has the last register" => limits::last_register(alloc, board, seat),
         _ => Err(AllocError),
     }
 }
@@ -183,7 +186,10 @@ a register step answers what the register held -> [1, 2] [0, 0, 7, 6, 8, 0] [0, 
 a look misses behind a change of another session -> Hit { at: 0, held: Held { code: 1, line: 0, fault: 0 } } Miss
 a read is of the last step of any session -> [0, 5, 9]
 passes are met together -> [0, 5] [[1, 1], [2, 1]]
-sessions begin by a roll -> [1, 2, 1, 4] Hit { at: 0, held: Held { code: 1, line: 0, fault: 0 } } [[1, 1], [2, 1]] [4, 1]";
+sessions begin by a roll -> [1, 2, 1, 4] Hit { at: 0, held: Held { code: 1, line: 0, fault: 0 } } [[1, 1], [2, 1]] [4, 1]
+stores 256 apart share a region -> [true, true, true] [false, false, true] [0, 1, 0]
+the last case has the last slot -> Hit { at: 0, held: Held { code: 1, line: 0, fault: 0 } } Miss [0, 1374388486144, 0]
+the last object has the last register -> [0, 7, 0] [0, 7, 0]";
 
 // The first row that comes to something else, with what it comes to. Nothing where there is none.
 fn first_other(alloc: Global, rows: &str) -> Result<String, AllocError> {

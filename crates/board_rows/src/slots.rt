@@ -60,8 +60,8 @@ fn told_on(
     let words = [
         board.word(0),
         board.word(6),
-        board.word(8193),
-        board.word(8704),
+        board.word(69_633),
+        board.word(70_144),
     ];
     let wrong_line = Held {
         code: 4,

@@ -69,7 +69,7 @@ fn serve<N: Naming<Flag, ()>>(
 ) -> (Pass<Flags>, bool, Look, Look)
     requires board { N.board ≡ Some board.now }
     requires pass { (pass.board ≡ board.now) × (met_seen pass ≡ []) }
-    requires flag { flag < 65536 }
+    requires flag { flag < 262144 }
     ensures pass { (result.0.board ≡ board.now) × (result.0.session ≡ pass.session) }
     ensures own { own (λ e. e.session) (met_seen result.0) pass.session
         ≡ (if result.1 then record { session = pass.session; flag = flag } ∷ [] else []) }

@@ -158,7 +158,7 @@ load_of number total old new outcome start_is none zero_is loaded journal told i
   record {
     steps = loaded.steps;
     many = loaded.many;
-    outcome_is = outcome_of opening_head opening (0 ∷ 0 ∷ 0 ∷ 0 ∷ []) old new loaded.steps loaded.happened outcome (omega arith) all_alice start_is none zero_is loaded.taken journal told idle_is;
+    outcome_is = outcome_of opening_head opening (0 ∷ 0 ∷ 0 ∷ 0 ∷ []) old new loaded.steps loaded.happened outcome all_alice start_is none zero_is loaded.taken journal told idle_is;
     drawn = subst (λ (es : List EntryTree). AreDrawn number es loaded.happened) (sym (ap (λ (j : History). entry_trees j.entries) journal)) loaded.drawn;
   },
 )

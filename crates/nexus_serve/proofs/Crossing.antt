@@ -89,7 +89,7 @@ pub authority_send : IsSend Authority.the_row
 authority_send = search (bytes_send, crosses, declared_send, sendable) depth 12
 
 pub principals_send : IsSend Principals.the_row
-principals_send = search (principal_send, crosses, declared_send, sendable) depth 12
+principals_send = search (principal_send, name_send, set_send, hasher_send, crosses, declared_send, sendable) depth 30 fits 5000
 
 pub authorities_send : IsSend Authorities.the_row
 authorities_send = search (authority_send, crosses, declared_send, sendable) depth 12

@@ -7,13 +7,13 @@ use Rattle.policy_history.specs.declared.events.Due.{Due}
 use Rattle.policy_history.specs.declared.events.Entry.{Entry}
 use Rattle.policy_history.specs.declared.events.Event.{Event}
 use Rattle.policy_history.specs.declared.events.Refusal.{Refusal}
-use Rattle.policy_history.specs.declared.events.Refusal.TheVariants.{NoSuchPrincipal, NotYourPrincipal, NoSuchLabel, NotHolder, NoSuchObject, NameTaken, NotOwner, NoGoal, NoSuchProof, NoBinding, BadPort, BadFormula, BadProof, Quota, ObjectsFull, CasesFull, NotRecorded}
+use Rattle.policy_history.specs.declared.events.Refusal.TheVariants.{NoSuchPrincipal, NotYourPrincipal, NoSuchLabel, NotHolder, NoSuchObject, NameTaken, NotOwner, NoGoal, NoSuchProof, NoBinding, BadPort, BadFormula, BadProof, Quota, JournalFull, ObjectsFull, CasesFull, NotRecorded}
 use Rattle.policy_history.specs.declared.heads.Head.{Head}
 use Rattle.policy_history.specs.Events.{EventTree}
 use Rattle.policy_history.specs.Machine.{applies, refusal_of, refusals}
 use Rattle.policy_history.specs.States.{State}
 use Rattle.policy_history.specs.Values.{decision}
-use Rattle.policy_history.proofs.Acceptance.{never_unrecorded}
+use Rattle.policy_history.proofs.ForCallers.{never_unrecorded}
 use Rattle.verdict_words.specs.Histories.{IsPrefix}
 use Rattle.verdict_words.specs.declared.views.AtomicStep.{AtomicStep}
 use Rattle.verdict_words.specs.Settling.{AreGathered}
@@ -63,6 +63,7 @@ decided_counts h s session p e at BadPort is = refl
 decided_counts h s session p e at BadFormula is = refl
 decided_counts h s session p e at BadProof is = refl
 decided_counts h s session p e at Quota is = refl
+decided_counts h s session p e at JournalFull is = refl
 decided_counts h s session p e at ObjectsFull is = refl
 decided_counts h s session p e at CasesFull is = refl
 decided_counts h s session p e at NotRecorded is = absurd (never_decided h s session p e is)

@@ -19,13 +19,13 @@ module _ (h : Head) (es : List EntryTree) (subject : ℕ) (op object : List ℕ)
   abbrev place_for : ℕ → Option ℕ → Option CasePlace
   place_for n = option_map (λ k. record { case = k; object = n; store = subject })
 
-  at_home : (n : ℕ) (number : Option ℕ) → subject < 256 → case_number (replay h es).cases subject op n ≡ number → IfSome (place_for n number) (λ p. IsPlace p × IsHome h es p.case p.object p.store)
+  at_home : (n : ℕ) (number : Option ℕ) → subject < 16384 → case_number (replay h es).cases subject op n ≡ number → IfSome (place_for n number) (λ p. IsPlace p × IsHome h es p.case p.object p.store)
   at_home n None few is = tt
   at_home n (Some k) few is =
       let there = case_there h es subject op n k is in
       ((there.5, few), record { row = there.0; stands = there.1; object_is = there.4; subject_is = there.2 })
 
-  pub snap_of : (at : ℕ) (case : RawCase) (number : Option ℕ) (place : Option CasePlace) (n : ℕ) → subject < 256 → at ≡ length es → IsFound h (replay h es) subject op object (Case case number n)
+  pub snap_of : (at : ℕ) (case : RawCase) (number : Option ℕ) (place : Option CasePlace) (n : ℕ) → subject < 16384 → at ≡ length es → IsFound h (replay h es) subject op object (Case case number n)
       → place ≡ option_map (λ k. record { case = k; object = n; store = subject }) number → IsSnapOf h es subject op object at case place n
   snap_of at case number place n few at_is found place_is =
       let same : place ≡ place_for n (case_number (replay h es).cases subject op n) = place_is ∙ ap (place_for n) found.2 in

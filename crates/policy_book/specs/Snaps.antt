@@ -18,7 +18,7 @@ module _ (h : Head) (es : List EntryTree) (subject : ℕ) (op object : List ℕ)
   pub record IsSnapOf (at : ℕ) (case : RawCase) (place : Option CasePlace) (n : ℕ) : Type 0 where
     pub at_is : at ≡ length es
     pub object_is : number_of (replay h es).objects object ≡ Some n
-    pub few : n < 4096
+    pub few : n < 65536
     pub case_is : case_tree case ≡ case_at h (replay h es) subject op n
     pub place_is : place ≡ option_map (λ k. record { case = k; object = n; store = subject }) (case_number (replay h es).cases subject op n)
     pub home : IfSome place (λ p. IsPlace p × IsHome h es p.case p.object p.store)

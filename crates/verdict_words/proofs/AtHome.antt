@@ -32,7 +32,7 @@ module _ {E H : Type 0} where
       begins = subst (λ (z : Identity E H). IsPrefix z.origin.opening (seen_of place.me.0)) here ok.begins;
     }
     | inr v ↦ let none : (board_of place.me.0 board).table.words ≡ 0 = ap (λ (z : Me (Unit {0}) (View E H)). (board_of z.0 board).table.words) v in
-        let all : (board_of place.me.0 board).table.words ≡ 8705 = ap (λ (z : Identity E H). z.table.words) is ∙ wide in absurd (omega (arith, none, all))
+        let all : (board_of place.me.0 board).table.words ≡ word_count = ap (λ (z : Identity E H). z.table.words) is ∙ wide in absurd (omega (arith, none, all))
   ]
 
   pub pass_ok : (board : Identity E H) (place : Seat (Unit {0}) (View E H)) (session at : ℕ) (seen : List E) (trail : List Item) (known : List AtomicStep) → place.table_id ≡ board.table → place.me ≡ (resting board.origin session seen trail known, [])

@@ -9,7 +9,7 @@ use lib.ListN.{get_elem?}
 use Rattle.atomic_table.specs.Table.{State, Me, step, keeps, Allows}
 use Rattle.atomic_table.proofs.Lists.{set_here, set_else}
 use Rattle.verdict_words.specs.Histories.{EachFrom, Untouched}
-use Rattle.verdict_words.specs.Words.{most_entries, Sound}
+use Rattle.verdict_words.specs.Words.{most_entries, Sound, region_count, first_region, region_word}
 use Rattle.verdict_words.specs.Orders.{leaves, IsDone, IsOrder, Steps, stores, publishes}
 use Rattle.verdict_words.specs.declared.views.AtomicStep.{AtomicStep}
 use Rattle.verdict_words.specs.Rule.{last_met, IsInOrder, IsBookInOrder, Apart, IsLoading, PassOk, IsSeated, BookOk, WasRaised, RegionOk, WordsOk, ViewOk, HasPass, IsKept}
@@ -150,25 +150,25 @@ module _ {E H : Type 0} (session : E → ℕ) (right : List E → ℕ → Held �
       }
 
   -- the words after a region was raised
-  words_raised : (b : BookView E H) (words : List ℕ) (r : ℕ) → r < 512 → b.raised ≡ None → length b.origin.opening ≤ length b.history → (known : List AtomicStep) → W b words → W (record b { raised = Some r; known = known }) (set words (8193 + r) (length b.history + 1))
+  words_raised : (b : BookView E H) (words : List ℕ) (r : ℕ) → r < region_count → b.raised ≡ None → length b.origin.opening ≤ length b.history → (known : List AtomicStep) → W b words → W (record b { raised = Some r; known = known }) (set words (region_word r) (length b.history + 1))
   words_raised b words r low free long known ok =
       let x : ℕ = length b.history + 1 in record {
-        wide = length-set words (8193 + r) x ∙ ok.wide;
-        count = get_or-set_other words (8193 + r) 0 x 0 (λ e. omega arith) ∙ ok.count;
-        slots = λ k lt. subst (Sound right b.history) (sym (get_or-set_other words (8193 + r) (1 + k) x 0 (λ e. omega arith))) (ok.slots k lt);
+        wide = length-set words (region_word r) x ∙ ok.wide;
+        count = get_or-set_other words (region_word r) 0 x 0 (λ e. omega arith) ∙ ok.count;
+        slots = λ k lt. subst (Sound right b.history) (sym (get_or-set_other words (region_word r) (1 + k) x 0 (λ e. omega arith))) (ok.slots k lt);
         regions = λ q lt. dite (ℕ_discrete q r)
-            (λ e. subst (λ (z : ℕ × ℕ). RegionOk touches (record b { raised = Some r; known = known }) z.0 z.1) (λ i. (sym e i, sym (ap (λ (z : ℕ). get_or (set words (8193 + r) x) (8193 + z) 0) e ∙ get_or-set_same words (8193 + r) x 0 (let w = ok.wide in omega arith)) i))
+            (λ e. subst (λ (z : ℕ × ℕ). RegionOk touches (record b { raised = Some r; known = known }) z.0 z.1) (λ i. (sym e i, sym (ap (λ (z : ℕ). get_or (set words (region_word r) x) (region_word z) 0) e ∙ get_or-set_same words (region_word r) x 0 (let w = ok.wide in omega arith)) i))
             record { still = each_none (λ before e. ¬ touches before e r) x b.history (omega arith); least = omega arith; raised = λ _. refl; else = λ n. absurd (n refl); set = λ n. absurd (n refl) })
-            (λ ne. subst (RegionOk touches (record b { raised = Some r; known = known }) q) (sym (get_or-set_other words (8193 + r) (8193 + q) x 0 (λ e. ne (omega arith))))
+            (λ ne. subst (RegionOk touches (record b { raised = Some r; known = known }) q) (sym (get_or-set_other words (region_word r) (region_word q) x 0 (λ e. ne (omega arith))))
             (let was = ok.regions q lt in record { still = was.still; least = was.least; raised = λ e. absurd (ne (sym (ap (some_or 0) e))); else = λ _. was.else (λ e. absurd (none_is_some q (sym free ∙ e))); set = λ _. was.set (λ e. absurd (none_is_some q (sym free ∙ e))) }));
       }
 
   -- a region is raised
-  pub raises : (id : ℕ) (b : BookView E H) (r : ℕ) → r < 512 → b.raised ≡ None → length b.history < most_entries
-      → Allows K 0 id (Book b, []) (8193 + r) (λ _. length b.history + 1) (λ _. raised_region (step 0 (8193 + r) (length b.history + 1) 0 none) (Book b, []) (length b.history + 1))
+  pub raises : (id : ℕ) (b : BookView E H) (r : ℕ) → r < region_count → b.raised ≡ None → length b.history < most_entries
+      → Allows K 0 id (Book b, []) (region_word r) (λ _. length b.history + 1) (λ _. raised_region (step 0 (region_word r) (length b.history + 1) 0 none) (Book b, []) (length b.history + 1))
   raises id b r low free room s k sized at fits =
       let known = known_book s k id b at in
-      let i : ℕ = 8193 + r in
+      let i : ℕ = region_word r in
       let n : ℕ = get_or s.words i 0 in
       let x : AtomicStep = stores 0 i (length b.history + 1) n in
       let c : BookView E H = record b { raised = Some r; known = known.order ++ x ∷ [] } in (
@@ -185,12 +185,12 @@ module _ {E H : Type 0} (session : E → ℕ) (right : List E → ℕ → Held �
           omega arith,
           omega arith,
           free,
-          (let same : r ≡ i - 8193 = omega arith in (known.order ++ x ∷ [], n, (λ j. (Book (record b { raised = Some (same j); known = known.order ++ x ∷ [] }), [])), (known.order, known.book_in.known, refl))),
+          (let same : r ≡ i - first_region = omega arith in (known.order ++ x ∷ [], n, (λ j. (Book (record b { raised = Some (same j); known = known.order ++ x ∷ [] }), [])), (known.order, known.book_in.known, refl))),
         ),
       )
 
   -- the words after an entry was published
-  words_published : (b : BookView E H) (words : List ℕ) (e : E) → ((r : ℕ) → r < 512 → touches b.history e r ↔ (b.raised ≡ Some r)) → (known : List AtomicStep) → W b words
+  words_published : (b : BookView E H) (words : List ℕ) (e : E) → ((r : ℕ) → r < region_count → touches b.history e r ↔ (b.raised ≡ Some r)) → (known : List AtomicStep) → W b words
       → W (after_entry session e known b) (set words 0 (length b.history + 1))
   words_published b words e raises known ok =
       let x : ℕ = length b.history + 1 in
@@ -200,8 +200,8 @@ module _ {E H : Type 0} (session : E → ℕ) (right : List E → ℕ → Held �
         count = get_or-set_same words 0 x 0 (let w = ok.wide in omega arith) ∙ sym longer;
         slots = λ k lt. subst (Sound right h) (sym (get_or-set_other words 0 (1 + k) x 0 (λ q. omega arith)))
             (sound_grows right b.history h (get_or words (1 + k) 0) (e ∷ [], refl) (ok.slots k lt));
-        regions = λ r lt. subst (RegionOk touches (after_entry session e known b) r) (sym (get_or-set_other words 0 (8193 + r) x 0 (λ q. omega arith)))
-            (region r (get_or words (8193 + r) 0) (raises r lt) (ok.regions r lt));
+        regions = λ r lt. subst (RegionOk touches (after_entry session e known b) r) (sym (get_or-set_other words 0 (region_word r) x 0 (λ q. omega arith)))
+            (region r (get_or words (region_word r) 0) (raises r lt) (ok.regions r lt));
       }
     where
       still : (r word : ℕ) (raised : Option ℕ) → (touches b.history e r → raised ≡ Some r) → Untouched touches b.history word r → (raised ≡ Some r → word ≡ length b.history + 1)
@@ -241,7 +241,7 @@ module _ {E H : Type 0} (session : E → ℕ) (right : List E → ℕ → Held �
 
   -- an entry is published
   pub grows : (id : ℕ) (b : BookView E H) (said : Option E) (e : E) → said ≡ Some e → b.turn ≢ 0 → session e ≡ b.turn → length b.history < most_entries
-      → ((r : ℕ) → r < 512 → touches b.history e r ↔ (b.raised ≡ Some r))
+      → ((r : ℕ) → r < region_count → touches b.history e r ↔ (b.raised ≡ Some r))
       → Allows K 0 id (Book b, []) 0 (λ n. (n + 1) % 2 ^ 64) (published session said (step 0 0 1 0 none) (Book b, []))
   grows id b said e is some_turn turn room raises s k sized at fits =
       let known = known_book s k id b at in

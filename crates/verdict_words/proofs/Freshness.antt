@@ -5,7 +5,7 @@ use Rattle.std.proofs.lemmas.List.Elements.{All-cons, All-nil}
 use Rattle.std.proofs.lemmas.Bool.{ne_eqb, eq-eqb}
 use mathlib.Core.Logic.{dite}
 use native.Mathlib.Decide.{ℕ_discrete}
-use Rattle.verdict_words.specs.Words.{first_words}
+use Rattle.verdict_words.specs.Words.{first_words, word_count}
 use Rattle.verdict_words.specs.Orders.{leaves, Replays, IsDone}
 use Rattle.verdict_words.specs.Laws.{IsLeft, FindsTheLast, CountsAll, is_add, entries_in}
 use Rattle.verdict_words.specs.declared.views.Action.{Action}
@@ -36,7 +36,7 @@ between words last (x ∷ xs) after step replays done =
     }
 
 -- every step is on a word of the board
-on_board : (action : Action) (session word : ℕ) → IsDone action session word → word < 8705
+on_board : (action : Action) (session word : ℕ) → IsDone action session word → word < word_count
 on_board Load session word low = low
 on_board (Store value) session word done = ⊎_elim (λ t. let h = t.1.1 in omega arith) (λ t. let h = t.1.1 in omega arith) done
 on_board (Swap value) session word done = let h = done.1.1 in omega arith

@@ -11,7 +11,7 @@ use lib.Seq.{set-get_or}
 use Rattle.atomic_table.specs.Table.{State}
 use Rattle.atomic_table.proofs.Lists.{at_set, set_here, set_else}
 use Rattle.verdict_words.specs.Histories.{IsPrefix, Untouched}
-use Rattle.verdict_words.specs.Words.{Sound, object_region, store_region}
+use Rattle.verdict_words.specs.Words.{Sound, object_region, store_region, slot_count, first_register, first_region, region_word}
 use Rattle.verdict_words.specs.Orders.{leaves, IsDone}
 use Rattle.verdict_words.specs.Rule.{met_after, last_met, pass_steps, IsInOrder, IsLoaded, IsLoading, PassOk, RegionOk, WordsOk, ViewOk, HasPass, IsKept}
 use Rattle.verdict_words.specs.declared.views.AtomicStep.{AtomicStep}
@@ -167,23 +167,23 @@ module _ {E H : Type 0} (session : E → ℕ) (right : List E → ℕ → Held �
   words_loaded book words i ok = subst (W book) (sym (set-get_or words i 0)) ok
 
   -- the words after a step on a register
-  pub words_register : (book : BookView E H) (words : List ℕ) (i x : ℕ) → 4097 ≤ i → i < 8193 → W book words → W book (set words i x)
+  pub words_register : (book : BookView E H) (words : List ℕ) (i x : ℕ) → first_register ≤ i → i < first_region → W book words → W book (set words i x)
   words_register book words i x low high ok = record {
     wide = length-set words i x ∙ ok.wide;
     count = get_or-set_other words i 0 x 0 (λ e. omega arith) ∙ ok.count;
     slots = λ k lt. subst (Sound right book.history) (sym (get_or-set_other words i (1 + k) x 0 (λ e. omega arith))) (ok.slots k lt);
-    regions = λ r lt. subst (RegionOk touches book r) (sym (get_or-set_other words i (8193 + r) x 0 (λ e. omega arith))) (ok.regions r lt);
+    regions = λ r lt. subst (RegionOk touches book r) (sym (get_or-set_other words i (region_word r) x 0 (λ e. omega arith))) (ok.regions r lt);
   }
 
   -- the words after a store of a sound word into a slot
-  pub words_slot : (book : BookView E H) (words : List ℕ) (c x : ℕ) → c < 4096 → Sound right book.history x → W book words → W book (set words (1 + c) x)
+  pub words_slot : (book : BookView E H) (words : List ℕ) (c x : ℕ) → c < slot_count → Sound right book.history x → W book words → W book (set words (1 + c) x)
   words_slot book words c x low sound ok = record {
     wide = length-set words (1 + c) x ∙ ok.wide;
     count = get_or-set_other words (1 + c) 0 x 0 (λ e. omega arith) ∙ ok.count;
     slots = λ k lt. dite (ℕ_discrete k c)
         (λ e. subst (Sound right book.history) (sym (ap (λ (z : ℕ). get_or (set words (1 + c) x) (1 + z) 0) e ∙ get_or-set_same words (1 + c) x 0 (let w = ok.wide in omega arith))) sound)
         (λ ne. subst (Sound right book.history) (sym (get_or-set_other words (1 + c) (1 + k) x 0 (λ e. ne (omega arith)))) (ok.slots k lt));
-    regions = λ r lt. subst (RegionOk touches book r) (sym (get_or-set_other words (1 + c) (8193 + r) x 0 (λ e. omega arith))) (ok.regions r lt);
+    regions = λ r lt. subst (RegionOk touches book r) (sym (get_or-set_other words (1 + c) (region_word r) x 0 (λ e. omega arith))) (ok.regions r lt);
   }
 
   -- a pass whose trail gains an item that tells no meeting

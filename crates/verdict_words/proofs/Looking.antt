@@ -5,7 +5,7 @@ use mathlib.Core.Option.{none}
 use Rattle.verdict_words.specs.Histories.{IsPrefix, Untouched}
 use Rattle.verdict_words.specs.Orders.{Steps, loads, stores, item_steps}
 use Rattle.verdict_words.specs.declared.views.AtomicStep.{AtomicStep}
-use Rattle.verdict_words.specs.Words.{slot_word, register_word, spelling, region_word, most_entries, Sound, Spells, IsSlot, object_region, store_region}
+use Rattle.verdict_words.specs.Words.{slot_word, register_word, spelling, region_word, most_entries, Sound, Spells, IsSlot, object_region, store_region, first_register}
 use Rattle.verdict_words.specs.Inner.Steps.{On, ForSlot, ForCount, ForObject, ran, loaded_slot, loaded_count, loaded_object, loaded_store}
 use Rattle.verdict_words.specs.declared.views.RegisterStep.{RegisterStep}
 use Rattle.verdict_words.specs.Answers.{IsAnswer, HitIsRight}
@@ -42,7 +42,7 @@ module _ {E H : Type 0} where
 
   pub after_run : (operand : ℕ) (m m' : Me (Unit {0}) (View E H)) (p : PassView E H) (kind : RegisterStep) (object found : ℕ) → m ≡ (Pass p, [])
       → ran kind (step 0 (register_word object) operand 0 none) m found m' → After m' (λ knows. record p { trail = p.trail ++ Ran object kind found ∷ []; known = knows }) p.known (item_steps p.session (Ran object kind found))
-  after_run operand m m' p kind object found is saw = let same : (4097 + object) - 4097 ≡ object = omega arith in
+  after_run operand m m' p kind object found is saw = let same : register_word object - first_register ≡ object = omega arith in
       subst (λ n. After m' (λ knows. record p { trail = p.trail ++ Ran n kind found ∷ []; known = knows }) p.known (item_steps p.session (Ran n kind found))) same
       (subst (λ (z : Me (Unit {0}) (View E H)). ran kind (step 0 (register_word object) operand 0 none) z found m') is saw).3
 

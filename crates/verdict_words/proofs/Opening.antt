@@ -6,7 +6,7 @@ use Rattle.std.proofs.lemmas.List.Elements.{All-nil}
 use mathlib.Core.Option.{some, some-injective, some-ne-none}
 use lib.ListN.{get_elem?, length-replicate}
 use Rattle.atomic_table.specs.Table.{opening}
-use Rattle.verdict_words.specs.Words.{most_entries, first_words}
+use Rattle.verdict_words.specs.Words.{most_entries, first_words, slot_count, region_count, most_objects, first_region, word_count, region_word}
 use Rattle.verdict_words.specs.Histories.{own}
 use Rattle.verdict_words.specs.Orders.{Replays, IsDone}
 use Rattle.verdict_words.specs.Rule.{origin_of, first_book, IsSeated, RegionOk, WordsOk, ViewOk, IsKept, StartsWith}
@@ -22,33 +22,33 @@ use Rattle.verdict_words.proofs.BookKept.{none_is_some}
 use Rattle.verdict_words.proofs.Ordering.{no_steps}
 
 abbrev front : ℕ → List ℕ
-front count = count ∷ replicate 8192 0
+front count = count ∷ replicate (slot_count + most_objects) 0
 
-front_length : (count : ℕ) → length (front count) ≡ 8193
-front_length count = omega (arith, length-replicate {A = ℕ} 8192 0)
+front_length : (count : ℕ) → length (front count) ≡ first_region
+front_length count = omega (arith, length-replicate {A = ℕ} (slot_count + most_objects) 0)
 
 -- the words as they are filled in
-pub filled : (count n m : ℕ) (a b c d : List ℕ) → a ≡ [] → b ≡ a ++ count ∷ [] → n ≡ 1 → c ≡ take 8193 b ++ replicate (8193 - n) 0 → m ≡ 8193 → d ≡ take 8705 c ++ replicate (8705 - m) count → d ≡ first_words count
+pub filled : (count n m : ℕ) (a b c d : List ℕ) → a ≡ [] → b ≡ a ++ count ∷ [] → n ≡ 1 → c ≡ take first_region b ++ replicate (first_region - n) 0 → m ≡ first_region → d ≡ take word_count c ++ replicate (word_count - m) count → d ≡ first_words count
 filled count n m a b c d ea eb en ec em ed =
     let b' : b ≡ count ∷ [] = eb ∙ ap (λ (l : List ℕ). l ++ count ∷ []) ea in
-    let n' : 8193 - n ≡ 8192 = omega arith in
-    let m' : 8705 - m ≡ 512 = omega arith in
-    let c' : c ≡ front count = ec ∙ (λ i. take_all 8193 b (omega (arith, ap length b')) i ++ replicate (n' i) 0) ∙ (λ i. b' i ++ replicate 8192 0) in
-    ed ∙ (λ i. take_all 8705 c (omega (arith, ap length c', front_length count)) i ++ replicate (m' i) count) ∙ (λ i. c' i ++ replicate 512 count)
+    let n' : first_region - n ≡ slot_count + most_objects = omega arith in
+    let m' : word_count - m ≡ region_count = omega arith in
+    let c' : c ≡ front count = ec ∙ (λ i. take_all first_region b (omega (arith, ap length b')) i ++ replicate (n' i) 0) ∙ (λ i. b' i ++ replicate (slot_count + most_objects) 0) in
+    ed ∙ (λ i. take_all word_count c (omega (arith, ap length c', front_length count)) i ++ replicate (m' i) count) ∙ (λ i. c' i ++ replicate region_count count)
 
-pub words_length : (count : ℕ) → length (first_words count) ≡ 8705
-words_length count = omega (arith, length-append (front count) (replicate 512 count), front_length count, length-replicate 512 count)
+pub words_length : (count : ℕ) → length (first_words count) ≡ word_count
+words_length count = omega (arith, length-append (front count) (replicate region_count count), front_length count, length-replicate region_count count)
 
 pub words_count : (count : ℕ) → get_or (first_words count) 0 0 ≡ count
 words_count count = refl
 
-pub words_slot : (count k : ℕ) → k < 8192 → get_or (first_words count) (1 + k) 0 ≡ 0
-words_slot count k low = get_or_append_left (front count) (replicate 512 count) 0 (1 + k) (omega (arith, front_length count))
-    ∙ (let e : 1 + k ≡ suc k = omega arith in ap (λ (j : ℕ). get_or (front count) j 0) e ∙ get_or-replicate 8192 k 0 0 low)
+pub words_slot : (count k : ℕ) → k < slot_count + most_objects → get_or (first_words count) (1 + k) 0 ≡ 0
+words_slot count k low = get_or_append_left (front count) (replicate region_count count) 0 (1 + k) (omega (arith, front_length count))
+    ∙ (let e : 1 + k ≡ suc k = omega arith in ap (λ (j : ℕ). get_or (front count) j 0) e ∙ get_or-replicate (slot_count + most_objects) k 0 0 low)
 
-pub words_region : (count r : ℕ) → r < 512 → get_or (first_words count) (8193 + r) 0 ≡ count
-words_region count r low = get_or-append_right (front count) (replicate 512 count) 8193 (8193 + r) 0 (front_length count) (omega arith)
-    ∙ get_or-replicate 512 ((8193 + r) - 8193) count 0 (omega arith)
+pub words_region : (count r : ℕ) → r < region_count → get_or (first_words count) (region_word r) 0 ≡ count
+words_region count r low = get_or-append_right (front count) (replicate region_count count) first_region (region_word r) 0 (front_length count) (omega arith)
+    ∙ get_or-replicate region_count (region_word r - first_region) count 0 (omega arith)
 
 module _ {E H : Type 0} (session : E → ℕ) where
   pub seated_first : (o : Origin E H) → 1 ≤ o.first → All (λ e. session e < o.first) o.opening → IsSeated session o o.opening o.first 0

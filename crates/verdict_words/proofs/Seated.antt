@@ -7,7 +7,7 @@ use Rattle.verdict_words.specs.Histories.{own}
 use Rattle.verdict_words.specs.Rule.{last_met, IsSeated, PassOk}
 use Rattle.verdict_words.specs.Inner.Steps.{after_entry, raised_region, published, receiving, releasing, released}
 use Rattle.verdict_words.specs.Settling.{without}
-use Rattle.verdict_words.specs.Words.{region_word}
+use Rattle.verdict_words.specs.Words.{region_word, first_region}
 use Rattle.verdict_words.specs.Orders.{Steps, stores, publishes}
 use Rattle.verdict_words.specs.declared.views.AtomicStep.{AtomicStep}
 use Rattle.verdict_words.specs.Values.{Identity, SeatValue, seen_of, turn_of, lag_of, raised_of, known_of, presiding}
@@ -39,7 +39,7 @@ module _ {E H : Type 0} where
 
   pub after_raise : (word : ℕ) (m m' : Me (Unit {0}) (View E H)) (b : BookView E H) (region : ℕ) → m ≡ (Book b, [])
       → raised_region (step 0 (region_word region) word 0 none) m word m' → (knows : List AtomicStep) × (found : ℕ) × (m' ≡ (Book (record b { raised = Some region; known = knows }), [])) × Steps b.known (stores 0 (region_word region) (length b.history + 1) found ∷ []) knows
-  after_raise word m m' b region is saw = let same : (8193 + region) - 8193 ≡ region = omega arith in
+  after_raise word m m' b region is saw = let same : region_word region - first_region ≡ region = omega arith in
       let t = (subst (λ (z : Me (Unit {0}) (View E H)). raised_region (step 0 (region_word region) word 0 none) z word m') is saw).4 in
       (t.0, t.1, t.2 ∙ (λ i. (Book (record b { raised = Some (same i); known = t.0 }), [])), t.3)
 

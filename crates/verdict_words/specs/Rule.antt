@@ -4,7 +4,7 @@ use mathlib.Core.Option.{some}
 use lib.ListN.{get_elem?}
 use Rattle.atomic_table.specs.Table.{State, opening}
 use Rattle.verdict_words.specs.Histories.{IsPrefix, EachFrom, Untouched, own}
-use Rattle.verdict_words.specs.Words.{word_count, most_entries, object_region, store_region, region_word, Sound}
+use Rattle.verdict_words.specs.Words.{word_count, most_entries, object_region, store_region, region_word, Sound, slot_count, region_count}
 use Rattle.verdict_words.specs.Orders.{IsOrder, trail_steps, loading_steps, told_of}
 use Rattle.verdict_words.specs.declared.views.AtomicStep.{AtomicStep}
 use Rattle.verdict_words.specs.declared.places.Held.{Held}
@@ -112,8 +112,8 @@ module _ {E H : Type 0} (right : List E → ℕ → Held → Type 0) (touches : 
   pub record WordsOk (book : BookView E H) (words : List ℕ) : Type 0 where
     pub wide : length words ≡ word_count
     pub count : slice_index words 0 ≡ length book.history
-    pub slots : (k : ℕ) → k < 4096 → Sound right book.history (slice_index words (1 + k))
-    pub regions : (r : ℕ) → r < 512 → RegionOk touches book r (slice_index words (region_word r))
+    pub slots : (k : ℕ) → k < slot_count → Sound right book.history (slice_index words (1 + k))
+    pub regions : (r : ℕ) → r < region_count → RegionOk touches book r (slice_index words (region_word r))
 
 module _ {E H : Type 0} (session : E → ℕ) (right : List E → ℕ → Held → Type 0) (touches : List E → E → ℕ → Type 0) where
   -- What a pass knows, beside the book. Unless its session lags, no entry of that session stands behind the last meeting

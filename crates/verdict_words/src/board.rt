@@ -6,7 +6,7 @@ ghost use Rattle.verdict_words.specs.Rule.{StartsWith};
 use crate::mark::Mark;
 use crate::matter::Matter;
 use crate::seat::BookSeat;
-use crate::steps::{Words, make_table};
+use crate::steps::{FIRST_REGION, WORD_COUNT, Words, make_table};
 use crate::views::Key;
 use std::alloc::{AllocError, Global};
 use std::marker::Model;
@@ -36,10 +36,10 @@ impl<M: Matter> Model for Board<M> {
 fn first_words(alloc: Global, count: u64) -> Result<Vec<u64>, AllocError>
     ensures { IfOk result (λ v. v.items ≡ first_words count) }
 {
-    let mut words = Vec::with_capacity(alloc, 8705)?;
+    let mut words = Vec::with_capacity(alloc, WORD_COUNT)?;
     words.push(count)?;
-    words.resize(8193, 0)?;
-    words.resize(8705, count)?;
+    words.resize(FIRST_REGION, 0)?;
+    words.resize(WORD_COUNT, count)?;
     Ok(words)
 }
 

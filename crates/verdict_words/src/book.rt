@@ -1,7 +1,7 @@
 //! The steps of the owner of the history.
 ghost use Rattle.std.specs.Prelude.{◌≡◌, ◌≢◌, ℕ, ◌+◌, ◌-◌, ◌^◌, ◌<◌, ◌≤◌, ◌↔◌, [], ◌∷◌, ◌++◌, length, All, Some, None};
 ghost use Rattle.verdict_words.specs.Histories.{IsPrefix, own};
-ghost use Rattle.verdict_words.specs.Words.{most_entries, region_word};
+ghost use Rattle.verdict_words.specs.Words.{most_entries, region_word, region_count};
 ghost use Rattle.verdict_words.specs.Orders.{Steps, stores, publishes};
 ghost use Rattle.verdict_words.specs.Settling.{AreGathered, without};
 ghost use Rattle.verdict_words.specs.Values.{met_seen};
@@ -46,7 +46,7 @@ impl<M: Matter> Board<M> {
     /// Raises the word of a region above the length of the history, so that every case of that region misses: one store.
     pub fn raise(&self, seat: &mut BookSeat<M>, region: u64)
         requires board { seat.old.board ≡ self.now }
-        requires region { region < 512 }
+        requires region { region < region_count }
         requires free { seat.old.raised ≡ None }
         requires room { length seat.old.entries < most_entries }
         ensures seat { seat.new ≡ record seat.old { raised = Some region; known = seat.new.known } }
@@ -63,7 +63,7 @@ impl<M: Matter> Board<M> {
         requires board { seat.old.board ≡ self.now }
         requires turn { (seat.old.turn ≢ 0) × (M.session entry.now ≡ seat.old.turn) }
         requires room { length seat.old.entries < most_entries }
-        requires region { (r : ℕ) → r < 512
+        requires region { (r : ℕ) → r < region_count
             → (M.touches self.now.origin.setting seat.old.entries entry.now r ↔ (seat.old.raised ≡ Some r)) }
         ensures seat { seat.new
             ≡ record seat.old {

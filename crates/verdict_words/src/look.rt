@@ -1,7 +1,7 @@
 //! Kept verdicts: how a session looks for one, and keeps one.
 ghost use Rattle.std.specs.Prelude.{◌≡◌, ◌↔◌, ℕ, ◌<◌, ◌≤◌, [], ◌∷◌, ◌++◌, length, take, Some};
 ghost use Rattle.verdict_words.specs.Histories.{IsPrefix};
-ghost use Rattle.verdict_words.specs.Words.{IsHeld, IsPlace, IsSlot, Spells, slot_word, spelling};
+ghost use Rattle.verdict_words.specs.Words.{IsHeld, IsPlace, IsSlot, Spells, slot_word, spelling, most_cases, most_entries};
 ghost use Rattle.verdict_words.specs.Orders.{Steps, item_steps, stores};
 ghost use Rattle.verdict_words.specs.Answers.{IsAnswer, HitIsRight};
 ghost use Rattle.verdict_words.specs.declared.places.Held.{Held};
@@ -17,7 +17,7 @@ const LOW_20: u64 = 0xf_ffff;
 
 // The word that keeps a verdict.
 fn spelled(case: u64, at: u64, held: &Held) -> u64
-    requires { (case < 65536) × (at ≤ 262144) × IsHeld held.now }
+    requires { (case < most_cases) × (at ≤ most_entries) × IsHeld held.now }
     ensures { result ≡ spelling case at held.now }
 {
     (held.fault << 56) + (held.line << 44) + (held.code << 40) + (case << 20) + at

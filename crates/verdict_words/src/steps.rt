@@ -3,7 +3,7 @@
 ghost use Rattle.std.specs.Prelude.{◌≡◌, ℕ, ◌+◌, ◌<◌, ◌≤◌, [], length, All, IfOk, Some, None};
 ghost use mathlib.Core.Option.{none};
 ghost use Rattle.atomic_table.specs.Table.{step};
-ghost use Rattle.verdict_words.specs.Words.{most_entries, word_count, first_words, slot_word, register_word, region_word, object_region, store_region, spelling, IsHeld, IsPlace};
+ghost use Rattle.verdict_words.specs.Words.{most_entries, word_count, first_words, slot_word, register_word, region_word, object_region, store_region, spelling, IsHeld, most_cases, most_objects, region_count};
 ghost use Rattle.verdict_words.specs.Rule.{first_book, origin_of};
 ghost use Rattle.verdict_words.specs.Inner.Steps.{has_read, has_written, has_added, loaded_slot, stored_slot, loaded_count, loaded_object, loaded_store, raised_region, published, checked, admitting, admitted, yielding, yielded, receiving, releasing, returning};
 ghost use Rattle.verdict_words.specs.Inner.Seats.{IsPassLoading, CanKeep, CanRaise, CanPublish, IsBooks, IsHoldingOne};
@@ -18,6 +18,20 @@ use crate::views::{Item, Key, View};
 use atomic_table::{Join, Play, Seat, Split, Table, TableRule};
 use std::alloc::{AllocError, Global};
 use std::marker::{Brand, PhantomData};
+
+// The numbers of slots and of the regions of objects and of stores, the first words of the registers and of the regions, and the
+// number of all words.
+const SLOTS: u64 = 4096;
+
+const OBJECT_REGIONS: u64 = 256;
+
+const STORE_REGIONS: u64 = 256;
+
+const FIRST_REGISTER: usize = 4097;
+
+pub const FIRST_REGION: usize = 69_633;
+
+pub const WORD_COUNT: usize = 70_145;
 
 /// The rule of a board about `M`.
 pub struct Rule<M> {
@@ -246,7 +260,7 @@ impl<M: Matter> Board<M> {
     {
         self.words
             .shared
-            .load::<LoadSlot<W>>(seat, 1 + (place.case % 4096) as usize)
+            .load::<LoadSlot<W>>(seat, 1 + (place.case % SLOTS) as usize)
     }
 
     /// Loads the count for a look: the pass sees the history.
@@ -269,24 +283,25 @@ impl<M: Matter> Board<M> {
         ensures told { loaded_object M.right M.touches (step 0 (region_word (object_region place.now.object)) 0 0 none)
             seat.old.me result seat.new.me }
     {
-        self.words
-            .shared
-            .load::<LoadObject<M>>(seat, 8193 + (place.object % 256) as usize)
+        self.words.shared.load::<LoadObject<M>>(
+            seat,
+            FIRST_REGION + (place.object % OBJECT_REGIONS) as usize,
+        )
     }
 
     /// Loads the region of the place's store: a look ends.
     #[inline(always)]
     pub(crate) fn load_store(&self, seat: &mut Place<M>, place: &CasePlace) -> u64
         requires table { seat.old.table_id ≡ self.now.table }
-        requires place { IsPlace place.now }
         requires pass { (slot count object : ℕ) × IsPassLoading (Object place.now slot count object) seat.old.me }
         ensures table { seat.new.table_id ≡ self.now.table }
         ensures told { loaded_store M.right M.touches (step 0 (region_word (store_region place.now.store)) 0 0 none)
             seat.old.me result seat.new.me }
     {
-        self.words
-            .shared
-            .load::<LoadStore<M>>(seat, 8193 + (256 + place.store as usize))
+        self.words.shared.load::<LoadStore<M>>(
+            seat,
+            FIRST_REGION + (OBJECT_REGIONS + place.store % STORE_REGIONS) as usize,
+        )
     }
 
     /// Stores the word that spells a verdict into the slot of its case.
@@ -301,7 +316,7 @@ impl<M: Matter> Board<M> {
     )
         requires said { W.said ≡ Some (Filled place.now.case at held.now) }
         requires table { seat.old.table_id ≡ self.now.table }
-        requires word { (place.now.case < 65536) × (at ≤ most_entries) × IsHeld held.now
+        requires word { (place.now.case < most_cases) × (at ≤ most_entries) × IsHeld held.now
             × (word ≡ spelling place.now.case at held.now) }
         requires pass { CanKeep (M.right self.now.origin.setting) place.now.case at held.now seat.old.me }
         ensures table { seat.new.table_id ≡ self.now.table }
@@ -311,63 +326,63 @@ impl<M: Matter> Board<M> {
         let _ = held;
         self.words
             .shared
-            .store::<StoreSlot<W>>(seat, 1 + (place.case % 4096) as usize, word);
+            .store::<StoreSlot<W>>(seat, 1 + (place.case % SLOTS) as usize, word);
     }
 
     /// Loads the register of the object.
     #[inline(always)]
     pub(crate) fn read_register(&self, seat: &mut Place<M>, object: u64) -> u64
         requires table { seat.old.table_id ≡ self.now.table }
-        requires object { object < 4096 }
+        requires object { object < most_objects }
         requires pass { IsPassLoading Nothing seat.old.me }
         ensures table { seat.new.table_id ≡ self.now.table }
         ensures told { has_read (step 0 (register_word object) 0 0 none) seat.old.me result seat.new.me }
     {
         self.words
             .shared
-            .load::<ReadRegister>(seat, 4097 + object as usize)
+            .load::<ReadRegister>(seat, FIRST_REGISTER + object as usize)
     }
 
     /// Sets the register of the object, and answers what it held.
     #[inline(always)]
     pub(crate) fn swap_register(&self, seat: &mut Place<M>, object: u64, value: u64) -> u64
         requires table { seat.old.table_id ≡ self.now.table }
-        requires object { object < 4096 }
+        requires object { object < most_objects }
         requires pass { IsPassLoading Nothing seat.old.me }
         ensures table { seat.new.table_id ≡ self.now.table }
         ensures told { has_written (step 0 (register_word object) value 0 none) seat.old.me result seat.new.me }
     {
         self.words
             .shared
-            .swap::<WriteRegister>(seat, 4097 + object as usize, value)
+            .swap::<WriteRegister>(seat, FIRST_REGISTER + object as usize, value)
     }
 
     /// Adds to the register of the object, and answers what it held.
     #[inline(always)]
     pub(crate) fn add_to_register(&self, seat: &mut Place<M>, object: u64, value: u64) -> u64
         requires table { seat.old.table_id ≡ self.now.table }
-        requires object { object < 4096 }
+        requires object { object < most_objects }
         requires pass { IsPassLoading Nothing seat.old.me }
         ensures table { seat.new.table_id ≡ self.now.table }
         ensures told { has_added (step 0 (register_word object) value 0 none) seat.old.me result seat.new.me }
     {
         self.words
             .shared
-            .fetch_add::<AddRegister>(seat, 4097 + object as usize, value)
+            .fetch_add::<AddRegister>(seat, FIRST_REGISTER + object as usize, value)
     }
 
     /// Stores the word of a region that is raised.
     #[inline(always)]
     pub(crate) fn store_region(&self, seat: &mut Place<M>, region: u64, word: u64)
         requires table { seat.old.table_id ≡ self.now.table }
-        requires region { region < 512 }
+        requires region { region < region_count }
         requires book { CanRaise word seat.old.me }
         ensures table { seat.new.table_id ≡ self.now.table }
         ensures told { raised_region (step 0 (region_word region) word 0 none) seat.old.me word seat.new.me }
     {
         self.words
             .shared
-            .store::<RaiseRegion>(seat, 8193 + region as usize, word);
+            .store::<RaiseRegion>(seat, FIRST_REGION + region as usize, word);
     }
 
     /// Adds 1 to the count: the entry is published.

@@ -1,7 +1,7 @@
 -- What a seat has to be for an atomic step.
 use Rattle.std.specs.Prelude.{◌≡◌, ◌≢◌, ◌↔◌, ℕ, ◌+◌, ◌<◌, ◌≤◌, List, [], ◌∷◌, length, take, Some, None}
 use Rattle.atomic_table.specs.Table.{Me}
-use Rattle.verdict_words.specs.Words.{most_entries}
+use Rattle.verdict_words.specs.Words.{most_entries, region_count}
 use Rattle.verdict_words.specs.declared.places.Held.{Held}
 use Rattle.verdict_words.specs.declared.views.Loading.{Loading}
 use Rattle.verdict_words.specs.declared.views.Loading.TheVariants.{Nothing}
@@ -30,7 +30,7 @@ module _ {E H : Type 0} where
   -- the seat is the book's, which may publish the entry
   abbrev pub CanPublish : (E → ℕ) → (List E → E → ℕ → Type 0) → E → Me (Unit {0}) (View E H) → Type 0
   CanPublish session touches entry me = (b : BookView E H) × (me ≡ (Book b, [])) × (b.turn ≢ 0) × (session entry ≡ b.turn) × (length b.history < most_entries)
-      × ((r : ℕ) → r < 512 → touches b.history entry r ↔ (b.raised ≡ Some r))
+      × ((r : ℕ) → r < region_count → touches b.history entry r ↔ (b.raised ≡ Some r))
 
   -- the seat is the book's, which holds a pass
   abbrev pub IsHoldingOne : Me (Unit {0}) (View E H) → Type 0

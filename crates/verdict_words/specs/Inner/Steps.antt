@@ -2,7 +2,7 @@
 use Rattle.std.specs.Prelude.{◌≡◌, ◌≢◌, ℕ, ◌+◌, ◌-◌, ◌<◌, ◌≤◌, List, [], ◌∷◌, ◌++◌, length, map, All, Option, Some, None}
 use Rattle.atomic_table.specs.Table.{Me, Step}
 use Rattle.verdict_words.specs.Histories.{IsPrefix, Untouched}
-use Rattle.verdict_words.specs.Words.{slot_word, register_word, region_word, most_entries, object_region, store_region, spelling, Sound}
+use Rattle.verdict_words.specs.Words.{slot_word, register_word, region_word, most_entries, object_region, store_region, spelling, Sound, most_objects, region_count}
 use Rattle.verdict_words.specs.Orders.{Steps, Gathers, IsOrder, loads, stores, publishes, item_steps, told_of}
 use Rattle.verdict_words.specs.Settling.{without}
 use Rattle.verdict_words.specs.Rule.{PassOk, pass_steps}
@@ -142,7 +142,7 @@ module _ {E H : Type 0} where
 
   -- a step on a register
   abbrev pub ran : RegisterStep → Told E H
-  ran kind st m value m' = On st st.word (operand kind) × (register_word 0 ≤ st.word) × (st.word < register_word 4096)
+  ran kind st m value m' = On st st.word (operand kind) × (register_word 0 ≤ st.word) × (st.word < register_word most_objects)
       × ForPass m.0 (λ p. (known : List AtomicStep) × (m' ≡ (Pass (gained (Ran (st.word - register_word 0) kind value) known p), m.1))
       × Steps p.known (item_steps p.session (Ran (st.word - register_word 0) kind value)) known)
 
@@ -167,7 +167,7 @@ module _ {E H : Type 0} where
 
   -- the region of the word was raised
   abbrev pub raised_region : Told E H
-  raised_region st m stored m' = ForBook m.0 (λ b. On st st.word (length b.history + 1) × (region_word 0 ≤ st.word) × (st.word < region_word 512) × (b.raised ≡ None)
+  raised_region st m stored m' = ForBook m.0 (λ b. On st st.word (length b.history + 1) × (region_word 0 ≤ st.word) × (st.word < region_word region_count) × (b.raised ≡ None)
       × ((known : List AtomicStep) × (found : ℕ) × (m' ≡ (Book (record b { raised = Some (st.word - region_word 0); known = known }), m.1)) × Steps b.known (stores 0 st.word (length b.history + 1) found ∷ []) known))
 
   -- an entry was published: its session lags

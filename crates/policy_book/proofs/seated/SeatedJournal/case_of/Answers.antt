@@ -13,7 +13,7 @@ returns-in-Ok-Case c =
     let now = c.args.self.now in
     let head : journal.head ≡ now.board.origin.setting = c.self.invariant.head ∙ ap (λ v. v.board.origin.setting) c.self.view_is in
     let entries : entry_trees journal.entries ≡ entry_trees now.entries = ap entry_trees c.self.invariant.entries ∙ ap (λ v. entry_trees v.entries) c.self.view_is in
-    let few : c.args.principal < 256 = (let below : c.args.principal < length journal.head.principals = rw head c.requires in omega (arith, below, c.count-principals.ensures.count, c.count-principals.ensures.bound, ap (λ (h : Head). length h.principals) c.head.ensures)) in
+    let few : c.args.principal < 16384 = (let below : c.args.principal < length journal.head.principals = rw head c.requires in omega (arith, below, c.count-principals.ensures.count, c.count-principals.ensures.bound, ap (λ (h : Head). length h.principals) c.head.ensures)) in
     let at_is : c.count-at.result ≡ length (entry_trees journal.entries) = c.count-at.ensures.count ∙ sym (length-map journal.entries entry_tree) in
     let found = rw c.in-Ok-Case.field-0-is at c.in-Ok-Case.ensures.found in
     let here = snap_of journal.head (entry_trees journal.entries) c.args.principal c.args.op.now c.args.object.now c.count-at.result c.in-Ok-Case.case c.in-Ok-Case.number c.place_of.result c.in-Ok-Case.object few at_is found c.place_of.ensures in

@@ -1,7 +1,7 @@
-use Rattle.std.proofs.Common.{rules, sym, ap, ◌∙◌, ◌+◌}
+use Rattle.std.proofs.Common.{rules, sym, ap, ◌∙◌}
 use mathlib.Core.Option.{none}
 use Rattle.atomic_table.specs.Table.{step}
-use Rattle.verdict_words.specs.Words.{store_region}
+use Rattle.verdict_words.specs.Words.{store_region, region_word}
 use Rattle.verdict_words.specs.Inner.Steps.{loaded_store}
 use Rattle.verdict_words.proofs.PassSteps.{asked, loads_store}
 use Rattle.verdict_words.proofs.board.Board.load_store.Goals as goal
@@ -10,8 +10,8 @@ pub load-requires : goal.load-requires
 load-requires g c = (
   c.requires.table ∙ ap (λ b. b.table) (sym c.self.view_is),
   search rules,
-  asked g.M.Matter.session g.M.Matter.right g.M.Matter.touches _ _ _ _ _ _ (λ n. n) (λ n. loaded_store g.M.Matter.right g.M.Matter.touches (step n (8193 + store_region c.args.place.now.store) 0 0 none)) c.self.invariant.1 c.requires.pass.3.1
-      (loads_store g.M.Matter.session g.M.Matter.right g.M.Matter.touches _ _ _ c.args.place.now c.requires.pass.0 c.requires.pass.1 c.requires.pass.2 c.requires.pass.3.2 c.requires.place.1),
+  asked g.M.Matter.session g.M.Matter.right g.M.Matter.touches _ _ _ _ _ _ (λ n. n) (λ n. loaded_store g.M.Matter.right g.M.Matter.touches (step n (region_word (store_region c.args.place.now.store)) 0 0 none)) c.self.invariant.1 c.requires.pass.3.1
+      (loads_store g.M.Matter.session g.M.Matter.right g.M.Matter.touches _ _ _ c.args.place.now c.requires.pass.0 c.requires.pass.1 c.requires.pass.2 c.requires.pass.3.2),
 )
 
 pub returns-clause-told : goal.returns-clause-told

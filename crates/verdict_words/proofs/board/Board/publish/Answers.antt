@@ -1,6 +1,6 @@
 use Rattle.std.proofs.Common.{rules, ◌≡◌, ◌≢◌, ℕ, ◌+◌, ◌<◌, sym, ap, ◌∙◌, subst, length, Some, Option, List, [], ◌∷◌, length-append, arith}
 use Rattle.std.specs.Prelude.{◌↔◌}
-use Rattle.verdict_words.specs.Words.{most_entries}
+use Rattle.verdict_words.specs.Words.{most_entries, region_count}
 use Rattle.verdict_words.specs.Orders.{publishes}
 use Rattle.verdict_words.specs.Values.{seen_of, turn_of, known_of}
 use Rattle.verdict_words.proofs.BookKept.{seated_grows}
@@ -14,7 +14,7 @@ add_to_count-requires-clause-book g c =
     let room : length entries < most_entries = subst (λ l. length l < most_entries) (sym (ap (λ v. v.entries) c.seat.view_is)) c.requires.room in
     let turn : g.M.Matter.session c.args.entry.now ≡ turn_of v = c.requires.turn.1 ∙ sym (ap (λ v. v.turn) c.seat.view_is) in
     let some_turn : turn_of v ≢ 0 = λ e. c.requires.turn.0 (sym (ap (λ v. v.turn) c.seat.view_is) ∙ e) in
-    let touched = subst (λ (z : List g.row.M-Entry.Denot × Option ℕ). (r : ℕ) → r < 512 → g.M.Matter.touches c.args.self.now.origin.setting z.0 c.args.entry.now r ↔ (z.1 ≡ Some r))
+    let touched = subst (λ (z : List g.row.M-Entry.Denot × Option ℕ). (r : ℕ) → r < region_count → g.M.Matter.touches c.args.self.now.origin.setting z.0 c.args.entry.now r ↔ (z.1 ≡ Some r))
     (λ i. (sym (ap (λ v. v.entries) c.seat.view_is) i, sym (ap (λ v. v.raised) c.seat.view_is) i)) c.requires.region in
     (_, c.seat.invariant.view, some_turn, turn, room, touched)
 
