@@ -130,7 +130,7 @@ last_line_is_left_out h es last w one short = of (end_or last)
         }
 
 -- the text without its last line is far shorter than one may be
-front_short : (h : Head) (es : List EntryTree) → IsWritten h es → length (front h es) ≤ 33565644
+front_short : (h : Head) (es : List EntryTree) → IsWritten h es → length (front h es) ≤ 35850444
 front_short h es w = omega (arith, policy_bounded h es w.head w.legal, length-append (front h es) (ended (codes "end")))
 
 pub short_line_is_left_out : ShortLineIsLeftOut

@@ -13,7 +13,7 @@ use Rattle.policy_history.specs.Machine.{refusal_of, replay}
 use Rattle.policy_history.specs.Values.{History, entry_trees}
 use Rattle.policy_history.specs.PolicyLines.{spaced}
 use Rattle.session_wire.specs.declared.requests.Request.{Request}
-use Rattle.session_wire.specs.declared.requests.Request.TheVariants.{Hello, Say, Transfer, Delete, NewObject, SetGoal, ClearGoal, SetProof, ClearProof, Bind, Unbind, Call}
+use Rattle.session_wire.specs.declared.requests.Request.TheVariants.{Hello, Say, Transfer, Delete, NewObject, SetGoal, ClearGoal, SetProof, ClearProof, Bind, Unbind, Call, See}
 use Rattle.text_lines.specs.Lines.{first_line}
 use Rattle.journal_text.specs.RequestEvents.{IsEventOf, IsSpelled}
 use Rattle.journal_text.specs.PolicyText.{Fault, Follows, IsEntryLine, IsErrorOf, IsEventText, IsFaultAt, Leads, ReadsAs, Stage, authority, end, ended_with, entry, formless, head_of, header, header_due, here, on, open_with, principal, refusal}
@@ -70,6 +70,7 @@ event_one (Unbind p) (event.unbind t) _ v w = absurd w
 event_one (Unbind p) _ _ v w = absurd v
 event_one (Hello name secret) e f v w = absurd v
 event_one (Call op object arg) e f v w = absurd v
+event_one (See number) e f v w = absurd v
 
 event_text_one : (text : List ℕ) (e f : EventTree) → IsEventText text e → IsEventText text f → f ≡ e
 event_text_one text e f a b =

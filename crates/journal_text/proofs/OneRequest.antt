@@ -7,7 +7,7 @@ use Rattle.std.proofs.lemmas.Slice.Eq.{bytes_eq-Decides}
 use Rattle.std.proofs.lemmas.Fmt.{decimal_injective}
 use Rattle.nal_term.specs.Names.{IsName}
 use Rattle.session_wire.specs.declared.requests.Request.{Request}
-use Rattle.session_wire.specs.declared.requests.Request.TheVariants.{Hello, Say, Transfer, Delete, NewObject, SetGoal, ClearGoal, SetProof, ClearProof, Bind, Unbind, Call}
+use Rattle.session_wire.specs.declared.requests.Request.TheVariants.{Hello, Say, Transfer, Delete, NewObject, SetGoal, ClearGoal, SetProof, ClearProof, Bind, Unbind, Call, See}
 use Rattle.journal_text.specs.declared.request_lines.Form.{Form}
 use Rattle.journal_text.specs.declared.request_lines.Form.TheVariants as form
 use Rattle.journal_text.specs.RequestLines.{IsRequestText, IsWritable, OneRequest, request_text}
@@ -28,6 +28,7 @@ text_parts (ClearProof op object) = simp append_assoc
 text_parts (Bind principal port) = simp append_assoc
 text_parts (Unbind principal) = refl
 text_parts (Call op object arg) = simp append_assoc
+text_parts (See number) = refl
 
 -- each form is found by its word
 pub form_of_word : (f : Form) → form_named (word_of f) ≡ Some f
@@ -44,6 +45,7 @@ form_of_word form.ClearProof = refl
 form_of_word form.Bind = refl
 form_of_word form.Unbind = refl
 form_of_word form.Call = refl
+form_of_word form.See = refl
 
 -- forms with one word are one
 pub one_form : (f g : Form) → word_of f ≡ word_of g → f ≡ g
@@ -65,6 +67,7 @@ word_has_no_space form.ClearProof = name_has_no_space (codes "noproof") refl
 word_has_no_space form.Bind = name_has_no_space (codes "bind") refl
 word_has_no_space form.Unbind = name_has_no_space (codes "unbind") refl
 word_has_no_space form.Call = name_has_no_space (codes "call") refl
+word_has_no_space form.See = name_has_no_space (codes "see") refl
 
 two_names : (a b c d : List ℕ) → IsName a → IsName c → cut a b ≡ cut c d → (a ≡ c) × (b ≡ d)
 two_names a b c d h k e = one_cut a c b d (name_has_no_space a h) (name_has_no_space c k) e
@@ -105,6 +108,8 @@ same_parts (Call a b x) (Call c d y) f w v e =
     let r = two_names a (cut b (decimal x)) c (cut d (decimal y)) w.0 v.0 e in
     let s = two_names b (decimal x) d (decimal y) w.1 v.1 r.1 in
     let t = decimal_injective x y w.2 v.2 s.1 in cc
+same_parts (See a) (See c) f w v e =
+    let s = decimal_injective a c w v e in cc
 same_parts _ _ f w v e = cc
 
 -- a text is cut into the word of its form and its parts

@@ -1,12 +1,9 @@
 -- The line of an entry is cut in one way.
-use Rattle.std.proofs.Common.{◌≡◌, ◌≢◌, ◌<◌, ◌≤◌, ◌^◌, ℕ, List, [], ◌∷◌, ◌++◌, codes, Option, Some, None, Result, Ok, Err, get_or, inl, inr, refl, sym, ap, ◌∙◌, subst, arith}
+use Rattle.std.proofs.Common.{◌≡◌, ◌≢◌, ◌<◌, ◌≤◌, ◌^◌, ℕ, List, [], ◌∷◌, ◌++◌, codes, Option, Some, None, Result, Ok, Err, inl, inr, refl, sym, ap, ◌∙◌, subst, arith}
 use Rattle.std.specs.Fmt.{decimal}
 use Rattle.std.proofs.lemmas.Fmt.{decimal_injective}
 use Rattle.nal_term.specs.Names.{IsName}
-use Rattle.std.proofs.lemmas.List.Quantifiers.{position-Some}
-use Rattle.nal_term.specs.TreeKeys.{same_bytes, same_bytes-Decides}
 use Rattle.policy_history.specs.declared.heads.Head.{Head}
-use Rattle.policy_history.specs.declared.heads.Principal.{Principal}
 use Rattle.policy_history.specs.declared.events.Due.{Due}
 use Rattle.policy_history.specs.declared.events.Refusal.{Refusal}
 use Rattle.policy_history.specs.Machine.{refusal_of}
@@ -127,13 +124,7 @@ pub no_event : {h : Head} (line session rest name text : List ℕ) → line ≡ 
     → ((e : EventTree) → IsEventText text e → ⊥) → (e : EntryTree) → IsEntryLine h line e → ⊥
 no_event line session rest name text cut plain cut2 plain2 none e l = none e.event (entry_words line session rest name text cut plain cut2 plain2 l).event
 
--- ---- Names and decisions
-
--- a name that a principal has is a name
-pub named_at : (xs : List Principal) (name : List ℕ) (k : ℕ) (d : Principal) → Some k ≡ numbered xs name → IsName (get_or xs k d).name → IsName name
-named_at xs name k d at is =
-    let there = position-Some (λ (x : Principal). same_bytes name x.name) xs k d (sym at) in
-    subst IsName (sym ((same_bytes-Decides name (get_or xs k d).name).0 there.1)) is
+-- ---- Decisions
 
 pub decision_refused : (h : Head) (s : State) (session p : ℕ) (e : EventTree) (r : Refusal) → Err r ≡ decision h s session p e → Some r ≡ refusal_of h s session p e
 decision_refused h s session p e r is = of (refusal_of h s session p e) refl

@@ -224,15 +224,15 @@ authority_most a is =
     let s = secret_short a.address is.1 in
     omega (arith, n, s, length-append (authority_text a) (10 ∷ []), length-append (codes "authority ") (spaced (decimal a.port) a.address), length-append (decimal a.port ++ codes " ") a.address, length-append (decimal a.port) (codes " "))
 
--- the text of a policy, twice as long as which one may be that is read
-pub policy_bounded : (h : Head) (es : List EntryTree) → IsKeptHead h → IsLegal h es → length (policy_text h es) ≤ 33565644
+-- the text of a policy, far shorter than one may be that is read
+pub policy_bounded : (h : Head) (es : List EntryTree) → IsKeptHead h → IsLegal h es → length (policy_text h es) ≤ 35850444
 policy_bounded h es kept legal =
     let ps = flat_map (λ (p : Principal). ended (principal_text p)) h.principals in
     let xs = flat_map (λ (a : Authority). ended (authority_text a)) h.authorities in
     let lines = flat_map (line_of h) es in
     let p = lines_most (λ (p : Principal). ended (principal_text p)) 140 h.principals (λ k d below. let is = kept.each k d below in principal_most (get_or h.principals k d) is.0 is.1) in
     let a = lines_most (λ (a : Authority). ended (authority_text a)) 140 h.authorities (λ k d below. authority_most (get_or h.authorities k d) (kept.authorities.each k d below)) in
-    let e = lines_bounded h es legal kept.principals.bound in
+    let e = lines_bounded h es legal in
     omega (
       arith,
       p,

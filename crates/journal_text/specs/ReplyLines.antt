@@ -3,7 +3,7 @@ use Rattle.std.specs.Prelude.{ℕ, zero, suc, List, [], ◌∷◌, ◌++◌, ◌
 use Rattle.std.specs.List.{join_with_byte}
 use Rattle.std.specs.Fmt.{decimal}
 use Rattle.session_wire.specs.declared.replies.Reply.{Reply}
-use Rattle.session_wire.specs.declared.replies.Reply.TheVariants.{Welcome, Done, Allowed, Denied, Refused, Down, NoMemory, Bad}
+use Rattle.session_wire.specs.declared.replies.Reply.TheVariants.{Welcome, Done, Allowed, Denied, Refused, Down, NoMemory, Bad, Seen}
 
 -- the names of the causes of a denial, in the order of their numbers from 1
 abbrev pub cause_names : List (List ℕ)
@@ -22,7 +22,8 @@ refusal_names =
     codes "NotOpen" ∷ codes "AlreadyOpen" ∷ codes "BadSecret" ∷ codes "NoSuchPrincipal" ∷ codes "NotYourPrincipal"
     ∷ codes "NoSuchLabel" ∷ codes "NotHolder" ∷ codes "NoSuchObject" ∷ codes "NameTaken" ∷ codes "NotOwner" ∷ codes "NoGoal"
     ∷ codes "NoSuchProof" ∷ codes "NoBinding" ∷ codes "BadPort" ∷ codes "BadFormula" ∷ codes "BadProof" ∷ codes "Quota"
-    ∷ codes "ObjectsFull" ∷ codes "CasesFull" ∷ codes "NotRecorded" ∷ []
+    ∷ codes "ObjectsFull" ∷ codes "CasesFull" ∷ codes "NotRecorded" ∷ codes "ReadOnly" ∷ codes "JournalFull"
+    ∷ codes "NotYet" ∷ []
 
 -- the name with this number in such a list; a number that names none is written as the number
 abbrev pub named : List (List ℕ) → ℕ → List ℕ
@@ -48,6 +49,7 @@ reply_words (Refused at number) = codes "refused" ∷ decimal at ∷ named refus
 reply_words (Down at line) = codes "down" ∷ decimal at ∷ decimal line ∷ []
 reply_words NoMemory = codes "nomemory" ∷ []
 reply_words (Bad place) = codes "bad" ∷ decimal place ∷ []
+reply_words (Seen at) = codes "seen" ∷ decimal at ∷ []
 
 -- the words with a space between them
 abbrev pub spaced_words : List (List ℕ) → List ℕ

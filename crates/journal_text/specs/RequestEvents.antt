@@ -5,14 +5,14 @@ use Rattle.proof_text.specs.ProofText.{IsProofText}
 use Rattle.policy_history.specs.Events.{EventTree}
 use Rattle.policy_history.specs.Events as event
 use Rattle.session_wire.specs.declared.requests.Request.{Request}
-use Rattle.session_wire.specs.declared.requests.Request.TheVariants.{Hello, Say, Transfer, Delete, NewObject, SetGoal, ClearGoal, SetProof, ClearProof, Bind, Unbind, Call}
+use Rattle.session_wire.specs.declared.requests.Request.TheVariants.{Hello, Say, Transfer, Delete, NewObject, SetGoal, ClearGoal, SetProof, ClearProof, Bind, Unbind, Call, See}
 
 -- what a text spells, where `Spells` says which values it does: a value, or none where it spells nothing
 abbrev pub IsSpelled : {A : Type 0} → (List ℕ → A → Type 0) → List ℕ → Option A → Type 0
 IsSpelled {A} Spells text None = (x : A) → ¬ Spells text x
 IsSpelled Spells text (Some x) = Spells text x
 
--- the event has the parts of the request, each text replaced by what it spells; `hello` and `call` ask for none
+-- the event has the parts of the request, each text replaced by what it spells; `hello`, `call` and `see` ask for none
 abbrev pub IsEventOf : Request → EventTree → Type 0
 IsEventOf (Say principal formula) (event.say t f) = IsSpelled IsTermText principal t × IsSpelled IsFormulaText formula f
 IsEventOf (Transfer number to) e = e ≡ event.transfer number to
@@ -30,4 +30,5 @@ IsEventOf _ _ = ⊥
 abbrev pub IsChange : Request → Type 0
 IsChange (Hello name secret) = ⊥
 IsChange (Call op object arg) = ⊥
+IsChange (See number) = ⊥
 IsChange _ = Unit {0}

@@ -6,7 +6,7 @@ use Rattle.nal_term.specs.Names.{IsName}
 use Rattle.nal_term.specs.Secrets.{IsSecret}
 use Rattle.policy_history.specs.PolicyLines.{spaced}
 use Rattle.session_wire.specs.declared.requests.Request.{Request}
-use Rattle.session_wire.specs.declared.requests.Request.TheVariants.{Hello, Say, Transfer, Delete, NewObject, SetGoal, ClearGoal, SetProof, ClearProof, Bind, Unbind, Call}
+use Rattle.session_wire.specs.declared.requests.Request.TheVariants.{Hello, Say, Transfer, Delete, NewObject, SetGoal, ClearGoal, SetProof, ClearProof, Bind, Unbind, Call, See}
 
 -- the line of a request, without a line feed
 abbrev pub request_text : Request → List ℕ
@@ -22,6 +22,7 @@ request_text (ClearProof op object) = spaced (codes "noproof") (spaced op object
 request_text (Bind principal port) = spaced (codes "bind") (spaced principal (decimal port))
 request_text (Unbind principal) = spaced (codes "unbind") principal
 request_text (Call op object arg) = spaced (codes "call") (spaced op (spaced object (decimal arg)))
+request_text (See number) = spaced (codes "see") (decimal number)
 
 -- one word: at least one byte, and no space
 abbrev pub IsOneWord : List ℕ → Type 0
@@ -45,6 +46,7 @@ IsWritable (ClearProof op object) = IsName op × IsName object
 IsWritable (Bind principal port) = IsOneWord principal × IsNumber64 port
 IsWritable (Unbind principal) = IsOneWord principal
 IsWritable (Call op object arg) = IsName op × IsName object × IsNumber64 arg
+IsWritable (See number) = IsNumber64 number
 
 -- the bytes are the text of this request
 abbrev pub IsRequestText : List ℕ → Request → Type 0

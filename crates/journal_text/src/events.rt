@@ -15,7 +15,7 @@ use session_wire::Request;
 use std::alloc::{AllocError, Global};
 
 /// The event that a request asks for, each text replaced by what it spells, or by None where it spells nothing. None
-/// exactly for `Hello` and `Call`, and that takes no memory. `docs/FORMATS.md`, "Request lines", says which event each is.
+/// exactly for `Hello`, `Call` and `See`, and that takes no memory. `docs/FORMATS.md`, "Request lines", says which event each is.
 pub fn event_of(alloc: Global, request: &Request) -> Result<Option<Event>, AllocError>
     ensures event { IfOk result (λ found. IfSome found (λ event. IsEventOf request.now (event_tree event))) }
     ensures only { IfOk result
@@ -24,7 +24,7 @@ pub fn event_of(alloc: Global, request: &Request) -> Result<Option<Event>, Alloc
     ensures none { (result ≡ Ok None) ↔ ¬ IsChange request.now }
 {
     match request {
-        Request::Hello { .. } | Request::Call { .. } => Ok(None),
+        Request::Hello { .. } | Request::Call { .. } | Request::See { .. } => Ok(None),
         Request::Say { principal, formula } => {
             let principal = spelled_term(alloc, principal.as_slice())?;
             let formula = spelled_formula(alloc, formula.as_slice())?;

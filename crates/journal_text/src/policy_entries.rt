@@ -1,8 +1,7 @@
 //! Reading the entries of a policy's text.
 ghost use Rattle.std.specs.Prelude.{◌≡◌, ◌≢◌, ◌<◌, ◌≤◌, ◌^◌, ◌++◌, ◌∷◌, [], ℕ, IfOk, IfSome, Option, Some, None, Ok, length};
 ghost use Rattle.std.specs.Fmt.{decimal};
-ghost use Rattle.nal_term.specs.Names.{IsName};
-ghost use Rattle.policy_history.specs.Events.{EntryTree, EventTree, entry_tree, event_tree, numbered};
+ghost use Rattle.policy_history.specs.Events.{EntryTree, EventTree, entry_tree, event_tree};
 ghost use Rattle.policy_history.specs.Machine.{refusal_of};
 ghost use Rattle.policy_history.specs.Values.{entry_trees, state_after};
 ghost use Rattle.journal_text.specs.PolicyText.{IsEntryLine, IsEventText};
@@ -11,7 +10,7 @@ ghost use Rattle.journal_text.specs.Inner.PolicyReading.{IsLineAdded, IsLineRefu
 use crate::events::event_of;
 use crate::policy_words::split_word;
 use crate::request_lines::{LineError, read_request_text};
-use policy_history::{Entry, Event, Head, Journal, Principal, Principals, Refusal};
+use policy_history::{Entry, Event, Head, Journal, Refusal};
 use std::alloc::{AllocError, Global};
 use text_lines::read_number;
 
@@ -90,8 +89,10 @@ fn read_entry(alloc: Global, head: &Head, line: &[u8]) -> Result<Entry, LineErro
     let Some(session) = read_session(session) else {
         return Err(LineError::Bad);
     };
-    let Some(principal) = number_named(&head.principals, name) else {
-        return Err(LineError::Bad);
+    let principal = match head.principals.number_of_text(alloc, name) {
+        Ok(Some(principal)) => principal,
+        Ok(None) => return Err(LineError::Bad),
+        Err(AllocError) => return Err(LineError::Memory),
     };
     match read_event(alloc, text) {
         Ok(event) => Ok(Entry {
@@ -112,31 +113,6 @@ fn read_session(word: &[u8]) -> Option<u64>
         Some(0) => None,
         session => session,
     }
-}
-
-/// The number of the principal with this name. None exactly where nobody has it. It takes no memory.
-fn number_named(principals: &Principals, name: &[u8]) -> Option<u32>
-    ensures number { result ≡ numbered principals.now name.now }
-    ensures within { IfSome result (λ p. p < length principals.now) }
-    ensures named { IfSome result (λ p. IsName name.now) }
-{
-    let _count = principals.count();
-    let items = principals.as_slice();
-    match place_of(items, name) {
-        Some(place) => {
-            let _name = items[place].name.as_slice();
-            Some(place as u32)
-        }
-        None => None,
-    }
-}
-
-/// The place of the principal with this name.
-fn place_of(items: &[Principal], name: &[u8]) -> Option<usize>
-    ensures place { result ≡ numbered items.now name.now }
-    ensures within { IfSome result (λ p. p < length items.now) }
-{
-    items.iter().position(|item| name == item.name.as_slice())
 }
 
 /// Reads the text of an event. `Bad` exactly where it is that of none.

@@ -260,7 +260,7 @@ pub fn is_end(line: &[u8]) -> bool
     line == "end".as_bytes()
 }
 
-/// The number of a refusal, from 4 to 20, by which it is told. `docs/FORMATS.md`, "Events and refusals", lists them.
+/// The number of a refusal, from 4 to 20 or 22, by which it is told. `docs/FORMATS.md`, "Events and refusals", lists them.
 pub fn refusal_number(refusal: Refusal) -> u64
     ensures { result ≡ refusal_number refusal }
 {
@@ -282,5 +282,6 @@ pub fn refusal_number(refusal: Refusal) -> u64
         Refusal::ObjectsFull => 18,
         Refusal::CasesFull => 19,
         Refusal::NotRecorded => 20,
+        Refusal::JournalFull => 22,
     }
 }

@@ -38,6 +38,7 @@ fn reply_text(alloc: Global, reply: &Reply) -> Result<String, AllocError>
         Reply::Down { at, line } => format!(in alloc; "down {at} {line}"),
         Reply::NoMemory => String::from_str(alloc, "nomemory"),
         Reply::Bad { place } => format!(in alloc; "bad {place}"),
+        Reply::Seen { at } => format!(in alloc; "seen {at}"),
     }
 }
 
@@ -137,6 +138,9 @@ fn refusal_name(refusal: u64) -> Option<&'static str>
         18 => Some("ObjectsFull"),
         19 => Some("CasesFull"),
         20 => Some("NotRecorded"),
+        21 => Some("ReadOnly"),
+        22 => Some("JournalFull"),
+        23 => Some("NotYet"),
         _ => None,
     }
 }

@@ -39,9 +39,10 @@ enum Form {
     Bind,
     Unbind,
     Call,
+    See,
 }
 
-const FORMS: [Form; 12] = [
+const FORMS: [Form; 13] = [
     Form::Hello,
     Form::Say,
     Form::Transfer,
@@ -54,6 +55,7 @@ const FORMS: [Form; 12] = [
     Form::Bind,
     Form::Unbind,
     Form::Call,
+    Form::See,
 ];
 
 /// Reads the line of a request, without its line feed. Ok exactly where the line is that of a request; no line is that of
@@ -120,6 +122,7 @@ impl Form {
             Form::Bind => "bind",
             Form::Unbind => "unbind",
             Form::Call => "call",
+            Form::See => "see",
         }
     }
 }
@@ -181,6 +184,10 @@ fn read_parts(alloc: Global, form: Form, parts: &[u8]) -> Result<Request, LineEr
         Form::Call => {
             let (op, object, arg) = place_and_number(alloc, parts)?;
             Ok(Request::Call { op, object, arg })
+        }
+        Form::See => {
+            let number = number(parts)?;
+            Ok(Request::See { number })
         }
     }
 }

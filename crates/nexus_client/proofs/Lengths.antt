@@ -7,7 +7,7 @@ use Rattle.nal_term.specs.Secrets.{IsSecret, is_secret_byte}
 use Rattle.byteorder.specs.Endian.{big_bytes}
 use Rattle.byteorder.specs.Numbers.{length-bytes_high_first}
 use Rattle.session_wire.specs.declared.requests.Request.{Request}
-use Rattle.session_wire.specs.declared.requests.Request.TheVariants.{Hello, Say, Transfer, Delete, NewObject, SetGoal, ClearGoal, SetProof, ClearProof, Bind, Unbind, Call}
+use Rattle.session_wire.specs.declared.requests.Request.TheVariants.{Hello, Say, Transfer, Delete, NewObject, SetGoal, ClearGoal, SetProof, ClearProof, Bind, Unbind, Call, See}
 use Rattle.session_wire.specs.Frames.{most_payload, number_bytes, request_payload, text_bytes}
 use Rattle.journal_text.specs.RequestLines.{IsRequestLine, request_text}
 
@@ -33,6 +33,7 @@ payload_of_text (ClearProof op object) = omega (arith, length-append {A = ℕ}, 
 payload_of_text (Bind principal port) = omega (arith, length-append {A = ℕ}, length-text, length-number)
 payload_of_text (Unbind principal) = omega (arith, length-append {A = ℕ}, length-text)
 payload_of_text (Call op object arg) = omega (arith, length-append {A = ℕ}, length-text, length-number)
+payload_of_text (See number) = omega (arith, length-append {A = ℕ}, length-number)
 
 -- the request of a line has a frame
 pub payload_fits : (line : List ℕ) (q : Request) → IsRequestLine line q → length (request_payload q) ≤ most_payload

@@ -10,7 +10,7 @@ mod limits;
 mod printing;
 mod refusals;
 
-use crate::policies::{event, name as name_of, written};
+use crate::policies::{event, name as name_of, text_with, written};
 use crate::tables::number;
 use found::{found, label};
 use journal_text::{event_of, read_policy, read_request};
@@ -145,25 +145,32 @@ fn bytes_told(alloc: Global, decided: Result<Due, Refusal>) -> Result<String, Al
     }
 }
 
-// What a line comes to with this in place of `#`.
+// What a line comes to with these in place of `#` and `@`.
 fn tried_at(
     alloc: Global,
     journal: &mut Journal,
     line: &str,
     place: &str,
+    group: &str,
 ) -> Result<String, AllocError> {
     let line = line.replace(alloc, '#', place)?;
+    let line = line.as_str().replace(alloc, '@', group)?;
     tried(alloc, journal, line.as_str())
 }
 
-// Two numbers, and the change of which each number from the first up to the second is tried in place of `#`: `each` where each
-// comes to its number, or else what the first other one comes to.
+// Two numbers, the size of a group, and the change of which each number from the first up to the second is tried in place of `#`, with
+// the number of its group, from 10, in place of `@`: `each` where each comes to its number, or else what the first other one comes to.
 fn series(alloc: Global, journal: &mut Journal, text: &str) -> Result<String, AllocError> {
     let (first, rest) = text.split_once(" ").unwrap_or(("", ""));
-    let (end, line) = rest.split_once(" ").unwrap_or(("", ""));
-    for place in number(first)..number(end) {
-        let place = format!(in alloc; "{place}")?;
-        let told = tried_at(alloc, journal, line, place.as_str())?;
+    let (end, rest) = rest.split_once(" ").unwrap_or(("", ""));
+    let (size, line) = rest.split_once(" ").unwrap_or(("", ""));
+    let first = number(first);
+    let size = number(size).max(1);
+    for index in first..number(end) {
+        let group = index.saturating_sub(first) / size;
+        let group = format!(in alloc; "{}", group.saturating_add(10))?;
+        let place = format!(in alloc; "{index}")?;
+        let told = tried_at(alloc, journal, line, place.as_str(), group.as_str())?;
         if told != place {
             return format!(in alloc; "{place} {told}");
         }
@@ -200,10 +207,18 @@ fn first_other_on(alloc: Global, journal: &mut Journal, rows: &str) -> Result<St
     Ok(String::new(alloc))
 }
 
+// The policy that a line stands for: its text, or the number of its principals.
+fn policy_of(alloc: Global, line: &str) -> Result<String, AllocError> {
+    match line.strip_prefix("principals ") {
+        Some(count) => text_with(alloc, count, "0"),
+        None => line.replace(alloc, '|', "\n"),
+    }
+}
+
 /// As `first_other_on`, on a new journal; its head stands above the rows.
 pub fn first_other(alloc: Global, part: &str) -> Result<String, AllocError> {
     let (head, rows) = part.split_once("\n").unwrap_or((part, ""));
-    let policy = head.replace(alloc, '|', "\n")?;
+    let policy = policy_of(alloc, head)?;
     match journal(alloc, policy.as_str()) {
         Ok(mut journal) => {
             let other = first_other_on(alloc, &mut journal, rows);

@@ -22,4 +22,6 @@ mod replies;
 #[cfg(test)]
 mod request_lines;
 #[cfg(test)]
+mod stores;
+#[cfg(test)]
 mod tables;

@@ -60,8 +60,8 @@ fn push_lines(
     Ok(())
 }
 
-// A text with so many principals and so many authorities.
-fn text_with(alloc: Global, principals: &str, authorities: &str) -> Result<String, AllocError> {
+/// A text with so many principals, p0 and on, and so many authorities.
+pub fn text_with(alloc: Global, principals: &str, authorities: &str) -> Result<String, AllocError> {
     let mut lines = String::new(alloc);
     push_lines(alloc, &mut lines, principals, "principal p", " s")?;
     push_lines(alloc, &mut lines, authorities, "authority ", " a")?;

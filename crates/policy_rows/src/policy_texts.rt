@@ -106,8 +106,8 @@ read entries: a wrong entry is told by its line
 1 alice object f|x|1 alice object f| -> Bad { line: 7 }
 
 read head: heads have limits
-64 16 -> the same
-65 0 -> Bad { line: 66 }
+16384 16 -> the same
+16385 0 -> Bad { line: 16386 }
 0 17 -> Bad { line: 18 }
 
 read letters: texts have a limit

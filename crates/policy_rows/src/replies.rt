@@ -44,6 +44,7 @@ fn reply(kind: &str, numbers: [u64; 4]) -> Reply {
             line: second,
         },
         "Bad" => Reply::Bad { place: first },
+        "Seen" => Reply::Seen { at: first },
         _ => Reply::NoMemory,
     }
 }
@@ -72,6 +73,7 @@ Refused 1 9 -> refused 1 NameTaken
 Down 4 2 -> down 4 2
 NoMemory -> nomemory
 Bad 0 -> bad 0
+Seen 815 -> seen 815
 
 cause: causes are written by name
 1 0 0 -> GoalUnset
@@ -120,7 +122,10 @@ Refused 1 17 -> refused 1 Quota
 Refused 1 18 -> refused 1 ObjectsFull
 Refused 1 19 -> refused 1 CasesFull
 Refused 1 20 -> refused 1 NotRecorded
-Refused 1 21 -> refused 1 21";
+Refused 1 21 -> refused 1 ReadOnly
+Refused 1 22 -> refused 1 JournalFull
+Refused 1 23 -> refused 1 NotYet
+Refused 1 24 -> refused 1 24";
 
 #[test]
 fn replies_and_causes_have_their_lines(rt: HostRuntime) -> Result<(), AllocError> {

@@ -24,6 +24,7 @@ fn form_of(request: &Request) -> &'static str {
         Request::Bind { .. } => "Bind",
         Request::Unbind { .. } => "Unbind",
         Request::Call { .. } => "Call",
+        Request::See { .. } => "See",
     }
 }
 
@@ -154,6 +155,12 @@ call read f -> Bad
 call read f 0  -> Bad
 call write f 7x -> Bad
 Call read f 0 -> Bad
+see 0 -> See
+see 18446744073709551615 -> See
+see 18446744073709551616 -> Bad
+see 01 -> Bad
+see  -> Bad
+see 1 2 -> Bad
 calls read f 0 -> Bad
  call read f 0 -> Bad
  -> Bad
@@ -165,6 +172,7 @@ long form: a line has at most 33700 bytes
 spelled: texts are replaced by what they spell
 hello bob pw -> no event
 call read f 0 -> no event
+see 7 -> no event
 say alice : not(a and b)or c=>d -> (a and b => false) or c => d
 goal read f :  not(a and b)or c=>d -> (a and b => false) or c => d
 say alice : p(18446744073709551615) -> p(18446744073709551615)

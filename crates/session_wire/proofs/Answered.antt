@@ -1,5 +1,5 @@
 -- What is taken for an answer.
-use Rattle.std.proofs.Common.{◌≡◌, ◌<◌, ◌≤◌, ◌+◌, ◌^◌, ℕ, List, [], ◌∷◌, ◌++◌, length, take, Bool, true, Some, None, inr, refl, sym, ap, ◌∙◌, subst, arith, length-append}
+use Rattle.std.proofs.Common.{◌≡◌, ◌≢◌, ◌<◌, ◌≤◌, ◌+◌, ◌^◌, ℕ, List, [], ◌∷◌, ◌++◌, length, take, Bool, true, Some, None, inr, refl, sym, ap, ◌∙◌, subst, arith, length-append}
 use Rattle.std.specs.declared.option.Option.{Option}
 use Rattle.std.proofs.lemmas.List.{append-nil, length-take-le, take_all}
 use Rattle.std.specs.Io.KnownBytes.{IsAtEnd}
@@ -11,21 +11,26 @@ use Rattle.session_wire.specs.declared.filling.Filled.{Filled}
 use Rattle.session_wire.specs.declared.filling.Filled.TheVariants.{Whole, Ended, Failed}
 use Rattle.session_wire.specs.declared.frame_reader.Framed.{Framed}
 use Rattle.session_wire.specs.declared.frame_reader.Framed.TheVariants as framed_
-use Rattle.session_wire.specs.Frames.{IsFrameOf, framed, length_bytes, most_payload}
+use Rattle.session_wire.specs.Frames.{IsFrameOf, framed, length_bytes, most_payload, number_bytes, request_payload}
 use Rattle.session_wire.specs.Fields.{IsGoodPayload}
 use Rattle.session_wire.specs.Beginnings.{IsPart}
-use Rattle.session_wire.specs.Answers.{IsAtItsEnd, IsTakenFor, faults_after_frame, over_after_frame, over_after_taking}
+use Rattle.session_wire.specs.Answers.{IsAtItsEnd, IsTakenFor, WantsMemory, faults_after_frame, over_after_frame, over_after_taking}
 use Rattle.session_wire.specs.Inner.Taking.{AreBytes, EndsAtEnd, FillsFewer, FillsWithin, Takes, TakesFor, early_answer, end_after, filled, over_after_fill}
 use Rattle.session_wire.proofs.Numbers.{length-length_bytes, length_read}
 use Rattle.session_wire.proofs.Taking.{takes-then}
 use Rattle.session_wire.proofs.OneBeginning.{part_is_no_frame}
 use Rattle.session_wire.proofs.Payloads.{good_is_of_request}
 
--- a good payload is that of a request, whose frame is there
-pub frame_there : (payload : List ℕ) → IsGoodPayload payload → length payload ≤ most_payload → (q : Request) × IsFrameOf q (framed payload)
-frame_there payload good short =
+-- a good payload is that of a request, whose frame is there; it wants memory, where it is none of kind 13
+pub frame_wants : (payload body : List ℕ) (kind : ℕ) → payload ≡ kind ∷ body → kind ≢ 13 → IsGoodPayload payload → length payload ≤ most_payload
+    → (q : Request) × IsFrameOf q (framed payload) × WantsMemory q
+frame_wants payload body kind is other good short =
     let q = good_is_of_request payload good in
-    (q.0, ((q.1, subst (λ (p : List ℕ). length p ≤ most_payload) q.2 short), ap framed q.2))
+    let first : kind ∷ body ≡ request_payload q.0 = sym is ∙ q.2 in
+    (q.0, ((q.1, subst (λ (p : List ℕ). length p ≤ most_payload) q.2 short), ap framed q.2), λ k same. other (kind_of k (first ∙ ap request_payload same)))
+  where
+    kind_of : (k : ℕ) → kind ∷ body ≡ 13 ∷ number_bytes k → kind ≡ 13
+    kind_of k e = cc e
 
 -- a buffer holds fewer bytes than its length where it was not filled
 pub fewer : (f : Filled) (into : List ℕ) (k : ℕ) → length into ≤ k → FillsWithin f into → FillsFewer f k

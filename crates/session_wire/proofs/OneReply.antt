@@ -4,7 +4,7 @@ use Rattle.std.specs.Prelude.{slice_get}
 use Rattle.std.specs.List.{flat_map}
 use Rattle.std.proofs.lemmas.List.{append-nil}
 use Rattle.session_wire.specs.declared.replies.Reply.{Reply}
-use Rattle.session_wire.specs.declared.replies.Reply.TheVariants.{Welcome, Done, Allowed, Denied, Refused, Down, NoMemory, Bad}
+use Rattle.session_wire.specs.declared.replies.Reply.TheVariants.{Welcome, Done, Allowed, Denied, Refused, Down, NoMemory, Bad, Seen}
 use Rattle.session_wire.specs.Frames.{HasFittingNumbers, length_bytes, number_bytes, reply_frame, reply_kind, reply_numbers, reply_payload}
 use Rattle.session_wire.specs.Replies.{BeginsReply, IsLengthOf, IsNoReply, IsReplyLength, IsReplyPart, ReplyBeginning, count_of_kind, counts_by_kind}
 use Rattle.session_wire.specs.Replies as answer
@@ -23,6 +23,7 @@ reply_has_length (Refused a b) = (2, refl, omega (arith, length_numbers (reply_n
 reply_has_length (Down a b) = (2, refl, omega (arith, length_numbers (reply_numbers (Down a b))))
 reply_has_length NoMemory = (0, refl, omega (arith, length_numbers (reply_numbers NoMemory)))
 reply_has_length (Bad a) = (1, refl, omega (arith, length_numbers (reply_numbers (Bad a))))
+reply_has_length (Seen a) = (1, refl, omega (arith, length_numbers (reply_numbers (Seen a))))
 
 -- a kind has at most four numbers
 pub reply_is_short : (r : Reply) → IsReplyLength (length (reply_payload r))
@@ -34,6 +35,7 @@ reply_is_short (Refused a b) = (2, omega arith, omega (arith, length_numbers (re
 reply_is_short (Down a b) = (2, omega arith, omega (arith, length_numbers (reply_numbers (Down a b))))
 reply_is_short NoMemory = (0, omega arith, omega (arith, length_numbers (reply_numbers NoMemory)))
 reply_is_short (Bad a) = (1, omega arith, omega (arith, length_numbers (reply_numbers (Bad a))))
+reply_is_short (Seen a) = (1, omega arith, omega (arith, length_numbers (reply_numbers (Seen a))))
 
 same_head : (x y : ℕ) (xs ys : List ℕ) → x ∷ xs ≡ y ∷ ys → x ≡ y
 same_head x y xs ys e = cc
@@ -71,6 +73,9 @@ one_reply NoMemory NoMemory h k e = refl
 one_reply (Bad a) (Bad u) h k e =
     let e0 : flat_map number_bytes (a ∷ []) ≡ flat_map number_bytes (u ∷ []) = cc in
     let e1 = one_number a u [] [] h k e0 in cc
+one_reply (Seen a) (Seen u) h k e =
+    let e0 : flat_map number_bytes (a ∷ []) ≡ flat_map number_bytes (u ∷ []) = cc in
+    let e1 = one_number a u [] [] h k e0 in cc
 one_reply r s h k e =
     absurd (omega (arith, same_head (reply_kind r) (reply_kind s) (flat_map number_bytes (reply_numbers r)) (flat_map number_bytes (reply_numbers s)) e))
 
@@ -83,7 +88,8 @@ small_count (suc (suc (suc (suc zero)))) k e = let f : 2 ≡ k = cc in omega ari
 small_count (suc (suc (suc (suc (suc zero))))) k e = let f : 2 ≡ k = cc in omega arith
 small_count (suc (suc (suc (suc (suc (suc zero)))))) k e = let f : 0 ≡ k = cc in omega arith
 small_count (suc (suc (suc (suc (suc (suc (suc zero))))))) k e = let f : 1 ≡ k = cc in omega arith
-small_count (suc (suc (suc (suc (suc (suc (suc (suc i)))))))) k e = cc
+small_count (suc (suc (suc (suc (suc (suc (suc (suc zero)))))))) k e = let f : 1 ≡ k = cc in omega arith
+small_count (suc (suc (suc (suc (suc (suc (suc (suc (suc i))))))))) k e = cc
 
 small_by : (b : Bool) (i k : ℕ) → cond b None (slice_get counts_by_kind i) ≡ Some k → k ≤ 4
 small_by true i k e = cc
@@ -107,9 +113,9 @@ data Follows (n : ℕ) (tail : List ℕ) (b : ReplyBeginning) (rest : List ℕ) 
   no_kind : (kind : ℕ) → IsReplyLength n → ¬ IsLengthOf kind n → tail ≡ kind ∷ rest → b ≡ answer.bad → Follows n tail b rest
   a_reply : (r : Reply) → HasFittingNumbers r → n ≡ length (reply_payload r) → tail ≡ reply_payload r ++ rest → b ≡ answer.reply r → Follows n tail b rest
 
-data Seen (bytes : List ℕ) (b : ReplyBeginning) (rest : List ℕ) : Type 0 where
-  in_part : length bytes < 4 → rest ≡ [] → b ≡ ending bytes → Seen bytes b rest
-  behind : (n : ℕ) (tail : List ℕ) → n < 2 ^ 32 → bytes ≡ length_bytes n ++ tail → Follows n tail b rest → Seen bytes b rest
+data IsSeen (bytes : List ℕ) (b : ReplyBeginning) (rest : List ℕ) : Type 0 where
+  in_part : length bytes < 4 → rest ≡ [] → b ≡ ending bytes → IsSeen bytes b rest
+  behind : (n : ℕ) (tail : List ℕ) → n < 2 ^ 32 → bytes ≡ length_bytes n ++ tail → Follows n tail b rest → IsSeen bytes b rest
 
 small : (n : ℕ) → IsReplyLength n → n < 2 ^ 32
 small n h = omega (arith, h.1, h.2)
@@ -117,7 +123,7 @@ small n h = omega (arith, h.1, h.2)
 alone : (bytes front : List ℕ) → bytes ≡ front → bytes ≡ front ++ []
 alone bytes front e = e ∙ sym (append-nil front)
 
-seen_torn : (bytes rest : List ℕ) → bytes ≢ [] → IsReplyPart bytes → rest ≡ [] → Seen bytes answer.torn rest
+seen_torn : (bytes rest : List ℕ) → bytes ≢ [] → IsReplyPart bytes → rest ≡ [] → IsSeen bytes answer.torn rest
 unfolding ending
 seen_torn [] rest some part e = absurd (some refl)
 seen_torn (x ∷ bytes) rest some (answer.few less) e = in_part less e refl
@@ -125,12 +131,12 @@ seen_torn (x ∷ bytes) rest some (answer.without_kind n h f) e = behind n [] (s
 seen_torn (x ∷ bytes) rest some (answer.cut n kind more h f less) e =
     behind n (kind ∷ more) (small n (length_is_short kind n h)) f (a_part kind more h refl less refl e)
 
-seen_bad : (bytes front rest : List ℕ) → IsNoReply front → bytes ≡ front ++ rest → Seen bytes answer.bad rest
+seen_bad : (bytes front rest : List ℕ) → IsNoReply front → bytes ≡ front ++ rest → IsSeen bytes answer.bad rest
 seen_bad bytes front rest (answer.bad_length n fits h f) e = behind n rest fits (e ∙ ap (λ (xs : List ℕ). xs ++ rest) f) (no_length h refl refl)
 seen_bad bytes front rest (answer.bad_kind n kind h other f) e =
     behind n (kind ∷ rest) (small n h) (e ∙ ap (λ (xs : List ℕ). xs ++ rest) f ∙ append_assoc (length_bytes n) (kind ∷ []) rest) (no_kind kind h other refl refl)
 
-seen : (bytes : List ℕ) (b : ReplyBeginning) (rest : List ℕ) → BeginsReply bytes b rest → Seen bytes b rest
+seen : (bytes : List ℕ) (b : ReplyBeginning) (rest : List ℕ) → BeginsReply bytes b rest → IsSeen bytes b rest
 unfolding ending
 seen bytes (answer.reply r) rest h =
     behind (length (reply_payload r)) (reply_payload r ++ rest) (small (length (reply_payload r)) (reply_is_short r)) (h.1 ∙ append_assoc (length_bytes (length (reply_payload r))) (reply_payload r) rest)
@@ -192,7 +198,7 @@ module _ (n : ℕ) (tail : List ℕ) where
 few_have_no_length : (bytes tail : List ℕ) (n : ℕ) → length bytes < 4 → bytes ≡ length_bytes n ++ tail → ⊥
 few_have_no_length bytes tail n less e = absurd (omega (arith, ap length e, length-append (length_bytes n) tail, length-length_bytes n))
 
-one_seen : (bytes : List ℕ) (a b : ReplyBeginning) (x y : List ℕ) → Seen bytes a x → Seen bytes b y → (a ≡ b) × (x ≡ y)
+one_seen : (bytes : List ℕ) (a b : ReplyBeginning) (x y : List ℕ) → IsSeen bytes a x → IsSeen bytes b y → (a ≡ b) × (x ≡ y)
 one_seen bytes a b x y (in_part h e f) (in_part i j k) = (f ∙ sym k, e ∙ sym j)
 one_seen bytes a b x y (in_part h e f) (behind n tail i j k) = absurd (few_have_no_length bytes tail n h j)
 one_seen bytes a b x y (behind n tail i j k) (in_part h e f) = absurd (few_have_no_length bytes tail n h j)

@@ -7,7 +7,7 @@ use Rattle.std.specs.List.{list_all}
 use Rattle.nal_term.specs.Names.{IsName, is_word, is_reserved}
 use Rattle.nal_term.specs.Secrets.{IsSecret, is_secret_byte}
 use Rattle.session_wire.specs.declared.requests.Request.{Request}
-use Rattle.session_wire.specs.declared.requests.Request.TheVariants.{Hello, Say, Transfer, Delete, NewObject, SetGoal, ClearGoal, SetProof, ClearProof, Bind, Unbind, Call}
+use Rattle.session_wire.specs.declared.requests.Request.TheVariants.{Hello, Say, Transfer, Delete, NewObject, SetGoal, ClearGoal, SetProof, ClearProof, Bind, Unbind, Call, See}
 use Rattle.session_wire.specs.declared.fields.Sort.{Sort}
 use Rattle.session_wire.specs.declared.fields.Sort.TheVariants.{Name, Secret, Text, Number}
 use Rattle.session_wire.specs.declared.fields.FrameFault.{FrameFault}
@@ -185,7 +185,10 @@ of_kind (suc (suc (suc (suc (suc (suc (suc (suc (suc (suc (suc zero))))))))))) b
 of_kind (suc (suc (suc (suc (suc (suc (suc (suc (suc (suc (suc (suc zero)))))))))))) body sorts e f =
     let g = fields_of body (Name ∷ Name ∷ Number ∷ []) sorts e f in
     (Call g.1.0 g.2.1.0 g.2.2.1.0, (g.1.1, g.2.1.1, g.2.2.1.1), ap (λ (xs : List ℕ). 12 ∷ xs) (then body (text_bytes g.1.0) g.0 (text_bytes g.2.1.0 ++ number_bytes g.2.2.1.0) g.1.2 (then g.0 (text_bytes g.2.1.0) g.2.0 (number_bytes g.2.2.1.0) g.2.1.2 (last g.2.0 (number_bytes g.2.2.1.0) g.2.2.0 g.2.2.1.2 g.2.2.2))))
-of_kind (suc (suc (suc (suc (suc (suc (suc (suc (suc (suc (suc (suc (suc k))))))))))))) body sorts e f = cc
+of_kind (suc (suc (suc (suc (suc (suc (suc (suc (suc (suc (suc (suc (suc zero))))))))))))) body sorts e f =
+    let g = fields_of body (Number ∷ []) sorts e f in
+    (See g.1.0, g.1.1, ap (λ (xs : List ℕ). 13 ∷ xs) (last body (number_bytes g.1.0) g.0 g.1.2 g.2))
+of_kind (suc (suc (suc (suc (suc (suc (suc (suc (suc (suc (suc (suc (suc (suc k)))))))))))))) body sorts e f = cc
 
 -- a good payload is that of a request
 pub good_is_of_request : (payload : List ℕ) → IsGoodPayload payload → IsOfRequest payload
@@ -207,6 +210,7 @@ request_is_good (ClearProof a b) h = record { kind = 9; body = text_bytes a ++ t
 request_is_good (Bind a b) h = record { kind = 10; body = text_bytes a ++ number_bytes b; sorts = Text ∷ Number ∷ []; whole = refl; known = refl; fields = (number_bytes b, (a, h.0, refl), ([], (b, h.1, sym (append-nil (number_bytes b))), refl)) }
 request_is_good (Unbind a) h = record { kind = 11; body = text_bytes a; sorts = Text ∷ []; whole = refl; known = refl; fields = ([], (a, h, sym (append-nil (text_bytes a))), refl) }
 request_is_good (Call a b c) h = record { kind = 12; body = text_bytes a ++ (text_bytes b ++ number_bytes c); sorts = Name ∷ Name ∷ Number ∷ []; whole = refl; known = refl; fields = ((text_bytes b ++ number_bytes c), (a, h.0, refl), (number_bytes c, (b, h.1, refl), ([], (c, h.2, sym (append-nil (number_bytes c))), refl))) }
+request_is_good (See a) h = record { kind = 13; body = number_bytes a; sorts = Number ∷ []; whole = refl; known = refl; fields = ([], (a, h, sym (append-nil (number_bytes a))), refl) }
 
 -- a last text and a last number are what their bytes tell
 last_text : (s t : List ℕ) → IsShort s → IsShort t → text_bytes s ≡ text_bytes t → s ≡ t
@@ -265,6 +269,9 @@ one_payload (Call a b c) (Call u v w) h k e =
     let e1 = one_text a u (text_bytes b ++ number_bytes c) (text_bytes v ++ number_bytes w) (name_is_short a h.0) (name_is_short u k.0) e0 in
     let e2 = one_text b v (number_bytes c) (number_bytes w) (name_is_short b h.1) (name_is_short v k.1) e1.1 in
     let e3 = last_number c w h.2 k.2 e2.1 in cc
+one_payload (See a) (See u) h k e =
+    let e0 : number_bytes a ≡ number_bytes u = cc in
+    let e1 = last_number a u h k e0 in cc
 one_payload _ _ h k e = cc
 
 -- the texts of a payload that is not too long are not

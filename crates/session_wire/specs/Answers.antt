@@ -4,6 +4,7 @@ use Rattle.std.specs.Io.KnownBytes.{IsAtEnd}
 use Rattle.std.specs.declared.option.Option.{Option}
 use Rattle.nx_io.specs.Streams.{one_more}
 use Rattle.session_wire.specs.declared.requests.Request.{Request}
+use Rattle.session_wire.specs.declared.requests.Request.TheVariants.{See}
 use Rattle.session_wire.specs.declared.frame_reader.Framed.{Framed}
 use Rattle.session_wire.specs.declared.frame_reader.Framed.TheVariants as framed
 use Rattle.session_wire.specs.declared.reply_reader.ReplyRead.{ReplyRead}
@@ -12,16 +13,20 @@ use Rattle.session_wire.specs.Frames.{IsFrameOf, IsReplyFrameOf}
 use Rattle.session_wire.specs.Beginnings.{IsBad, IsPart}
 use Rattle.session_wire.specs.Replies.{IsNoReply, IsReplyPart}
 
+-- the request is any but one that asks whether the session has come to a point, for which no memory is taken
+abbrev pub WantsMemory : Request → Type 0
+WantsMemory q = (k : ℕ) → q ≢ See k
+
 -- What was taken for an answer, whose first byte is at `start` of the connection: the whole frame of the request; no byte at
 -- the end of the connection, or a part of a frame; what shows a fault, and no byte more; a part of a frame, or no byte, where
--- the link failed; and the whole frame of some request where there was no memory for it.
+-- the link failed; and the whole frame of some request that wants memory where there was none for it.
 abbrev pub IsTakenFor : Framed → ℕ → List ℕ → Type 0
 IsTakenFor (framed.Request q) start bytes = IsFrameOf q bytes
 IsTakenFor framed.End start bytes = bytes ≡ []
 IsTakenFor framed.Torn start bytes = (bytes ≢ []) × IsPart bytes
 IsTakenFor (framed.Bad fault place) start bytes = IsBad start bytes fault place
 IsTakenFor framed.ReadFault start bytes = IsPart bytes
-IsTakenFor framed.Memory start bytes = (q : Request) × IsFrameOf q bytes
+IsTakenFor framed.Memory start bytes = (q : Request) × IsFrameOf q bytes × WantsMemory q
 
 -- no byte is to come where the end was answered
 abbrev pub IsAtItsEnd : Framed → Option (List ℕ) → Type 0

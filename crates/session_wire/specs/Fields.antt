@@ -13,7 +13,7 @@ abbrev pub sorts_by_kind : List (List Sort)
 sorts_by_kind =
     (Name ∷ Secret ∷ []) ∷ (Text ∷ Text ∷ []) ∷ (Number ∷ Name ∷ []) ∷ (Number ∷ []) ∷ (Name ∷ [])
     ∷ (Name ∷ Name ∷ Text ∷ []) ∷ (Name ∷ Name ∷ []) ∷ (Name ∷ Name ∷ Text ∷ []) ∷ (Name ∷ Name ∷ [])
-    ∷ (Text ∷ Number ∷ []) ∷ (Text ∷ []) ∷ (Name ∷ Name ∷ Number ∷ []) ∷ []
+    ∷ (Text ∷ Number ∷ []) ∷ (Text ∷ []) ∷ (Name ∷ Name ∷ Number ∷ []) ∷ (Number ∷ []) ∷ []
 
 -- the sorts of the fields of this kind; none for an unknown kind
 unfoldable pub sorts_of_kind : ℕ → Option (List Sort)

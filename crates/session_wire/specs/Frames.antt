@@ -5,9 +5,9 @@ use Rattle.byteorder.specs.Endian.{big_bytes}
 use Rattle.nal_term.specs.Names.{IsName}
 use Rattle.nal_term.specs.Secrets.{IsSecret}
 use Rattle.session_wire.specs.declared.requests.Request.{Request}
-use Rattle.session_wire.specs.declared.requests.Request.TheVariants.{Hello, Say, Transfer, Delete, NewObject, SetGoal, ClearGoal, SetProof, ClearProof, Bind, Unbind, Call}
+use Rattle.session_wire.specs.declared.requests.Request.TheVariants.{Hello, Say, Transfer, Delete, NewObject, SetGoal, ClearGoal, SetProof, ClearProof, Bind, Unbind, Call, See}
 use Rattle.session_wire.specs.declared.replies.Reply.{Reply}
-use Rattle.session_wire.specs.declared.replies.Reply.TheVariants.{Welcome, Done, Allowed, Denied, Refused, Down, NoMemory, Bad}
+use Rattle.session_wire.specs.declared.replies.Reply.TheVariants.{Welcome, Done, Allowed, Denied, Refused, Down, NoMemory, Bad, Seen}
 
 -- the length that a frame begins with: four bytes
 unfoldable pub length_bytes : ℕ → List ℕ
@@ -39,6 +39,7 @@ request_payload (ClearProof op object) = 9 ∷ (text_bytes op ++ text_bytes obje
 request_payload (Bind principal port) = 10 ∷ (text_bytes principal ++ number_bytes port)
 request_payload (Unbind principal) = 11 ∷ text_bytes principal
 request_payload (Call op object arg) = 12 ∷ (text_bytes op ++ (text_bytes object ++ number_bytes arg))
+request_payload (See number) = 13 ∷ number_bytes number
 
 -- the frame of a request
 abbrev pub request_frame : Request → List ℕ
@@ -54,6 +55,7 @@ reply_kind (Refused at number) = 69
 reply_kind (Down at line) = 70
 reply_kind NoMemory = 71
 reply_kind (Bad place) = 72
+reply_kind (Seen at) = 73
 
 -- the fields of a reply, which are all numbers
 abbrev pub reply_numbers : Reply → List ℕ
@@ -65,6 +67,7 @@ reply_numbers (Refused at number) = at ∷ number ∷ []
 reply_numbers (Down at line) = at ∷ line ∷ []
 reply_numbers NoMemory = []
 reply_numbers (Bad place) = place ∷ []
+reply_numbers (Seen at) = at ∷ []
 
 -- the payload of a reply
 abbrev pub reply_payload : Reply → List ℕ
@@ -104,6 +107,7 @@ HasFittingParts (ClearProof op object) = IsName op × IsName object
 HasFittingParts (Bind principal port) = IsShort principal × IsNumber64 port
 HasFittingParts (Unbind principal) = IsShort principal
 HasFittingParts (Call op object arg) = IsName op × IsName object × IsNumber64 arg
+HasFittingParts (See number) = IsNumber64 number
 
 -- the greatest length of a payload
 abbrev pub most_payload : ℕ
@@ -127,6 +131,7 @@ HasFittingNumbers (Refused at number) = IsNumber64 at × IsNumber64 number
 HasFittingNumbers (Down at line) = IsNumber64 at × IsNumber64 line
 HasFittingNumbers NoMemory = Unit {0}
 HasFittingNumbers (Bad place) = IsNumber64 place
+HasFittingNumbers (Seen at) = IsNumber64 at
 
 -- the bytes are the frame of this reply
 abbrev pub IsReplyFrameOf : Reply → List ℕ → Type 0

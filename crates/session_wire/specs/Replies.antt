@@ -5,7 +5,7 @@ use Rattle.session_wire.specs.Frames.{HasFittingNumbers, length_bytes, reply_fra
 
 -- how many numbers the replies of each kind hold, in the order of the kinds from 65
 abbrev pub counts_by_kind : List ℕ
-counts_by_kind = 2 ∷ 2 ∷ 3 ∷ 4 ∷ 2 ∷ 2 ∷ 0 ∷ 1 ∷ []
+counts_by_kind = 2 ∷ 2 ∷ 3 ∷ 4 ∷ 2 ∷ 2 ∷ 0 ∷ 1 ∷ 1 ∷ []
 
 -- how many numbers the replies of this kind hold; none for an unknown kind
 unfoldable pub count_of_kind : ℕ → Option ℕ

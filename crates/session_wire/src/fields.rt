@@ -63,7 +63,7 @@ fn sorts_of_kind(kind: u8) -> Option<&'static [Sort]>
         1 => Some(&[Sort::Name, Sort::Secret]),
         2 => Some(&[Sort::Text, Sort::Text]),
         3 => Some(&[Sort::Number, Sort::Name]),
-        4 => Some(&[Sort::Number]),
+        4 | 13 => Some(&[Sort::Number]),
         5 => Some(&[Sort::Name]),
         6 | 8 => Some(&[Sort::Name, Sort::Name, Sort::Text]),
         7 | 9 => Some(&[Sort::Name, Sort::Name]),

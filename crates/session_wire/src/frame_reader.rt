@@ -34,7 +34,7 @@ pub enum Framed {
     Bad { fault: FrameFault, place: u64 },
     /// The link has failed.
     ReadFault,
-    /// There was no memory for the request. Its whole frame was taken.
+    /// There was no memory for the request, which is not one that asks for a point. Its whole frame was taken.
     Memory,
 }
 

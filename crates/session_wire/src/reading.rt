@@ -1,4 +1,4 @@
-ghost use Rattle.std.specs.Prelude.{◌≡◌, ◌∷◌, ◌++◌, [], IfOk};
+ghost use Rattle.std.specs.Prelude.{◌≡◌, ◌≢◌, ◌∷◌, ◌++◌, [], IfOk, OnErr};
 ghost use Rattle.nal_term.specs.Names.{IsName};
 ghost use Rattle.nal_term.specs.Secrets.{IsSecret};
 ghost use Rattle.session_wire.specs.Frames.{IsNumber64, IsShort, number_bytes, text_bytes};
@@ -68,11 +68,12 @@ fn number(bytes: &[u8]) -> (u64, &[u8])
     cut
 }
 
-/// The request of this kind whose fields these bytes are. An `Err` is want of memory.
+/// The request of this kind whose fields these bytes are. An `Err` is want of memory, of a kind that takes any.
 #[tactic(auto, unfolding(crate::specs::Fields::sorts_of_kind))]
 pub(crate) fn read_payload(alloc: Global, kind: u8, body: &[u8]) -> Result<Request, AllocError>
     requires { AreFields (sorts_of_kind kind) body.now }
-    ensures { IfOk result (IsPayloadOf kind body.now) }
+    ensures payload { IfOk result (IsPayloadOf kind body.now) }
+    ensures memory { OnErr result (kind ≢ 13) }
 {
     match kind {
         1 => {
@@ -126,6 +127,10 @@ pub(crate) fn read_payload(alloc: Global, kind: u8, body: &[u8]) -> Result<Reque
         12 => {
             let (op, object, arg) = place_and_number(alloc, body)?;
             Ok(Request::Call { op, object, arg })
+        }
+        13 => {
+            let number = one_number(body);
+            Ok(Request::See { number })
         }
         _ => unreachable!(),
     }

@@ -41,4 +41,8 @@ pub enum Reply {
     Bad {
         place: u64,
     },
+    /// The session has come to this length of the journal.
+    Seen {
+        at: u64,
+    },
 }

@@ -120,7 +120,7 @@ fn count_of_kind(kind: u8) -> Option<usize>
         67 => Some(3),
         68 => Some(4),
         71 => Some(0),
-        72 => Some(1),
+        72 | 73 => Some(1),
         _ => None,
     }
 }
@@ -172,6 +172,9 @@ fn reply_of(kind: u8, numbers: &[u8]) -> Reply
         71 => Reply::NoMemory,
         72 => Reply::Bad {
             place: one_number(numbers),
+        },
+        73 => Reply::Seen {
+            at: one_number(numbers),
         },
         _ => unreachable!(),
     }

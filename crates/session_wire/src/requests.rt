@@ -58,4 +58,8 @@ pub enum Request {
         object: Name,
         arg: u64,
     },
+    /// Asks whether the session has come to a point of the journal: its length is at least this number.
+    See {
+        number: u64,
+    },
 }

@@ -32,6 +32,7 @@ pub fn write_reply(reply: &Reply, into: &mut [u8; 64]) -> usize
         Reply::Down { at, line } => put_frame(70, &[at, line], into),
         Reply::NoMemory => put_frame(71, &[], into),
         Reply::Bad { place } => put_frame(72, &[place], into),
+        Reply::Seen { at } => put_frame(73, &[at], into),
     }
 }
 
@@ -123,6 +124,7 @@ fn payload(alloc: Global, request: &Request) -> Result<Vec<u8>, AllocError>
         }
         Request::Unbind { principal } => with_text(kind(alloc, 11)?, principal.as_slice()),
         Request::Call { op, object, arg } => with_number(place(alloc, 12, op, object)?, *arg),
+        Request::See { number } => with_number(kind(alloc, 13)?, *number),
     }
 }
 

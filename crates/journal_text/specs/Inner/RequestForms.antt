@@ -4,7 +4,7 @@ use Rattle.std.specs.List.{All, find}
 use Rattle.std.specs.Fmt.{decimal}
 use Rattle.std.specs.Str.{bytes_eq}
 use Rattle.session_wire.specs.declared.requests.Request.{Request}
-use Rattle.session_wire.specs.declared.requests.Request.TheVariants.{Hello, Say, Transfer, Delete, NewObject, SetGoal, ClearGoal, SetProof, ClearProof, Bind, Unbind, Call}
+use Rattle.session_wire.specs.declared.requests.Request.TheVariants.{Hello, Say, Transfer, Delete, NewObject, SetGoal, ClearGoal, SetProof, ClearProof, Bind, Unbind, Call, See}
 use Rattle.journal_text.specs.declared.request_lines.Form.{Form}
 use Rattle.journal_text.specs.declared.request_lines.Form.TheVariants as form
 use Rattle.journal_text.specs.RequestLines.{IsWritable}
@@ -23,12 +23,13 @@ word_of form.ClearProof = codes "noproof"
 word_of form.Bind = codes "bind"
 word_of form.Unbind = codes "unbind"
 word_of form.Call = codes "call"
+word_of form.See = codes "see"
 
 -- the forms
 abbrev pub all_forms : List Form
 all_forms =
     form.Hello ∷ form.Say ∷ form.Transfer ∷ form.Delete ∷ form.NewObject ∷ form.SetGoal ∷ form.ClearGoal ∷ form.SetProof
-    ∷ form.ClearProof ∷ form.Bind ∷ form.Unbind ∷ form.Call ∷ []
+    ∷ form.ClearProof ∷ form.Bind ∷ form.Unbind ∷ form.Call ∷ form.See ∷ []
 
 -- the form with this word
 unfoldable pub form_named : List ℕ → Option Form
@@ -48,6 +49,7 @@ form_of (ClearProof op object) = form.ClearProof
 form_of (Bind principal port) = form.Bind
 form_of (Unbind principal) = form.Unbind
 form_of (Call op object arg) = form.Call
+form_of (See number) = form.See
 
 -- a word, a space and what follows
 abbrev pub cut : List ℕ → List ℕ → List ℕ
@@ -67,6 +69,7 @@ parts_of (ClearProof op object) = cut op object
 parts_of (Bind principal port) = cut principal (decimal port)
 parts_of (Unbind principal) = principal
 parts_of (Call op object arg) = cut op (cut object (decimal arg))
+parts_of (See number) = decimal number
 
 -- no byte is a space
 abbrev pub HasNoSpace : List ℕ → Type 0

@@ -33,7 +33,7 @@ nexus 2|principal fs pw|principal bob pw|principal ntp pw|authority 1 mem|end|
 
 journal: a change touches one region or none
 nexus 2|principal alice pw|principal bob pw|authority 1 mem|end|
-all 0 258 1 alice object o# -> each
+all 0 258 4096 1 alice object o# -> each
 touch 1 bob goal read o0 : true -> Some(0)
 touch 1 bob goal read o255 : true -> Some(255)
 touch 1 bob nogoal read o256 -> Some(0)
@@ -45,6 +45,13 @@ touch 1 bob say bob : ok -> None
 touch 1 bob object p -> None
 touch 1 bob bind bob 1 -> None
 touch 1 bob unbind bob -> None
+
+journal: principals whose numbers are 256 apart share the region of their stores
+principals 258
+touch 1 p0 delete 1 -> Some(256)
+touch 1 p255 delete 1 -> Some(511)
+touch 1 p256 delete 1 -> Some(256)
+touch 1 p257 transfer 1 p0 -> Some(257)
 
 journal: labels are given in their order
 nexus 2|principal alice pw|principal bob pw|end|
