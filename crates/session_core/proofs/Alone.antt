@@ -8,6 +8,7 @@ use Rattle.policy_history.specs.Events.{EntryTree}
 use Rattle.authority_ask.specs.PanelCalls.{HasOnlyAsked, asked_since}
 use Rattle.authority_ask.specs.Panels.{Told}
 use Rattle.authority_ask.proofs.ForCallers.{only_nothing, only_through, since_nothing, since_through}
+use Rattle.session_wire.specs.Answers.{WantsMemory}
 use Rattle.session_wire.specs.declared.requests.Request.{Request}
 use Rattle.session_wire.specs.declared.replies.Reply.{Reply}
 use Rattle.session_core.specs.declared.lines.Asking.{Asking}
@@ -48,11 +49,11 @@ alone_more b c now requests replies q reply alone outcome number head grown aske
     }
 
 -- one request more that was given up
-pub alone_given_up : (b c : Course) (requests : List Request) (replies : List Reply) (q : Request) → IsAlone b c requests replies
+pub alone_given_up : (b c : Course) (requests : List Request) (replies : List Reply) (q : Request) → WantsMemory q → IsAlone b c requests replies
     → IsAlone b c (requests ++ q ∷ []) (replies ++ NoMemory ∷ [])
-alone_given_up b c requests replies q alone =
+alone_given_up b c requests replies q wants alone =
     alone_more b c c requests replies q NoMemory alone
-    (subst (λ (xs : List Told). HasOutcome c.head c.es c.number c.who q (outcome_of NoMemory c.who xs c.es c.es)) (sym (since_nothing c.asked)) (given_up_outcome c.head c.es c.number c.who q))
+    (subst (λ (xs : List Told). HasOutcome c.head c.es c.number c.who q (outcome_of NoMemory c.who xs c.es c.es)) (sym (since_nothing c.asked)) (given_up_outcome c.head c.es c.number c.who q wants))
     refl refl (grows-nothing c.es) (only_nothing c.asked)
 
 -- nothing was told yet

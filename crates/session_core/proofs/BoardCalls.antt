@@ -137,7 +137,7 @@ module _ (board : Identity Entry Head) (s : BoardSession) (p : ℕ) (op object :
   pub home_there : IsHome board.origin.setting (trees_of s) place.case place.object place.store
   home_there = home_of board.origin.setting (trees_of s) p op object place there.0
 
-  pub few_there : place.object < 4096
+  pub few_there : place.object < 65536
   few_there = few_objects board.origin.setting (trees_of s) p op object place there.0
 
   module _ (q : PassValue Entry Head) (prefix : IsPrefix s.pass.seen q.seen) where

@@ -12,6 +12,7 @@ use Rattle.policy_history.specs.Events.{EntryTree, name_of}
 use Rattle.session_core.specs.declared.board_session.Admitted.{Admitted}
 use Rattle.policy_history.specs.Values.{entry_trees}
 use Rattle.authority_ask.specs.Panels.{Told as Ask}
+use Rattle.session_wire.specs.Answers.{WantsMemory}
 use Rattle.session_wire.specs.declared.requests.Request.{Request}
 use Rattle.session_wire.specs.declared.replies.Reply.{Reply}
 use Rattle.session_wire.specs.declared.replies.Reply.TheVariants.{NoMemory}
@@ -140,10 +141,10 @@ module _ (a s t : BoardSession) (p q r : PanelHistory) (count count_then count_n
   }
 
 -- one request more that was given up
-pub gone_given_up : (a s : BoardSession) (p q : PanelHistory) (count count_now : ℕ) (kept kept_now : Kept) (requests : List Request) (replies : List Reply) (request : Request) → HasGone a s p q count count_now kept kept_now requests replies
+pub gone_given_up : (a s : BoardSession) (p q : PanelHistory) (count count_now : ℕ) (kept kept_now : Kept) (requests : List Request) (replies : List Reply) (request : Request) → WantsMemory request → HasGone a s p q count count_now kept kept_now requests replies
     → HasGone a s p q count count_now kept kept_now (requests ++ request ∷ []) (replies ++ NoMemory ∷ [])
-gone_given_up a s p q count count_now kept kept_now requests replies request gone =
-    gone_more a s s p q q count count_now count_now kept kept_now kept_now requests replies request NoMemory gone (subst (λ (xs : List Ask). IsTurn s s xs request NoMemory) (sym (since_nothing q)) (given_up_any s request)) (only_nothing q)
+gone_given_up a s p q count count_now kept kept_now requests replies request wants gone =
+    gone_more a s s p q q count count_now count_now kept kept_now kept_now requests replies request NoMemory gone (subst (λ (xs : List Ask). IsTurn s s xs request NoMemory) (sym (since_nothing q)) (given_up_any s request wants)) (only_nothing q)
     (noted_none (λ call. tt)) (λ broken call. (refl, since_nothing q)) (quiet_counted count_now count_now request NoMemory refl (λ none. none))
 
 -- ---- The beginning

@@ -61,7 +61,7 @@ home_of h es p op object place is =
     let there = case_there h es p op place.object place.case is.case_is in
     record { row = there.0; stands = there.1; object_is = there.4; subject_is = there.2 ∙ sym is.store_is }
 
-pub few_objects : (h : Head) (es : List EntryTree) (p : ℕ) (op object : List ℕ) (place : CasePlace) → IsPlaceIn (replay h es) p op object place → place.object < 4096
+pub few_objects : (h : Head) (es : List EntryTree) (p : ℕ) (op object : List ℕ) (place : CasePlace) → IsPlaceIn (replay h es) p op object place → place.object < 65536
 few_objects h es p op object place is = object_there h es object place.object is.object_is
 
 pub both_same : (a b : Bool) → (a && b) ≡ true → (a ≡ true) × (b ≡ true)

@@ -6,7 +6,7 @@ use Rattle.policy_history.specs.declared.events.Due.{Due}
 use Rattle.policy_history.specs.declared.events.Entry.{Entry}
 use Rattle.policy_history.specs.declared.events.Event.{Event}
 use Rattle.policy_history.specs.declared.events.Refusal.{Refusal}
-use Rattle.policy_history.specs.declared.events.Refusal.TheVariants.{NoSuchPrincipal, NotYourPrincipal, NoSuchLabel, NotHolder, NoSuchObject, NameTaken, NotOwner, NoGoal, NoSuchProof, NoBinding, BadPort, BadFormula, BadProof, Quota, ObjectsFull, CasesFull, NotRecorded}
+use Rattle.policy_history.specs.declared.events.Refusal.TheVariants.{NoSuchPrincipal, NotYourPrincipal, NoSuchLabel, NotHolder, NoSuchObject, NameTaken, NotOwner, NoGoal, NoSuchProof, NoBinding, BadPort, BadFormula, BadProof, Quota, JournalFull, ObjectsFull, CasesFull, NotRecorded}
 use Rattle.policy_history.specs.declared.heads.Head.{Head}
 use Rattle.policy_history.specs.declared.heads.Principal.{Principal}
 use Rattle.policy_history.specs.PolicyLines.{entry_line}
@@ -21,10 +21,11 @@ use Rattle.policy_history.specs.Laws.{refusal_number}
 use Rattle.policy_history.specs.Machine.{replay}
 use Rattle.policy_history.specs.Values.{decision, entry_trees}
 use Rattle.authority_ask.specs.Panels.{Told as Ask}
+use Rattle.session_wire.specs.Answers.{WantsMemory}
 use Rattle.session_wire.specs.declared.requests.Request.{Request}
-use Rattle.session_wire.specs.declared.requests.Request.TheVariants.{Call, Hello}
+use Rattle.session_wire.specs.declared.requests.Request.TheVariants.{Call, Hello, See}
 use Rattle.session_wire.specs.declared.replies.Reply.{Reply}
-use Rattle.session_wire.specs.declared.replies.Reply.TheVariants.{NoMemory, Refused as RefusedReply, Done as DoneReply, Welcome}
+use Rattle.session_wire.specs.declared.replies.Reply.TheVariants.{NoMemory, Refused as RefusedReply, Done as DoneReply, Welcome, Seen}
 use Rattle.journal_text.specs.RequestEvents.{IsEventOf}
 use Rattle.verdict_words.specs.declared.views.Item.{Item}
 use Rattle.verdict_words.specs.declared.views.Item.TheVariants.{Met}
@@ -68,8 +69,8 @@ still_turn s request reply answers = record {
   board_is = refl;
 }
 
-pub given_up_any : (s : BoardSession) (request : Request) → IsTurn s s [] request NoMemory
-given_up_any s request = still_turn s request NoMemory (told.given_up refl)
+pub given_up_any : (s : BoardSession) (request : Request) → WantsMemory request → IsTurn s s [] request NoMemory
+given_up_any s request wants = still_turn s request NoMemory (told.given_up wants refl)
 
 pub early_any : (s : BoardSession) (request : Request) (at : ℕ) → who_of s ≡ None → ((name secret : List ℕ) → request ≢ Hello name secret) → at ≡ length s.pass.seen → IsTurn s s [] request (RefusedReply at 1)
 early_any s request at nobody other at_is =
@@ -155,6 +156,10 @@ module _ (s : BoardSession) (q : PassValue Entry Head) (p : ℕ) (event : Event)
 
   abbrev mine : Entry
   mine = record { session = s.pass.session; principal = p; event = event }
+
+  -- a request for a change wants memory
+  event_wants : WantsMemory request
+  event_wants k same = subst (λ (r : Request). IsEventOf r (event_tree event)) same is_event
 
   -- a change that is decided where the history ends so
   decided_then : (entries later : List Entry) → IsPrefix entries later
@@ -293,7 +298,7 @@ module _ (s : BoardSession) (q : PassValue Entry Head) (p : ℕ) (event : Event)
       }
   written_turn (written.Refused at refusal) r =
       subst (λ (n : ℕ). IsTurn s (record s { pass = q }) [] request (RefusedReply n (refusal_number refusal))) (sym r.at_is) (refused_turn r.entries refusal r.why r.met)
-  written_turn written.NoMemory same = subst (λ (x : PassValue Entry Head). IsTurn s (record s { pass = x }) [] request NoMemory) (sym same) (given_up_any s request)
+  written_turn written.NoMemory same = subst (λ (x : PassValue Entry Head). IsTurn s (record s { pass = x }) [] request NoMemory) (sym same) (given_up_any s request event_wants)
 
   met_ready : (at : Identity Entry Head) → IsReady at s → q.board ≡ s.pass.board → IsPrefix s.pass.seen q.seen → last_met q.trail ≡ length q.seen → IsReady at (record s { pass = q })
   met_ready at ready same prefix last = record {
@@ -320,6 +325,62 @@ module _ (s : BoardSession) (q : PassValue Entry Head) (p : ℕ) (event : Event)
       met_ready at ready turn.board_is turn.seen (refused_last r.entries refusal r.met)
   written_ready at ready written.NoMemory same = subst (λ (x : PassValue Entry Head). IsReady at (record s { pass = x })) (sym same) ready
 
+-- ---- Whether a session has come to a point
+
+module _ (s : BoardSession) (q : PassValue Entry Head) (entries : List Entry) (met : HasMet s.pass.board entries s.pass q) where
+  seen_then : entries ≡ q.seen
+  seen_then = sym (ap (λ (x : PassValue Entry Head). x.seen) met.pass_is)
+
+  -- a turn with this reply, at the length to which the pass was met
+  met_turn : (request : Request) (reply : Reply) → Answers (head_of s) (entry_trees entries) s.pass.session (standing s) request
+      (stepped (record (standing s) { low = length entries }) reply [] (Met (length entries) ∷ [])) → IsTurn s (record s { pass = q }) [] request reply
+  met_turn request reply answers =
+      let turn : Turn = stepped (record (standing s) { low = length entries }) reply [] (Met (length entries) ∷ []) in
+      record {
+        turn = turn;
+        answers = subst (λ (es : List Entry). Answers (head_of s) (entry_trees es) s.pass.session (standing s) request turn) seen_then answers;
+        reply_is = refl;
+        asks_are = refl;
+        trail = ap (λ (x : PassValue Entry Head). x.trail) met.pass_is;
+        own_is = ap own_in met.pass_is ∙ own_behind s.pass.board entries q.known s.pass ∙ ap entry_trees met.met.own_met ∙ sym (own_trees s.pass) ∙ sym (append-nil (own_in s.pass));
+        after = ap (λ (es : List Entry). record (standing s) { low = length es }) seen_then;
+        seen = subst (λ (es : List Entry). IsPrefix s.pass.seen es) seen_then met.met.seen;
+        knows = met.knows;
+        session_is = ap (λ (x : PassValue Entry Head). x.session) met.pass_is;
+        board_is = ap (λ (x : PassValue Entry Head). x.board) met.pass_is;
+      }
+
+  seen_within : IsSeen (entry_trees entries) (length s.pass.seen) (length entries)
+  seen_within = (prefix_length s.pass.seen entries met.met.seen, omega (arith, trees_count entries))
+
+  pub see_turn : (p k at : ℕ) (reply : Reply) → who_of s ≡ Some p → at ≡ length q.seen → ((k ≤ at) × (reply ≡ Seen at)) ⊎ ((at < k) × (reply ≡ RefusedReply at 23))
+      → IsTurn s (record s { pass = q }) [] (See k) reply
+  see_turn p k at reply who at_is told_so = of (at_is ∙ sym (ap (λ (es : List Entry). length es) seen_then)) told_so
+    where
+      of : at ≡ length entries → ((k ≤ at) × (reply ≡ Seen at)) ⊎ ((at < k) × (reply ≡ RefusedReply at 23)) → IsTurn s (record s { pass = q }) [] (See k) reply
+      of here (inl there) =
+          subst (IsTurn s (record s { pass = q }) [] (See k)) (sym (there.1 ∙ ap Seen here))
+          (met_turn (See k) (Seen (length entries)) (told.see p k who refl (told.seen (length entries) seen_within (subst (λ (n : ℕ). k ≤ n) here there.0) refl)))
+      of here (inr far) =
+          subst (IsTurn s (record s { pass = q }) [] (See k)) (sym (far.1 ∙ ap (λ (n : ℕ). RefusedReply n 23) here))
+          (met_turn (See k) (RefusedReply (length entries) 23) (told.see p k who refl (told.not_yet (length entries) seen_within (subst (λ (n : ℕ). n < k) here far.0) refl)))
+
+  pub see_ready : (at : Identity Entry Head) → IsReady at s → IsReady at (record s { pass = q })
+  see_ready at ready =
+      let prefix = subst (λ (es : List Entry). IsPrefix s.pass.seen es) seen_then met.met.seen in
+      let last = ap (λ (x : PassValue Entry Head). last_met x.trail) met.pass_is ∙ last_met_now s.pass.trail (length entries) ∙ ap (λ (es : List Entry). length es) seen_then in
+      record {
+        board_is = ap (λ (x : PassValue Entry Head). x.board) met.pass_is ∙ ready.board_is;
+        met = omega (arith, last);
+        who = ready.who;
+        known = known_stay at.origin.setting (trees_of s) (entry_trees q.seen) (who_of s) s.known.rows (trees_prefix s.pass.seen q.seen prefix) ready.known;
+      }
+
+-- a reply to it tells no change not to be recorded
+pub see_recorded : (k at : ℕ) (reply : Reply) → ((k ≤ at) × (reply ≡ Seen at)) ⊎ ((at < k) × (reply ≡ RefusedReply at 23)) → ¬ IsNotRecorded reply
+see_recorded k at reply (inl there) none = absurd (subst IsNotRecorded there.1 none)
+see_recorded k at reply (inr far) none = let other : 23 ≡ 20 = subst IsNotRecorded far.1 none in absurd (omega (arith, other))
+
 -- a refusal with another number
 numbered_else : (number count more : ℕ) → number < 20 → number ≡ 20 → count < count + more
 numbered_else number count more small is = omega (arith, small, is)
@@ -340,6 +401,7 @@ refused_counted BadPort at count is = numbered_else 14 count 0 (omega arith) is
 refused_counted BadFormula at count is = numbered_else 15 count 0 (omega arith) is
 refused_counted BadProof at count is = numbered_else 16 count 0 (omega arith) is
 refused_counted Quota at count is = numbered_else 17 count 0 (omega arith) is
+refused_counted JournalFull at count is = absurd (omega (arith, is))
 refused_counted ObjectsFull at count is = numbered_else 18 count 0 (omega arith) is
 refused_counted CasesFull at count is = numbered_else 19 count 0 (omega arith) is
 refused_counted NotRecorded at count is = omega arith

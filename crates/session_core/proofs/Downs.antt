@@ -1,5 +1,5 @@
 -- An authority was down as often as a reply tells it.
-use Rattle.std.proofs.Common.{◌≡◌, ◌≤◌, ◌+◌, ◌⊎◌, ℕ, inl, inr, List, [], ◌∷◌, ◌++◌, cond, Option, Some, None, arith, refl, sym, ap, subst, ◌∙◌}
+use Rattle.std.proofs.Common.{◌≡◌, ◌≤◌, ◌+◌, ◌⊎◌, ℕ, inl, inr, List, [], ◌∷◌, ◌++◌, length, cond, Option, Some, None, arith, refl, sym, ap, subst, ◌∙◌}
 use Rattle.std.specs.Prelude.{Result, Ok, Err}
 use Rattle.std.proofs.lemmas.List.Sums.{sum_by-cons}
 use Rattle.nal_rules.specs.declared.verdicts.Verdict.{Verdict}
@@ -18,11 +18,11 @@ use Rattle.authority_ask.proofs.ForCallers.{downs_append}
 use Rattle.guard_core.specs.Judging.{verdict_of}
 use Rattle.guard_core.proofs.ForCallers.{broken_downs, judged_downs, memory_downs}
 use Rattle.session_wire.specs.declared.requests.Request.{Request}
-use Rattle.session_wire.specs.declared.requests.Request.TheVariants.{Call, Hello}
+use Rattle.session_wire.specs.declared.requests.Request.TheVariants.{Call, Hello, See}
 use Rattle.session_wire.specs.declared.replies.Reply.{Reply}
 use Rattle.verdict_words.specs.declared.views.Item.{Item}
 use Rattle.session_core.specs.Answers as alone
-use Rattle.session_core.specs.Answers.{HasOutcome, IsAnswer, IsCalledOn, IsGivenUp, IsJudgedCall, Outcome, changed, downs_told, found_reply, greeted, is_down}
+use Rattle.session_core.specs.Answers.{HasOutcome, IsAnswer, IsCalledOn, IsGivenUp, IsJudgedCall, IsSeenAt, Outcome, changed, downs_told, found_reply, greeted, is_down}
 use Rattle.guard_core.specs.declared.findings.Finding.{Finding}
 use Rattle.guard_core.specs.declared.findings.Finding.TheVariants.{Allowed as AllowedFinding, Denied as DeniedFinding}
 use Rattle.session_core.specs.Sessions.{behind}
@@ -105,11 +105,13 @@ answers_fit {h} {es} {s} {before} (told.hello name secret greeting asked is same
 answers_fit (told.early nobody other is) = inl (fits_turn is refl)
 answers_fit (told.change p e who event changes) = inl (changes_fit changes)
 answers_fit (told.call p op object arg who is calls) = inl (calls_fit calls)
-answers_fit (told.given_up is) = inl (fits_turn is refl)
+answers_fit (told.given_up wants is) = inl (fits_turn is refl)
 answers_fit (told.call_given_up p op object arg who is gives_up) = inl (gives_up_fit gives_up)
 answers_fit {turn = turn} (told.call_unrecorded p op object arg who is goes) =
     let reply = unrecorded_reply goes in
     inr ((subst IsCall (sym is) tt, subst IsNotRecorded (sym reply.1) refl), ap told_down reply.1)
+answers_fit (told.see p k who is (told.seen m seen there turn_is)) = inl (fits_turn turn_is refl)
+answers_fit (told.see p k who is (told.not_yet m seen far turn_is)) = inl (fits_turn turn_is refl)
 
 one_more : (asks first later : List Ask) (reply : Reply) (replies : List Reply) → asks ≡ first ++ later → Fits first reply → downs_in later ≡ downs_told replies → downs_in asks ≡ downs_told (reply ∷ replies)
 one_more asks first later reply replies is fits more =
@@ -164,7 +166,12 @@ answer_fits : (h : Head) (es : List EntryTree) (session : ℕ) (who : Option ℕ
 answer_fits h es session who (Hello name secret) outcome is = fits_outcome is (greeted_fits _ session who (admitted h.principals name secret))
 answer_fits h es session (Some p) (Call op object arg) outcome calls = called_fit h es p op (number_of (replay h es).objects object) outcome calls
 answer_fits h es session None request outcome is = fits_outcome is refl
-answer_fits h es session (Some p) request outcome (e, event, is) = fits_outcome is (changed_fits es session p e (decision h (replay h es) session p e))
+answer_fits h es session (Some p) (See k) outcome seen = seen_fits seen
+  where
+    seen_fits : IsSeenAt (length es) p k outcome → FitsOutcome outcome
+    seen_fits (inl is) = fits_outcome is.1 refl
+    seen_fits (inr is) = fits_outcome is.1 refl
+answer_fits h es session (Some p) request outcome is = fits_outcome is.2 (changed_fits es session p is.0 (decision h (replay h es) session p is.0))
 
 given_up_fits : (h : Head) (es : List EntryTree) (who : Option ℕ) (request : Request) (outcome : Outcome) → IsGivenUp h es who request outcome → FitsOutcome outcome
 given_up_fits h es (Some p) (Call op object arg) outcome given = vain given.0 ∙ sym (ap (λ (t : Outcome). told_down t.reply) given.1)
@@ -176,7 +183,7 @@ given_up_fits h es who request outcome is = fits_outcome is refl
 
 outcome_fits : {h : Head} {es : List EntryTree} {session : ℕ} {who : Option ℕ} {request : Request} {outcome : Outcome} → HasOutcome h es session who request outcome → FitsOutcome outcome
 outcome_fits {h} {es} {session} {who} {request} {outcome} (alone.answered is) = answer_fits h es session who request outcome is
-outcome_fits {h} {es} {session} {who} {request} {outcome} (alone.given_up is) = given_up_fits h es who request outcome is
+outcome_fits {h} {es} {session} {who} {request} {outcome} (alone.given_up wants is) = given_up_fits h es who request outcome is
 
 pub downs_are_told_alone : DownsAreToldAlone
 downs_are_told_alone h first point [] [] asks last is = ap downs_in is.0

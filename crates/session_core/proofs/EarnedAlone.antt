@@ -19,7 +19,7 @@ use Rattle.guard_core.specs.Judging.{IsJudged, answers_in, verdict_of}
 use Rattle.guard_core.specs.declared.findings.Finding.{Finding}
 use Rattle.guard_core.specs.declared.findings.Finding.TheVariants.{Allowed as AllowedFinding, Denied as DeniedFinding}
 use Rattle.session_wire.specs.declared.requests.Request.{Request}
-use Rattle.session_wire.specs.declared.requests.Request.TheVariants.{Hello, Call}
+use Rattle.session_wire.specs.declared.requests.Request.TheVariants.{Hello, Call, See}
 use Rattle.session_wire.specs.declared.replies.Reply.{Reply}
 use Rattle.session_wire.specs.declared.replies.Reply.TheVariants.{Welcome, Allowed, Denied}
 use Rattle.session_core.specs.Answers.{HasOutcome, IsAnswer, IsCalledOn, IsGivenUp, Outcome, answered, changed, down, found, found_reply, given_up}
@@ -29,6 +29,7 @@ use Rattle.session_core.specs.Told.{state_at}
 use Rattle.session_core.specs.declared.lines.Asking.{Asking}
 use Rattle.session_core.proofs.EarnedCalls.{IsFound, earned_of, refuted_of}
 use Rattle.session_core.proofs.EarnedReplies.{greeted_who, parts_of, refuted_as}
+use Rattle.session_core.proofs.RisingAlone.{points_rise_alone, seen_lasts_alone}
 use Rattle.session_core.proofs.ToldRefusals.{greeting_no_verdict, is_verdict_reply}
 
 -- ---- One request
@@ -79,6 +80,8 @@ module _ (h : Head) (es : List EntryTree) (session : ℕ) (outcome : Outcome) wh
   answered_now (Some p) (Call op object arg) tells is = called_now p op object arg (number_of (replay h es).objects object) tells refl is
   answered_now None (Call op object arg) tells is = no_verdict_in tells is refl
   answered_now None _ tells is = no_verdict_in tells is refl
+  answered_now (Some p) (See k) tells (inl is) = no_verdict_in tells is.1 refl
+  answered_now (Some p) (See k) tells (inr is) = no_verdict_in tells is.1 refl
   answered_now (Some p) _ tells is = no_verdict_in tells is.2 (changed_no_verdict es session p is.0 (decision h (replay h es) session p is.0))
 
   given_up_now : (who : Option ℕ) (request : Request) {A : Type 0} → is_verdict_reply outcome.reply ≡ true → IsGivenUp h es who request outcome → A
@@ -89,7 +92,7 @@ module _ (h : Head) (es : List EntryTree) (session : ℕ) (outcome : Outcome) wh
 
   judged_now : (who : Option ℕ) (request : Request) → is_verdict_reply outcome.reply ≡ true → HasOutcome h es session who request outcome → IsJudgedNow h es who request outcome
   judged_now who request tells (answered is) = answered_now who request tells is
-  judged_now who request tells (given_up is) = given_up_now who request tells is
+  judged_now who request tells (given_up wants is) = given_up_now who request tells is
 
   -- whoever is admitted afterwards was so before, or is welcomed now
   abbrev CameInNow : Option ℕ → Request → ℕ → Type 0
@@ -117,6 +120,8 @@ module _ (h : Head) (es : List EntryTree) (session : ℕ) (outcome : Outcome) wh
   answered_who (Some q) (Call op object arg) p is after = called_who q (Call op object arg) p op object (number_of (replay h es).objects object) is after
   answered_who None (Call op object arg) p is after = same_now None (Call op object arg) p is refl after
   answered_who None request p is after = same_now None request p is refl after
+  answered_who (Some q) (See k) p (inl is) after = same_now (Some q) (See k) p is.1 refl after
+  answered_who (Some q) (See k) p (inr is) after = same_now (Some q) (See k) p is.1 refl after
   answered_who (Some q) request p is after = same_now (Some q) request p is.2 (changed_who q is.0 (decision h (replay h es) session q is.0)) after
 
   given_up_who : (who : Option ℕ) (request : Request) (p : ℕ) → IsGivenUp h es who request outcome → outcome.who ≡ Some p → CameInNow who request p
@@ -127,7 +132,7 @@ module _ (h : Head) (es : List EntryTree) (session : ℕ) (outcome : Outcome) wh
 
   who_now : (who : Option ℕ) (request : Request) (p : ℕ) → HasOutcome h es session who request outcome → outcome.who ≡ Some p → CameInNow who request p
   who_now who request p (answered is) after = answered_who who request p is after
-  who_now who request p (given_up is) after = given_up_who who request p is after
+  who_now who request p (given_up wants is) after = given_up_who who request p is after
 
 -- ---- All requests
 
@@ -308,4 +313,6 @@ pub tells_what_is_true_alone : TellsWhatIsTrueAlone
 tells_what_is_true_alone h first point last askings replies asks nobody told = record {
   allowed = λ i at hit value here. let c = called_alone h first point last askings replies asks told i (Allowed at hit value) here refl in allowed_alone nobody c c.finding c.reply_is c.told;
   denied = λ i at cause line fault here. let c = called_alone h first point last askings replies asks told i (Denied at cause line fault) here refl in denied_alone nobody c c.finding c.reply_is c.told;
+  points = points_rise_alone h first point last askings replies asks told;
+  seen = seen_lasts_alone h first point last askings replies asks told;
 }

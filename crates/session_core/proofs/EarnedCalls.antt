@@ -43,7 +43,7 @@ lasting_unasked c (DeniedVerdict (AuthorityNo k)) lasts is = absurd lasts
 
 -- a kept verdict is that of the case of its place
 kept_found : (h : Head) (es : List EntryTree) (p : ℕ) (op object : List ℕ) (at number case : ℕ) (verdict : Verdict) → number_of (state_at h es at).objects object ≡ Some number
-    → (there : (row : CaseRow) × (slice_get (state_at h es at).cases case ≡ Some row) × (row.0 ≡ p) × (row.1 ≡ op) × (row.2 ≡ number) × (case < 65536))
+    → (there : (row : CaseRow) × (slice_get (state_at h es at).cases case ≡ Some row) × (row.0 ≡ p) × (row.1 ≡ op) × (row.2 ≡ number) × (case < 262144))
     → IsRightIn h (state_at h es at) case verdict → IsFound h es p op object at [] verdict
 kept_found h es p op object at number case verdict object_is there right =
     let st = state_at h es at in

@@ -51,9 +51,11 @@ answers_low (told.hello name secret greeting is greeted_is turn_is) = omega (ari
 answers_low (told.early nobody other is) = omega (arith, ap (λ (t : Turn). t.after.low) is)
 answers_low (told.change p e who event changes) = changes_low changes
 answers_low (told.call p op object arg who is calls) = calls_low calls
-answers_low (told.given_up is) = omega (arith, ap (λ (t : Turn). t.after.low) is)
+answers_low (told.given_up wants is) = omega (arith, ap (λ (t : Turn). t.after.low) is)
 answers_low (told.call_given_up p op object arg who is gives_up) = gives_up_low gives_up
 answers_low (told.call_unrecorded p op object arg who is goes) = unrecorded_low goes
+answers_low (told.see p k who is (told.seen m seen there turn_is)) = omega (arith, seen.0, ap (λ (t : Turn). t.after.low) turn_is)
+answers_low (told.see p k who is (told.not_yet m seen far turn_is)) = omega (arith, seen.0, ap (λ (t : Turn). t.after.low) turn_is)
 
 -- ---- Who is admitted
 
@@ -119,9 +121,11 @@ module _ (h : Head) (es : List EntryTree) (s : ℕ) (before : Standing) (request
   came_in (told.early nobody other is) = same_who before is refl who
   came_in (told.change q e who_is event changes) = changes_who changes
   came_in (told.call q op object arg who_is is calls) = calls_who calls
-  came_in (told.given_up is) = same_who before is refl who
+  came_in (told.given_up wants is) = same_who before is refl who
   came_in (told.call_given_up q op object arg who_is is gives_up) = gives_up_who gives_up
   came_in (told.call_unrecorded q op object arg who_is is goes) = unrecorded_who goes
+  came_in (told.see q k who_is is (told.seen m seen there turn_is)) = same_who before turn_is refl who
+  came_in (told.see q k who_is is (told.not_yet m seen far turn_is)) = same_who before turn_is refl who
 
 -- ---- The turn that a verdict is told in
 
@@ -157,9 +161,11 @@ turn_of {h} {es} {s} {before} {request} {turn} tells (told.call p op object arg 
   call = is;
   verdict_turn = call_verdict h es before turn p op object arg tells calls;
 }
-turn_of tells (told.given_up is) = no_verdict_told tells is refl
+turn_of tells (told.given_up wants is) = no_verdict_told tells is refl
 turn_of tells (told.call_given_up p op object arg who is gives_up) = absurd (cc (tells, ap is_verdict_reply (gives_up_silent gives_up)))
 turn_of tells (told.call_unrecorded p op object arg who is goes) = absurd (cc (tells, ap is_verdict_reply (unrecorded_reply goes).1))
+turn_of tells (told.see p k who is (told.seen m seen there turn_is)) = no_verdict_told tells turn_is refl
+turn_of tells (told.see p k who is (told.not_yet m seen far turn_is)) = no_verdict_told tells turn_is refl
 
 -- ---- A whole session
 

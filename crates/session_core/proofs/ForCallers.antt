@@ -16,7 +16,7 @@ pub use Rattle.session_core.proofs.ToldLaws.{unrecorded_reply}
 pub use Rattle.session_core.proofs.BoardHistories.{own_map}
 use Rattle.session_core.proofs.EarnedAlone.{tells_what_is_true_alone}
 use Rattle.session_core.proofs.EarnedReplies.{tells_what_is_true}
-use Rattle.session_core.proofs.RisingPoints.{tells_in_order}
+use Rattle.session_core.proofs.RisingPoints.{tells_in_order, tells_what_lasts}
 use Rattle.session_core.specs.Answers.{Outcome}
 use Rattle.policy_history.specs.Events.{EntryTree}
 use Rattle.session_wire.specs.declared.requests.Request.{Request}
@@ -123,6 +123,7 @@ report_is_true {h} {low} {report} {asks} served = record {
   ended = served.ended;
   truth = tells_what_is_true h report.seen report.session low served.requests served.replies asks _ served.last served.told;
   points = tells_in_order h report.seen report.session low served.requests served.replies asks _ served.last served.told;
+  seen = tells_what_lasts h report.seen report.session low served.requests served.replies asks _ served.last served.told;
 }
 
 -- nobody is admitted yet

@@ -28,4 +28,5 @@ mod BoardGoing
 mod EarnedCalls
 mod EarnedReplies
 mod RisingPoints
+mod RisingAlone
 mod EarnedAlone

@@ -103,7 +103,7 @@ turn_of : (read : Framed) (Told Now : Telling) (count : ℕ) (taken gain sent se
     → Comes Now end count (taken ++ gain) sent_now
 turn_of (framed.Request q) Told Now count taken gain sent sent_now end v few a frame = replied_turn Told Now count taken gain sent sent_now q end v few frame a a.reply_sent
 turn_of framed.Memory Told Now count taken gain sent sent_now end v few a frame =
-    replied_turn Told Now count taken gain sent sent_now frame.0 end v few frame.1 (a frame.0) (a frame.0).reply_sent
+    replied_turn Told Now count taken gain sent sent_now frame.0 end v few frame.1 (a frame.0 frame.2) (a frame.0 frame.2).reply_sent
 turn_of (framed.Bad fault place) Told Now count taken gain sent sent_now end v few t bad = refused_turn Told Now count taken gain sent sent_now end fault place v few bad t.0 t.1
 turn_of framed.End Told Now count taken gain sent sent_now end v few t none =
     let spelled : Spells (taken ++ gain) v.requests [] =
@@ -169,7 +169,7 @@ pub last_sat : (read : Framed) (Told Now : Telling) (end : SessionEnd) (start : 
 last_sat (framed.Request q) Told Now end start bytes sent sent_now faults a frame =
     subst (λ (e : SessionEnd). IsEndOf (framed.Request q) bytes faults e) (sym (unsent a.reply end sent sent_now a.reply_sent)) (not_over bytes, refl)
 last_sat framed.Memory Told Now end start bytes sent sent_now faults a frame =
-    subst (λ (e : SessionEnd). IsEndOf framed.Memory bytes faults e) (sym (unsent (a frame.0).reply end sent sent_now (a frame.0).reply_sent)) (not_over bytes, refl)
+    subst (λ (e : SessionEnd). IsEndOf framed.Memory bytes faults e) (sym (unsent (a frame.0 frame.2).reply end sent sent_now (a frame.0 frame.2).reply_sent)) (not_over bytes, refl)
 last_sat (framed.Bad fault place) Told Now end start bytes sent sent_now faults t frame = refused_end fault place end bytes faults (refused_as place end sent sent_now t.1)
 last_sat framed.End Told Now end start bytes sent sent_now faults t frame = subst (λ (e : SessionEnd). IsEndOf framed.End bytes faults e) (same_end end Closed t.2) (refl, refl)
 last_sat framed.Torn Told Now end start bytes sent sent_now faults t frame = subst (λ (e : SessionEnd). IsEndOf framed.Torn bytes faults e) (same_end end Torn t.2) (refl, refl)

@@ -1,5 +1,5 @@
 -- Whoever is admitted in a session stays so.
-use Rattle.std.proofs.Common.{◌≡◌, ℕ, List, true, true≢false, Option, Some, None, refl, sym, ap, ◌∙◌}
+use Rattle.std.proofs.Common.{◌≡◌, inl, inr, ℕ, List, true, true≢false, Option, Some, None, refl, sym, ap, ◌∙◌}
 use Rattle.std.specs.Prelude.{Result, Ok, Err}
 use Rattle.std.specs.Option.{is_some}
 use Rattle.object_table.specs.Objects.{number_of}
@@ -11,7 +11,7 @@ use Rattle.policy_history.specs.Machine.{replay}
 use Rattle.policy_history.specs.Values.{decision}
 use Rattle.authority_ask.specs.Panels.{Told as Ask}
 use Rattle.session_wire.specs.declared.requests.Request.{Request}
-use Rattle.session_wire.specs.declared.requests.Request.TheVariants.{Call, Hello}
+use Rattle.session_wire.specs.declared.requests.Request.TheVariants.{Call, Hello, See}
 use Rattle.session_wire.specs.declared.replies.Reply.{Reply}
 use Rattle.session_core.specs.Answers.{HasOutcome, IsAnswer, IsCalledOn, IsGivenUp, Outcome, answered, changed, down, found, given_up}
 use Rattle.session_core.specs.Standing.{Standing}
@@ -34,6 +34,8 @@ module _ (h : Head) (es : List EntryTree) (session p : ℕ) (outcome : Outcome) 
   answered_stays : (request : Request) → IsAnswer h es session (Some p) request outcome → outcome.who ≡ Some p
   answered_stays (Hello name secret) is = ap (λ (o : Outcome). o.who) is
   answered_stays (Call op object arg) is = called_stays op object (number_of (replay h es).objects object) is
+  answered_stays (See k) (inl is) = ap (λ (o : Outcome). o.who) is.1
+  answered_stays (See k) (inr is) = ap (λ (o : Outcome). o.who) is.1
   answered_stays request is = ap (λ (o : Outcome). o.who) is.2 ∙ changed_stays is.0 (decision h (replay h es) session p is.0)
 
   given_up_stays : (request : Request) → IsGivenUp h es (Some p) request outcome → outcome.who ≡ Some p
@@ -44,7 +46,7 @@ pub outcome_stays : (h : Head) (es : List EntryTree) (session : ℕ) (who : Opti
     → is_some outcome.who ≡ true
 outcome_stays h es session None request outcome is some = absurd (true≢false (sym some))
 outcome_stays h es session (Some p) request outcome (answered is) some = ap is_some (answered_stays h es session p outcome request is)
-outcome_stays h es session (Some p) request outcome (given_up is) some = ap is_some (given_up_stays h es session p outcome request is)
+outcome_stays h es session (Some p) request outcome (given_up wants is) some = ap is_some (given_up_stays h es session p outcome request is)
 
 -- ---- Over a shared board
 

@@ -101,9 +101,11 @@ answers_on more (told.hello name secret greeting is greeted turn_is) = told.hell
 answers_on more (told.early nobody other turn_is) = told.early nobody other turn_is
 answers_on more (told.change p e who event changes) = told.change p e who event (changes_on more changes)
 answers_on more (told.call p op object arg who is calls) = told.call p op object arg who is (calls_on more calls)
-answers_on more (told.given_up is) = told.given_up is
+answers_on more (told.given_up wants is) = told.given_up wants is
 answers_on more (told.call_given_up p op object arg who is gives_up) = told.call_given_up p op object arg who is (gives_up_on more gives_up)
 answers_on more (told.call_unrecorded p op object arg who is goes) = told.call_unrecorded p op object arg who is (unrecorded_on more goes)
+answers_on {es = es} more {before = before} (told.see p k who is (told.seen m seen there turn_is)) = told.see p k who is (told.seen m (seen_on es more before.low m seen) there turn_is)
+answers_on {es = es} more {before = before} (told.see p k who is (told.not_yet m seen far turn_is)) = told.see p k who is (told.not_yet m (seen_on es more before.low m seen) far turn_is)
 
 pub leads_on : (h : Head) (es more : List EntryTree) (s : ℕ) (before : Standing) (requests : List Request) (replies : List Reply) (asks : List Ask) (steps : List Item)
     (added : List EntryTree) (last : Standing)
@@ -226,9 +228,11 @@ answers_within {es = es} (told.hello name secret greeting is greeted turn_is) = 
 answers_within {es = es} (told.early nobody other turn_is) = subst (λ (t : Turn). Within (length es) t.steps) (sym turn_is) tt
 answers_within (told.change p e who event changes) = changes_within changes
 answers_within (told.call p op object arg who is calls) = calls_within calls
-answers_within {es = es} (told.given_up is) = subst (λ (t : Turn). Within (length es) t.steps) (sym is) tt
+answers_within {es = es} (told.given_up wants is) = subst (λ (t : Turn). Within (length es) t.steps) (sym is) tt
 answers_within (told.call_given_up p op object arg who is gives_up) = gives_up_within gives_up
 answers_within (told.call_unrecorded p op object arg who is goes) = unrecorded_within goes
+answers_within {es = es} (told.see p k who is (told.seen m seen there turn_is)) = subst (λ (t : Turn). Within (length es) t.steps) (sym turn_is) (seen.1, tt)
+answers_within {es = es} (told.see p k who is (told.not_yet m seen far turn_is)) = subst (λ (t : Turn). Within (length es) t.steps) (sym turn_is) (seen.1, tt)
 
 leads_within : (h : Head) (es : List EntryTree) (s : ℕ) (before : Standing) (requests : List Request) (replies : List Reply) (asks : List Ask) (steps : List Item)
     (added : List EntryTree) (last : Standing) → Leads h es s before requests replies asks steps added last → Within (length es) steps
@@ -333,9 +337,11 @@ only_allowed_runs h es s before request turn (told.hello name secret greeting is
 only_allowed_runs h es s before request turn (told.early nobody other turn_is) = idle_of turn_is (inl refl)
 only_allowed_runs h es s before request turn (told.change p e who event changes) = changes_idle changes
 only_allowed_runs h es s before request turn (told.call p op object arg who is calls) = calls_idle calls
-only_allowed_runs h es s before request turn (told.given_up is) = idle_of is (inl refl)
+only_allowed_runs h es s before request turn (told.given_up wants is) = idle_of is (inl refl)
 only_allowed_runs h es s before request turn (told.call_given_up p op object arg who is gives_up) = gives_up_idle gives_up
 only_allowed_runs h es s before request turn (told.call_unrecorded p op object arg who is goes) = unrecorded_idle goes
+only_allowed_runs h es s before request turn (told.see p k who is (told.seen m seen there turn_is)) = idle_of turn_is (inl refl)
+only_allowed_runs h es s before request turn (told.see p k who is (told.not_yet m seen far turn_is)) = idle_of turn_is (inl refl)
 
 -- the turn makes no entry, or its reply is Done
 abbrev Still : Turn → Type 0
@@ -376,6 +382,8 @@ only_done_adds h es s before request turn (told.hello name secret greeting is gr
 only_done_adds h es s before request turn (told.early nobody other turn_is) = still_of turn_is (inl refl)
 only_done_adds h es s before request turn (told.change p e who event changes) = changes_still changes
 only_done_adds h es s before request turn (told.call p op object arg who is calls) = calls_still calls
-only_done_adds h es s before request turn (told.given_up is) = still_of is (inl refl)
+only_done_adds h es s before request turn (told.given_up wants is) = still_of is (inl refl)
 only_done_adds h es s before request turn (told.call_given_up p op object arg who is gives_up) = gives_up_still gives_up
 only_done_adds h es s before request turn (told.call_unrecorded p op object arg who is goes) = unrecorded_still goes
+only_done_adds h es s before request turn (told.see p k who is (told.seen m seen there turn_is)) = still_of turn_is (inl refl)
+only_done_adds h es s before request turn (told.see p k who is (told.not_yet m seen far turn_is)) = still_of turn_is (inl refl)

@@ -97,9 +97,11 @@ module _ {turn : Turn} {at number : ℕ} (replied : turn.reply ≡ Done at numbe
   done_leaves (told.early nobody other is) = absurd (other_kind is_done_reply is replied refl refl)
   done_leaves (told.change p e who event changes) = change_leaves changes
   done_leaves (told.call p op object arg who is calls) = absurd (call_done calls)
-  done_leaves (told.given_up is) = absurd (other_kind is_done_reply is replied refl refl)
+  done_leaves (told.given_up wants is) = absurd (other_kind is_done_reply is replied refl refl)
   done_leaves (told.call_given_up p op object arg who is gives_up) = absurd (gives_up_done gives_up)
   done_leaves (told.call_unrecorded p op object arg who is goes) = absurd (true≢false (ap is_done_reply (sym replied ∙ (unrecorded_reply goes).1)))
+  done_leaves (told.see p k who is (told.seen m seen there turn_is)) = absurd (other_kind is_done_reply turn_is replied refl refl)
+  done_leaves (told.see p k who is (told.not_yet m seen far turn_is)) = absurd (other_kind is_done_reply turn_is replied refl refl)
 
 -- ---- Whoever is admitted stays so
 
@@ -137,9 +139,11 @@ module _ {before : Standing} {turn : Turn} {p : ℕ} (who : before.who ≡ Some 
   stays (told.early nobody other is) = who_of is refl who
   stays (told.change q e who_is event changes) = change_stays changes
   stays (told.call q op object arg who_is is calls) = call_stays calls
-  stays (told.given_up is) = who_of is refl who
+  stays (told.given_up wants is) = who_of is refl who
   stays (told.call_given_up q op object arg who_is is gives_up) = gives_up_stays gives_up
   stays (told.call_unrecorded q op object arg who_is is goes) = unrecorded_stays goes
+  stays (told.see q k who_is is (told.seen m seen there turn_is)) = who_of turn_is refl who
+  stays (told.see q k who_is is (told.not_yet m seen far turn_is)) = who_of turn_is refl who
 
 -- who says hello with the name and the secret of a principal, and is welcomed, is that one from then on
 pub welcomed : {h : Head} {es : List EntryTree} {s p at session : ℕ} {before : Standing} {name secret : List ℕ} {turn : Turn} → before.who ≡ None → admitted h.principals name secret ≡ Some p
@@ -153,9 +157,10 @@ welcomed {h = h} {s = s} {before = before} {name = name} {secret = secret} nobod
 welcomed nobody found (told.early none other is) replied = absurd (other _ _ refl)
 welcomed nobody found (told.change q e who event changes) replied = absurd event
 welcomed nobody found (told.call q op object arg who is calls) replied = absurd (cc is)
-welcomed nobody found (told.given_up is) replied = let same = sym replied ∙ ap (λ (t : Turn). t.reply) is in absurd (cc same)
+welcomed nobody found (told.given_up wants is) replied = let same = sym replied ∙ ap (λ (t : Turn). t.reply) is in absurd (cc same)
 welcomed nobody found (told.call_given_up q op object arg who is gives_up) replied = absurd (cc is)
 welcomed nobody found (told.call_unrecorded q op object arg who is goes) replied = absurd (cc is)
+welcomed nobody found (told.see q k who is sees) replied = absurd (cc is)
 
 -- ---- A call that is allowed or denied
 
@@ -239,11 +244,12 @@ verdict_of_call {h} {es} {s} {before} {turn} {p} op object arg who told_so (told
     let same : q ≡ p = cc in
     let by : CallsBy h es before q turn (Call op object arg) = subst (λ (r : Request). CallsBy h es before q turn r) (sym is) calls in
     call_verdict h es before turn p op object arg told_so (subst (λ (x : ℕ). CallsBy h es before x turn (Call op object arg)) same by)
-verdict_of_call op object arg who told_so (told.given_up is) = absurd (other_kind is_verdict_reply is refl told_so refl)
+verdict_of_call op object arg who told_so (told.given_up wants is) = absurd (other_kind is_verdict_reply is refl told_so refl)
 verdict_of_call op object arg who told_so (told.call_given_up q op2 object2 arg2 who_is is gives_up) =
     absurd (true≢false (sym told_so ∙ ap is_verdict_reply (gives_up_silent gives_up)))
 verdict_of_call op object arg who told_so (told.call_unrecorded q op2 object2 arg2 who_is is goes) =
     absurd (true≢false (sym told_so ∙ ap is_verdict_reply (unrecorded_reply goes).1))
+verdict_of_call op object arg who told_so (told.see q k who_is is sees) = absurd (cc is)
 
 -- ---- What is never told
 

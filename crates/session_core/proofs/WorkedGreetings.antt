@@ -30,7 +30,9 @@ greeted_once = record {
       on (told.hello (codes "alice") (codes "pa") _ refl refl refl) (
       on (told.hello (codes "alice") (codes "pa") _ refl refl refl) (
       on (is_nameless head allowed_entries 2 0 low 0 4 [] label_shown read (codes "g") 0 (lit≤ tt) label_at (lit≤ tt) refl refl) (
-      on (told.hello (codes "alice") (codes "pa") _ refl refl refl) done))))));
+      on (told.hello (codes "alice") (codes "pa") _ refl refl refl) (
+      on (told.see 0 5 refl refl (told.not_yet 4 (lit≤ tt, lit≤ tt) (lit≤ tt) refl)) (
+      on (told.see 0 4 refl refl (told.seen 4 (lit≤ tt, lit≤ tt) (lit≤ tt) refl)) done))))))));
   entries = refl;
 }
 

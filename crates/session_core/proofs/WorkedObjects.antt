@@ -70,14 +70,17 @@ rows_length (suc n) = let more = rows_length n in let l = length-append (rows n)
 
 -- the state that the objects lead to; each line has 20 bytes
 abbrev made_state : ℕ → State
-made_state n = record { labels = []; goals = []; ports = []; cases = []; objects = rows n; entries = n; tallies = record { entries = n; bytes = 20 * n } ∷ [] }
+made_state n = record { labels = []; goals = []; ports = []; cases = []; objects = rows n; entries = n; bytes = 20 * n; tallies = record { entries = n; bytes = 20 * n } ∷ [] }
 
 object_due : (n : ℕ) → n < 257 → decision head (made_state n) 1 0 (new_object (object_name n)) ≡ Ok (due n 20)
 object_due n below =
     let few : leb 4096 n ≡ false = lt-leb 4096 n (omega (arith, below)) in
     let long : length (rows n) ≡ n = rows_length n in
     let small : ltb 524288 (20 * n + 20) ≡ false = le-ltb 524288 (20 * n + 20) (omega (arith, below)) in
-    rw (untaken n below, one, few, small, long, few, one, long)
+    let fewer : leb 262144 n ≡ false = lt-leb 262144 n (omega (arith, below)) in
+    let shorter : ltb 33554432 (20 * n + 20) ≡ false = le-ltb 33554432 (20 * n + 20) (omega (arith, below)) in
+    let room : leb 65536 n ≡ false = lt-leb 65536 n (omega (arith, below)) in
+    rw (untaken n below, one, few, small, fewer, shorter, long, room, one, long)
 
 made_at : (n : ℕ) → n ≤ 257 → replay head (objects_made n) ≡ made_state n
 made_at zero below = refl

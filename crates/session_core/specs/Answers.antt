@@ -1,5 +1,5 @@
 -- What a session is answered at a point of the journal, without a cache: one request.
-use Rattle.std.specs.Prelude.{◌≡◌, ◌+◌, ◌⊎◌, ℕ, Bool, true, false, List, [], ◌∷◌, length, Option, Some, None, Result, Ok, Err}
+use Rattle.std.specs.Prelude.{◌≡◌, ◌<◌, ◌≤◌, ◌+◌, ◌⊎◌, ℕ, Bool, true, false, List, [], ◌∷◌, length, Option, Some, None, Result, Ok, Err}
 use Rattle.std.specs.List.{count_by}
 use Rattle.nal_rules.specs.Numbers.{cause_numbers}
 use Rattle.nal_rules.specs.Verdicts.{CaseTree}
@@ -18,10 +18,11 @@ use Rattle.guard_core.specs.declared.findings.Finding.{Finding}
 use Rattle.guard_core.specs.declared.findings.Finding.TheVariants.{Allowed as AllowedFinding, Denied as DeniedFinding}
 use Rattle.guard_core.specs.declared.findings.GuardError.TheVariants.{Down as DownError, Memory as MemoryError}
 use Rattle.guard_core.specs.Judging.{IsJudged, IsBrokenOff}
+use Rattle.session_wire.specs.Answers.{WantsMemory}
 use Rattle.session_wire.specs.declared.requests.Request.{Request}
-use Rattle.session_wire.specs.declared.requests.Request.TheVariants.{Hello, Call}
+use Rattle.session_wire.specs.declared.requests.Request.TheVariants.{Hello, Call, See}
 use Rattle.session_wire.specs.declared.replies.Reply.{Reply}
-use Rattle.session_wire.specs.declared.replies.Reply.TheVariants.{Welcome, Done, Allowed, Denied, Refused, Down, NoMemory}
+use Rattle.session_wire.specs.declared.replies.Reply.TheVariants.{Welcome, Done, Allowed, Denied, Refused, Down, NoMemory, Seen}
 use Rattle.journal_text.specs.RequestEvents.{IsEventOf}
 
 -- What a session comes to by one request: the reply, the principal that is admitted afterwards, what authorities were
@@ -77,6 +78,11 @@ IsCalledOn h es p op (Some n) outcome = IsJudgedCall (length es) p (case_at h (r
 abbrev pub IsCalled : Head → List EntryTree → ℕ → List ℕ → List ℕ → Outcome → Type 0
 IsCalled h es p op object outcome = IsCalledOn h es p op (number_of (replay h es).objects object) outcome
 
+-- A session of principal p asks at the length n whether it has come to the length k: it is told n where it has, and else is refused with
+-- number 23.
+abbrev pub IsSeenAt : ℕ → ℕ → ℕ → Outcome → Type 0
+IsSeenAt n p k outcome = ((k ≤ n) × (outcome ≡ replied (Some p) (Seen n))) ⊎ ((n < k) × (outcome ≡ replied (Some p) (Refused n 23)))
+
 -- `IsAnswer h es session who request outcome`: behind the entries es of a journal with the head h, a session in which this
 -- principal is admitted, or nobody, comes to this outcome by the request. A hello is answered in every session; any other
 -- request is refused with number 1 before one, and a second hello with number 2.
@@ -84,6 +90,7 @@ abbrev pub IsAnswer : Head → List EntryTree → ℕ → Option ℕ → Request
 IsAnswer h es session who (Hello name secret) outcome = outcome ≡ greeted (length es) session who (admitted h.principals name secret)
 IsAnswer h es session None request outcome = outcome ≡ replied None (Refused (length es) 1)
 IsAnswer h es session (Some p) (Call op object arg) outcome = IsCalled h es p op object outcome
+IsAnswer h es session (Some p) (See k) outcome = IsSeenAt (length es) p k outcome
 IsAnswer h es session (Some p) request outcome = (e : EventTree) × IsEventOf request e × (outcome ≡ changed es session p e (decision h (replay h es) session p e))
 
 -- what was asked for a call that was given up: nothing, or the asks of its case up to and with one for which there was no
@@ -100,12 +107,14 @@ IsGivenUp h es who request outcome = outcome ≡ replied who NoMemory
 -- a request has this outcome behind these entries: it is answered, or given up for want of memory
 pub data HasOutcome (h : Head) (es : List EntryTree) (session : ℕ) (who : Option ℕ) (request : Request) (outcome : Outcome) : Type 0 where
   answered : IsAnswer h es session who request outcome → HasOutcome h es session who request outcome
-  given_up : IsGivenUp h es who request outcome → HasOutcome h es session who request outcome
+  given_up : WantsMemory request → IsGivenUp h es who request outcome → HasOutcome h es session who request outcome
 
--- the request is none that wants memory: a hello, or any request where nobody is admitted
+-- the request is none that wants memory: a hello, one that asks whether the session has come to a point, or any request where nobody is
+-- admitted
 abbrev pub IsFrugal : Option ℕ → Request → Type 0
 IsFrugal None request = Unit {0}
 IsFrugal (Some p) (Hello name secret) = Unit {0}
+IsFrugal (Some p) (See k) = Unit {0}
 IsFrugal (Some p) request = ⊥
 
 -- what a call came to, by the reply, by who is admitted afterwards, by what was asked, and by what the journal's entries gained

@@ -13,9 +13,9 @@ use Rattle.policy_history.specs.Judged.{case_at}
 use Rattle.authority_ask.specs.Panels.{Told}
 use Rattle.guard_core.specs.Judging.{answers_in, told_of}
 use Rattle.session_wire.specs.declared.requests.Request.{Request}
-use Rattle.session_wire.specs.declared.requests.Request.TheVariants.{Hello, Call}
+use Rattle.session_wire.specs.declared.requests.Request.TheVariants.{Hello, Call, See}
 use Rattle.session_wire.specs.declared.replies.Reply.{Reply}
-use Rattle.session_wire.specs.declared.replies.Reply.TheVariants.{Welcome, Done, Allowed, Denied, Refused, Down}
+use Rattle.session_wire.specs.declared.replies.Reply.TheVariants.{Welcome, Done, Allowed, Denied, Refused, Down, Seen}
 use Rattle.verdict_words.specs.declared.views.Item.{Item}
 use Rattle.session_core.specs.Ends.{HasEnded}
 use Rattle.session_core.specs.Served.{Reported}
@@ -89,6 +89,7 @@ point_of (Allowed at hit value) = Some at
 point_of (Denied at cause line fault) = Some at
 point_of (Refused at number) = Some at
 point_of (Down at line) = Some at
+point_of (Seen at) = Some at
 point_of _ = None
 
 -- a reply of a session names no point before one that an earlier reply named, and none before what there was as the session began
@@ -103,6 +104,18 @@ TellsInOrder =
     (h : Head) (es : List EntryTree) (s low : ℕ) (requests : List Request) (replies : List Reply) (asks : List Told) (trail : List Item) (last : Standing)
     → IsTold h es s low requests replies asks trail last → PointsRise low replies
 
+-- where it was told that a length has been reached, no reply from then on names a point below the one for which was asked
+abbrev pub SeenLasts : List Request → List Reply → Type 0
+SeenLasts requests replies =
+    (i j k m b : ℕ) (next : Reply) → i ≤ j → slice_get requests i ≡ Some (See k) → slice_get replies i ≡ Some (Seen m) → slice_get replies j ≡ Some next → point_of next ≡ Some b
+    → k ≤ b
+
+-- whatever a session over a shared board is told
+abbrev pub TellsWhatLasts : Type 0
+TellsWhatLasts =
+    (h : Head) (es : List EntryTree) (s low : ℕ) (requests : List Request) (replies : List Reply) (asks : List Told) (trail : List Item) (last : Standing)
+    → IsTold h es s low requests replies asks trail last → SeenLasts requests replies
+
 -- What is reported of a session is true: what was taken from its link are the frames of requests, what was sent to it those of replies, and these are true
 pub record IsTrueReport (h : Head) (es : List EntryTree) (low : ℕ) (report : Reported) (asks : List Told) : Type 0 where
   pub requests : List Request
@@ -110,6 +123,7 @@ pub record IsTrueReport (h : Head) (es : List EntryTree) (low : ℕ) (report : R
   pub ended : HasEnded report.end report.taken report.sent requests replies
   pub truth : IsTrue h es report.session low requests replies asks
   pub points : PointsRise low replies
+  pub seen : SeenLasts requests replies
 
 -- principal p is the one who was welcomed, before request i, in the session in this place among those from `first` on: with the name and the secret of p
 pub record IsWelcomedIn (h : Head) (first : ℕ) (askings : List Asking) (replies : List Reply) (i place p : ℕ) : Type 0 where
@@ -138,12 +152,14 @@ pub record IsAskingOf (h : Head) (first : ℕ) (es : List EntryTree) (askings : 
   pub within : at ≤ length es
   pub truth : Truth principal op object asked
 
--- What sessions over one journal were told of their calls is true of the journal that they left
+-- What sessions over one journal were told of their calls is true of the journal that they left. Their points rise, whichever of them is told one
 pub record IsTrueAlone (h : Head) (first : ℕ) (es : List EntryTree) (askings : List Asking) (replies : List Reply) (asks : List Told) : Type 0 where
   pub allowed : (i at hit value : ℕ) → slice_get replies i ≡ Some (Allowed at hit value)
       → IsAskingOf h first es askings replies asks i at (λ p op object asked. IsEarned h es p op object at asked)
   pub denied : (i at cause line fault : ℕ) → slice_get replies i ≡ Some (Denied at cause line fault)
       → IsAskingOf h first es askings replies asks i at (λ p op object asked. IsRefuted h es p op object at asked cause line fault)
+  pub points : PointsRise 0 replies
+  pub seen : SeenLasts (map (λ (asking : Asking). asking.request) askings) replies
 
 -- whatever sessions over one journal are told, from a point on at which nobody is admitted
 abbrev pub TellsWhatIsTrueAlone : Type 0

@@ -1,6 +1,6 @@
 -- What a session over a shared board is told. Each answer is placed among the session's own steps: what the answer is
 -- comes from the history and from what authorities said.
-use Rattle.std.specs.Prelude.{◌≡◌, ◌≢◌, ◌≤◌, ◌+◌, ◌⊎◌, ℕ, List, [], ◌∷◌, ◌++◌, length, take, Bool, true, false, Option, Some, None, Ok, Err, slice_get}
+use Rattle.std.specs.Prelude.{◌≡◌, ◌≢◌, ◌<◌, ◌≤◌, ◌+◌, ◌⊎◌, ℕ, List, [], ◌∷◌, ◌++◌, length, take, Bool, true, false, Option, Some, None, Ok, Err, slice_get}
 use Rattle.nal_rules.specs.Numbers.{cause_numbers}
 use Rattle.nal_rules.specs.Verdicts.{CaseTree}
 use Rattle.nal_rules.specs.declared.verdicts.Verdict.{Verdict}
@@ -21,10 +21,11 @@ use Rattle.authority_ask.specs.Panels.{Told as Ask}
 use Rattle.guard_core.specs.declared.findings.Finding.{Finding}
 use Rattle.guard_core.specs.declared.findings.GuardError.TheVariants.{Down as DownError, Memory as MemoryError}
 use Rattle.guard_core.specs.Judging.{IsJudged, IsBrokenOff, verdict_of}
+use Rattle.session_wire.specs.Answers.{WantsMemory}
 use Rattle.session_wire.specs.declared.requests.Request.{Request}
-use Rattle.session_wire.specs.declared.requests.Request.TheVariants.{Hello, Call}
+use Rattle.session_wire.specs.declared.requests.Request.TheVariants.{Hello, Call, See}
 use Rattle.session_wire.specs.declared.replies.Reply.{Reply}
-use Rattle.session_wire.specs.declared.replies.Reply.TheVariants.{Done, Allowed, Denied, Refused, Down, NoMemory}
+use Rattle.session_wire.specs.declared.replies.Reply.TheVariants.{Done, Allowed, Denied, Refused, Down, NoMemory, Seen}
 use Rattle.journal_text.specs.RequestEvents.{IsEventOf}
 use Rattle.verdict_words.specs.declared.places.CasePlace.{CasePlace}
 use Rattle.verdict_words.specs.declared.places.Held.{Held}
@@ -174,9 +175,15 @@ pub data Changes (h : Head) (es : List EntryTree) (s : ℕ) (before : Standing) 
       → turn ≡ record { reply = Done (m + 1) due.number; asks = []; steps = met ++ Met (m + 1) ∷ []; added = record { session = s; principal = p; event = e } ∷ []; after = record before { low = m + 1 } }
       → Changes h es s before p e turn
 
+-- A session that asks whether it has come to the length k. It is met at a length m, and told it where that is at least k; else it is
+-- refused with number 23, and nothing waits.
+pub data Sees (es : List EntryTree) (before : Standing) (k : ℕ) (turn : Turn) : Type 0 where
+  seen : (m : ℕ) → IsSeen es before.low m → k ≤ m → turn ≡ stepped (record before { low = m }) (Seen m) [] (Met m ∷ []) → Sees es before k turn
+  not_yet : (m : ℕ) → IsSeen es before.low m → m < k → turn ≡ stepped (record before { low = m }) (Refused m 23) [] (Met m ∷ []) → Sees es before k turn
+
 -- `Answers h es s before request turn`: session s, which is so far over this history, comes to this turn by the request. A hello is
 -- welcomed exactly where its name and its secret are a principal's and nobody is admitted yet; else it is refused, with number 3 or 2.
--- Before one every other request is refused with number 1. Any request may be given up for want of memory. A call may be refused since its
+-- Before one every other request is refused with number 1. Any request that wants memory may be given up for want of it. A call may be refused since its
 -- record could not be sent: when that is, `Records` says.
 pub data Answers (h : Head) (es : List EntryTree) (s : ℕ) (before : Standing) (request : Request) (turn : Turn) : Type 0 where
   hello : (name secret : List ℕ) (greeting : Outcome) → request ≡ Hello name secret → greeting ≡ greeted before.low s before.who (admitted h.principals name secret)
@@ -184,11 +191,12 @@ pub data Answers (h : Head) (es : List EntryTree) (s : ℕ) (before : Standing) 
   early : before.who ≡ None → ((name secret : List ℕ) → request ≢ Hello name secret) → turn ≡ plain before (Refused before.low 1) → Answers h es s before request turn
   change : (p : ℕ) (e : EventTree) → before.who ≡ Some p → IsEventOf request e → Changes h es s before p e turn → Answers h es s before request turn
   call : (p : ℕ) (op object : List ℕ) (arg : ℕ) → before.who ≡ Some p → request ≡ Call op object arg → Calls h es before p op object arg turn → Answers h es s before request turn
-  given_up : turn ≡ plain before NoMemory → Answers h es s before request turn
+  given_up : WantsMemory request → turn ≡ plain before NoMemory → Answers h es s before request turn
   call_given_up : (p : ℕ) (op object : List ℕ) (arg : ℕ) → before.who ≡ Some p → request ≡ Call op object arg → GivesUp h es before p op object turn
       → Answers h es s before request turn
   call_unrecorded : (p : ℕ) (op object : List ℕ) (arg : ℕ) → before.who ≡ Some p → request ≡ Call op object arg → GoesUnrecorded h es before p op object turn
       → Answers h es s before request turn
+  see : (p k : ℕ) → before.who ≡ Some p → request ≡ See k → Sees es before k turn → Answers h es s before request turn
 
 -- The requests, in order, got these replies; authorities were asked so for them, the pass made these steps, and these entries were made,
 -- each request taking its own from the front; and they led from one standing to the other.

@@ -11,9 +11,9 @@ use Rattle.authority_ask.specs.Panels.{Told as Ask}
 use Rattle.authority_ask.specs.declared.panels.Ask.{Ask as Answer}
 use Rattle.authority_ask.specs.declared.panels.Ask.TheVariants.{Yes, No, Down as DownAnswer, NoMemory as NoAnswer}
 use Rattle.session_wire.specs.declared.requests.Request.{Request}
-use Rattle.session_wire.specs.declared.requests.Request.TheVariants.{Hello, Say, Delete, NewObject, SetGoal, ClearGoal, SetProof, Call, Bind}
+use Rattle.session_wire.specs.declared.requests.Request.TheVariants.{Hello, Say, Delete, NewObject, SetGoal, ClearGoal, SetProof, Call, Bind, See}
 use Rattle.session_wire.specs.declared.replies.Reply.{Reply}
-use Rattle.session_wire.specs.declared.replies.Reply.TheVariants.{Welcome, Done, Allowed, Denied, Refused, Down, NoMemory}
+use Rattle.session_wire.specs.declared.replies.Reply.TheVariants.{Welcome, Done, Allowed, Denied, Refused, Down, NoMemory, Seen}
 use Rattle.verdict_words.specs.declared.places.CasePlace.{CasePlace}
 use Rattle.verdict_words.specs.declared.views.RegisterStep.TheVariants.{Read}
 use Rattle.verdict_words.specs.declared.views.Item.{Item}
@@ -281,16 +281,16 @@ later_steps =
 abbrev pub ChangesAreSeen : Type 0
 ChangesAreSeen = IsTold head deleted_entries 2 0 later_requests later_replies [] (Met 0 ∷ later_steps) (behind_call 5)
 
--- ---- Who is greeted, and who is not: each reply is at what the session has seen by then
+-- ---- Who is greeted, and who is not: each reply is at what the session has seen by then, and so is what it is told of a length
 
 abbrev pub greeted_requests : List Request
-greeted_requests = NewObject f ∷ Hello (codes "alice") (codes "xx") ∷ hello ∷ hello ∷ Call read (codes "g") 0 ∷ hello ∷ []
+greeted_requests = NewObject f ∷ Hello (codes "alice") (codes "xx") ∷ hello ∷ hello ∷ Call read (codes "g") 0 ∷ hello ∷ See 5 ∷ See 4 ∷ []
 
 abbrev pub greeted_replies : List Reply
-greeted_replies = Refused 0 1 ∷ Refused 0 3 ∷ Welcome 2 0 ∷ Refused 0 2 ∷ Refused 4 8 ∷ Refused 4 2 ∷ []
+greeted_replies = Refused 0 1 ∷ Refused 0 3 ∷ Welcome 2 0 ∷ Refused 0 2 ∷ Refused 4 8 ∷ Refused 4 2 ∷ Refused 4 23 ∷ Seen 4 ∷ []
 
 abbrev pub GreetedOnce : Type 0
-GreetedOnce = IsTold head allowed_entries 2 0 greeted_requests greeted_replies [] (Met 0 ∷ Met 4 ∷ []) (record { who = Some 0; low = 4; known = [] })
+GreetedOnce = IsTold head allowed_entries 2 0 greeted_requests greeted_replies [] (Met 0 ∷ Met 4 ∷ Met 4 ∷ Met 4 ∷ []) (record { who = Some 0; low = 4; known = [] })
 
 -- ---- A change that could not be recorded. No goal is set then, and a call that has no case number is neither known nor kept. The pass
 -- is met before the line of a change is written and again behind it, which is told of the first two changes
@@ -368,6 +368,10 @@ AllowedThenDenied = (at cause line fault : ℕ) → NeverTold allowed_entries al
 abbrev pub DeletedStillAllowed : Type 0
 DeletedStillAllowed =
     (at hit value : ℕ) → NeverTold deleted_entries (allowed_requests ++ Delete 3 ∷ call ∷ []) (allowed_replies ++ Done 5 0 ∷ Allowed at hit value ∷ [])
+
+-- that it has come to a length that the history does not have
+abbrev pub SeenTooEarly : Type 0
+SeenTooEarly = (at : ℕ) → NeverTold (entry 1 make_f ∷ []) (hello ∷ NewObject f ∷ See 2 ∷ []) (Welcome 1 0 ∷ Done 1 0 ∷ Seen at ∷ [])
 
 -- that two calls are allowed by one yes of the authority
 abbrev pub YesUsedTwice : Type 0

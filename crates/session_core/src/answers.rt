@@ -1,5 +1,5 @@
 //! The answer to one request, at the end of a journal and without a cache.
-ghost use Rattle.std.specs.Prelude.{◌≡◌, ◌≢◌, ◌≤◌, ◌<◌, length, IfSome, Some};
+ghost use Rattle.std.specs.Prelude.{◌≡◌, ◌≢◌, ◌⊎◌, ◌≤◌, ◌<◌, length, IfSome, Some};
 ghost use Rattle.nx_io.specs.Streams.{Grows};
 ghost use Rattle.authority_ask.specs.PanelCalls.{HasOnlyAsked, asked_since};
 ghost use Rattle.nal_rules.specs.Asking.{case_tree};
@@ -28,6 +28,8 @@ const ALREADY_OPEN: u64 = 2;
 const BAD_SECRET: u64 = 3;
 /// That of a call of an object that is not there.
 const NO_SUCH_OBJECT: u64 = 8;
+/// That of a session that asks for a point to which it has not come.
+const NOT_YET: u64 = 23;
 
 /// A session over a journal: its number, and the number of the principal that is admitted in it, if one is.
 #[derive(Clone, Copy, Debug, PartialEq, Eq)]
@@ -41,8 +43,8 @@ impl Session {
     /// added to the journal, a call is judged with the answers that authorities give to it, and nothing else changes.
     /// `docs/LOGIC.md`, "Sessions", states each answer.
     ///
-    /// `NoMemory` comes only where somebody is admitted and the request is no hello. `Down` comes exactly where the panel
-    /// failed in this call.
+    /// `NoMemory` comes only where somebody is admitted, and the request is neither a hello nor asks for a point. `Down` comes
+    /// exactly where the panel failed in this call.
     pub fn answer<P: Panel, R: Net<Listener = TcpListener, Stream = TcpStream> + Clock>(
         &mut self,
         rt: &R,
@@ -129,7 +131,22 @@ fn serve<P: Panel, R: Net<Listener = TcpListener, Stream = TcpStream> + Clock>(
 {
     match request {
         Request::Call { op, object, .. } => call(rt, alloc, journal, principal, op, object, panel),
+        Request::See { number } => seen_reply(journal.count(), *number),
         _ => change(alloc, journal, session, principal, request),
+    }
+}
+
+/// The reply at a length of the journal to a session that asks whether it has come to another one.
+pub(crate) fn seen_reply(at: u64, number: u64) -> Reply
+    ensures { ((number ≤ at) × (result ≡ Reply.Seen at)) ⊎ ((at < number) × (result ≡ Reply.Refused at 23)) }
+{
+    if number <= at {
+        Reply::Seen { at }
+    } else {
+        Reply::Refused {
+            at,
+            number: NOT_YET,
+        }
     }
 }
 

@@ -454,7 +454,7 @@ fn judged_reply(
     finding: &Finding,
 ) -> Reply
     requires board { pass.old.board ≡ board.now }
-    requires object { taken.now.object < 4096 }
+    requires object { taken.now.object < 65536 }
     ensures { IsReplyOf pass.old pass.new op.now arg taken.now.object taken.now.at 0 (verdict_of finding.now) result }
 {
     match finding {
@@ -478,7 +478,7 @@ fn hit(
     held: &Held,
 ) -> Reply
     requires board { pass.old.board ≡ board.now }
-    requires object { place.now.object < 4096 }
+    requires object { place.now.object < 65536 }
     requires code { 1 ≤ held.now.code }
     ensures { (verdict : Verdict) → StandsFor verdict held.now
         → IsReplyOf pass.old pass.new op.now arg place.now.object at 1 verdict result }
@@ -554,7 +554,7 @@ fn run(
     arg: u64,
 ) -> u64
     requires board { pass.old.board ≡ board.now }
-    requires object { object < 4096 }
+    requires object { object < 65536 }
     ensures { HasRun pass.old pass.new op.now arg object AllowedVerdict result }
 {
     if op.as_slice() == "read".as_bytes() {

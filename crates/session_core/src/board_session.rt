@@ -2,12 +2,14 @@
 ghost use Rattle.std.specs.Prelude.{◌≡◌, ◌∷◌, [], List, Some, None, true};
 ghost use Rattle.authority_ask.specs.PanelCalls.{HasOnlyAsked, asked_since};
 ghost use Rattle.authority_ask.specs.Panels.{Told};
-ghost use Rattle.session_wire.specs.declared.requests.Request.TheVariants.{Hello, Call};
+ghost use Rattle.session_wire.specs.Answers.{WantsMemory};
+ghost use Rattle.session_wire.specs.declared.requests.Request.TheVariants.{Hello, Call, See};
 ghost use Rattle.session_core.specs.Records.{IsCall, IsNoted, IsNotRecorded, Kept};
 ghost use Rattle.session_core.specs.Served.{AreCounted};
 ghost use Rattle.session_core.specs.Inner.Boarding.{IsReady, IsTurn, head_of, reply_of, who_of};
 ghost use Rattle.session_core.specs.Inner.Steps.{IsHello};
 
+use crate::answers::seen_reply;
 use crate::known::Known;
 use crate::records::RecordKeeper;
 use authority_ask::Panel;
@@ -99,6 +101,7 @@ impl BoardSession {
                 let arg = *arg;
                 self.call(rt, alloc, beside, book, op, object, arg, panel, records)
             }
+            Request::See { number } => self.see(book, *number),
             _ => self.change(alloc, book, request),
         }
     }
@@ -143,6 +146,36 @@ impl BoardSession {
         (opened, Reply::Welcome { session, at })
     }
 
+    /// Answers whether the session has come to a point, behind a meeting with the end of the journal. It takes no memory.
+    pub fn see<B: BookAccess>(self, book: &mut B, number: u64) -> (BoardSession, Reply)
+        requires ready { IsReady (B.board book.old) self }
+        ensures ready { IsReady (B.board book.old) result.0 }
+        ensures turn { IsTurn self result.0 [] (See number) result.1 }
+        ensures recorded { ¬ IsNotRecorded result.1 }
+        ensures noted { (asks : List Told) (kept : Kept) → IsNoted (head_of self) (who_of self) (See number) result.1
+            asks kept kept }
+        ensures book { (B.board book.new ≡ B.board book.old) × (B.unrecorded book.new ≡ B.unrecorded book.old) }
+    {
+        let Some(_) = &self.admitted else {
+            let at = self.pass.at();
+            let number = NOT_OPEN;
+            return (self, Reply::Refused { at, number });
+        };
+        let BoardSession {
+            pass,
+            admitted,
+            known,
+        } = self;
+        let pass = book.meet(pass);
+        let reply = seen_reply(pass.at(), number);
+        let session = BoardSession {
+            pass,
+            admitted,
+            known,
+        };
+        (session, reply)
+    }
+
     /// Answers a request for a change. It is parsed, and its line printed, before the book is reached.
     pub fn change<B: BookAccess>(
         self,
@@ -153,6 +186,7 @@ impl BoardSession {
         requires ready { IsReady (B.board book.old) self }
         requires no_hello { ¬ IsHello request.now }
         requires no_call { ¬ IsCall request.now }
+        requires wants { WantsMemory request.now }
         ensures ready { IsReady (B.board book.old) result.0 }
         ensures turn { IsTurn self result.0 [] request.now result.1 }
         ensures noted { (asks : List Told) (kept : Kept) → IsNoted (head_of self) (who_of self) request.now result.1

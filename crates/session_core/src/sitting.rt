@@ -20,6 +20,7 @@ pub trait Sitting<R, B, P>: Sized {
     ghost use Rattle.std.specs.Prelude.{Bool, List};
     ghost use Rattle.session_wire.specs.declared.requests.Request.{Request};
     ghost use Rattle.session_wire.specs.declared.replies.Reply.{Reply};
+    ghost use Rattle.session_wire.specs.Answers.{WantsMemory};
 
     /// It can answer.
     ghost ready: { Self → B → P → Type 0 };
@@ -50,8 +51,8 @@ pub trait Sitting<R, B, P>: Sized {
     fn give_up(self) -> Self
         ensures ready { (book : B) (panel : P) → ready self book panel → ready result book panel }
         ensures told { (first : Self) (book_first book : B) (panel_first panel : P) (request : Request)
-            → TellsMore (told first book_first panel_first self book panel) (told first book_first panel_first
-            result book panel) request NoMemory }
+            → WantsMemory request → TellsMore (told first book_first panel_first self book panel)
+            (told first book_first panel_first result book panel) request NoMemory }
         ensures admitted { admitted result ≡ admitted self };
 
     /// Whether it has admitted its peer.

@@ -1,16 +1,18 @@
 //! The laws of what a session over a shared board is told.
-ghost use Rattle.session_core.specs.Earned.{TellsInOrder, TellsWhatIsTrue, TellsWhatIsTrueAlone};
+ghost use Rattle.session_core.specs.Earned.{TellsInOrder, TellsWhatIsTrue, TellsWhatIsTrueAlone, TellsWhatLasts};
 ghost use Rattle.session_core.specs.ToldLaws.{DownsAreTold, DownsAreToldAlone, NotedStaysNoted, OnlyAllowedRuns, OnlyDoneAdds, ToldStaysTold};
-ghost use Rattle.session_core.specs.ToldRows.{AllowedAndKept, AllowedAndOtherSaid, AllowedAndThenDeleted, AllowedThenDenied, AskedEachTime, ChangesAreSeen, DeletedStillAllowed, DoneWithoutEntry, FirstCallHits, GreetedOnce, NotRecordedIsRefused, OtherRegionLeaves, SameRegionRaises, WrongLineAndThenCleared, WrongLineKept, YesUsedTwice};
+ghost use Rattle.session_core.specs.ToldRows.{AllowedAndKept, AllowedAndOtherSaid, AllowedAndThenDeleted, AllowedThenDenied, AskedEachTime, ChangesAreSeen, DeletedStillAllowed, DoneWithoutEntry, FirstCallHits, GreetedOnce, NotRecordedIsRefused, OtherRegionLeaves, SameRegionRaises, SeenTooEarly, WrongLineAndThenCleared, WrongLineKept, YesUsedTwice};
 
 /// What is told of a call is true. Each reply that allows one is earned: at the point that it names the goal in force is derived
 /// from labels that the caller holds there and from statements to which authorities answered Yes in this very call. Each reply
-/// that denies one tells the first cause that is true there. No reply names a point before an earlier one's. The same
-/// holds of sessions over one journal, with no others. The call does nothing.
+/// that denies one tells the first cause that is true there. No reply names a point before an earlier one's, and where a
+/// session was told that it has come to a length, none from then on names a point below it. The same holds of sessions over
+/// one journal, with no others. The call does nothing.
 /// `docs/GUARANTEES.md`, "What an answer means", reads the definitions aloud.
 pub fn told_replies_are_earned()
     ensures truth { TellsWhatIsTrue }
     ensures points { TellsInOrder }
+    ensures seen { TellsWhatLasts }
     ensures alone { TellsWhatIsTrueAlone }
 {}
 
@@ -60,4 +62,5 @@ pub fn wrong_answers_are_never_told()
     ensures denied { AllowedThenDenied }
     ensures allowed { DeletedStillAllowed }
     ensures twice { YesUsedTwice }
+    ensures early { SeenTooEarly }
 {}

@@ -3,8 +3,8 @@ use crate::tables::number;
 use std::alloc::{AllocError, Global};
 use text_lines::read_number;
 
-// Each name stands before its bytes. The names of replies stand for a length and a kind, without the numbers that follow. Last come
-// policies.
+// Each name stands before its bytes. The names of replies, and `see`, stand for a length and a kind, without the numbers that follow.
+// Last come policies.
 const NAMED: &str = "object = \0\0\0\x04\x05\0\x01f|\
     refused = \0\0\0\x11E|\
     welcome = \0\0\0\x11A|\
@@ -38,6 +38,8 @@ const NAMED: &str = "object = \0\0\0\x04\x05\0\x01f|\
     bobs_label = \0\0\0\x0a\x02\0\x03bob\0\x02ok|\
     give_1 = \0\0\0\x0e\x03\0\0\0\0\0\0\0\x01\0\x03bob|\
     other_object = \0\0\0\x04\x05\0\x01g|\
+    see = \0\0\0\x09\x0d|\
+    seen = \0\0\0\x09I|\
     hello_wrong = \0\0\0\x0c\x01\0\x05alice\0\x02xx|\
     hello_fs = \0\0\0\x09\x01\0\x02fs\0\x02pf|\
     hello_bob = \0\0\0\x0a\x01\0\x03bob\0\x02pb|\

@@ -5,6 +5,8 @@ use std::alloc::AllocError;
 // What cannot be done is refused: a case without a proof has no number, so it is not known and never looked for. The second
 // session asks before its hello, with a wrong secret, and twice.
 //
+// A session that asks for a length is told at once whether it has come to it: what it was told once, it is told again.
+//
 // A change that cannot be written is not recorded: the first change fills 44 of the 49 bytes that the sink holds, and the line
 // of the second breaks off. So it is where the line is written and cannot be synced; then no change of another session is recorded
 // either, and each session sees what was there before.
@@ -15,6 +17,12 @@ alice 40000|\
     refused 3 14 refused 3 5 refused 3 4|\
     other_object hello_wrong hello hello = refused 3 1 refused 3 3 welcome 2 3 refused 3 2 -> \
     true Closed Closed Closed, asks 0, asking 0 missed 0 answered 17 entries 3.
+
+play: a session is told whether it has come to a length
+alice 40000|\
+    see 0 hello see 1 object see 1 see 2 = refused 0 1 welcome 1 0 refused 0 23 done 1 0 seen 1 refused 1 23|\
+    hello see 1 see 2 other_object see 2 = welcome 2 1 seen 1 refused 1 23 done 2 1 seen 2 -> \
+    true Closed Closed Closed, asks 0, asking 0 missed 0 answered 11 entries 2.
 
 play: a change that cannot be written is not recorded
 alice 49|hello object true_goal other_object object call = \

@@ -152,6 +152,8 @@ fn a_session_is_spent_by_its_last_request(rt: HostRuntime) -> Result<(), AllocEr
 // What cannot be done is refused: an object, a goal that is set and cleared, and names that nobody has; then a second session
 // over the same journal: a request before its hello, a wrong secret, its hello, and another.
 //
+// A session that asks for a length is told how long the journal is, where it is as long.
+//
 // A label serves whoever holds it: an object, a goal that speaks of the caller, and a label that is given away. It serves its
 // new holder, and its giver no more: the goal speaks of whoever calls.
 const TABLE: &str = "serve: sessions end as their links do
@@ -213,6 +215,11 @@ alice|\
     refused 3 14 refused 3 5 refused 3 4|\
     1000 1000: other_object hello_wrong hello hello = refused 3 1 refused 3 3 welcome 2 3 refused 3 2 -> \
     Closed 305 true true.Closed 84 true true.
+
+serve: a session is told whether it has come to a length
+alice|1000 1000: see 0 hello see 0 see 1 object see 1 see 2 see 18446744073709551615 = \
+    refused 0 1 welcome 1 0 seen 0 refused 0 23 done 1 0 seen 1 refused 1 23 refused 1 23|\
+    1000 1000: hello see 1 see 2 = welcome 2 1 seen 1 refused 1 23 -> Closed 152 true true.Closed 55 true true.
 
 serve: a label serves whoever holds it
 fs_and_bob|\

@@ -35,12 +35,14 @@ module _ (h : Head) (es : List EntryTree) (s : ℕ) where
       subst (λ (t : Turn). All (IsKeptOf s) t.added) (sym same) (All-cons (IsKeptOf s) entry [] (refl, asked_events request e framed.0 is) (All-nil (IsKeptOf s)))
   turn_kept before request turn framed (told.call p op object arg who is (told.hit n place slot of_object of_store value held verdict ran looks makes stands right runs same)) = none_kept turn _ same refl
   turn_kept before request turn framed (told.call p op object arg who is (told.snapped low n looked misses seen judges)) = judged_kept turn judges
-  turn_kept before request turn framed (told.given_up same) = none_kept turn _ same refl
+  turn_kept before request turn framed (told.given_up wants same) = none_kept turn _ same refl
   turn_kept before request turn framed (told.call_given_up p op object arg who is (told.looked low steps misses same)) = none_kept turn _ same refl
   turn_kept before request turn framed (told.call_given_up p op object arg who is (told.met low n steps misses seen vain same)) = none_kept turn _ same refl
   turn_kept before request turn framed (told.call_unrecorded p op object arg who is (told.hit_unrecorded n place slot of_object of_store held looks makes same)) = none_kept turn _ same refl
   turn_kept before request turn framed (told.call_unrecorded p op object arg who is (told.snap_unrecorded low n steps misses seen asked same)) = none_kept turn _ same refl
   turn_kept before request turn framed (told.call_unrecorded p op object arg who is (told.later_unrecorded same)) = none_kept turn _ same refl
+  turn_kept before request turn framed (told.see p k who is (told.seen m seen there same)) = none_kept turn _ same refl
+  turn_kept before request turn framed (told.see p k who is (told.not_yet m seen far same)) = none_kept turn _ same refl
 
   leads_kept : (before : Standing) (requests : List Request) (replies : List Reply) (asks : List Ask) (steps : List Item) (added : List EntryTree) (last : Standing)
       → All HasFrame requests → Leads h es s before requests replies asks steps added last → All (IsKeptOf s) added

@@ -49,4 +49,4 @@ module _ (h : Head) (es : List EntryTree) (p : ℕ) (op object : List ℕ) (at :
 
 pub alone_is_right : AloneIsRight
 alone_is_right h es session p op object arg at v outcome (answers.answered is) r = on h es p op object at v outcome r (number_of (replay h es).objects object) refl is
-alone_is_right h es session p op object arg at v outcome (answers.given_up is) r = absurd (as_reply h es p op object at v outcome r NoMemory (ap (λ (x : Outcome). x.reply) is.1))
+alone_is_right h es session p op object arg at v outcome (answers.given_up wants is) r = absurd (as_reply h es p op object at v outcome r NoMemory (ap (λ (x : Outcome). x.reply) is.1))

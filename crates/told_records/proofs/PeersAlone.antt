@@ -41,9 +41,9 @@ module _ (h : Head) (s : ℕ) (x secret : List ℕ) (named : IsName x) where
 
       of : (w : Option ℕ) → o ≡ w → HasOutcome h es s w (label_request x f) outcome → (outcome.who ≡ w) × Says h s w (f ∷ []) outcome.added
       of None who (answers.answered is) = still None _ is refl refl
-      of None who (answers.given_up is) = still None _ is refl refl
+      of None who (answers.given_up wants is) = still None _ is refl refl
       of (Some p) who (answers.answered (e, is, same)) = decided p e who is (decision h (replay h es) s p e) same
-      of (Some p) who (answers.given_up is) = still (Some p) _ is refl refl
+      of (Some p) who (answers.given_up wants is) = still (Some p) _ is refl refl
 
   -- what comes of the labels, from a point at which this principal is admitted, or nobody
   abbrev Added : List FormulaTree → Point → Option ℕ → Point → Type 0
@@ -69,7 +69,7 @@ module _ (h : Head) (s : ℕ) (x secret : List ℕ) (named : IsName x) where
   hello_greets es outcome (answers.answered is) =
       let found = admitted h.principals x secret in
       (ap (λ (v : Outcome). v.added) is ∙ greeted_added (length es) s found, inr (ap (λ (v : Outcome). v.who) is ∙ greeted_who (length es) s found))
-  hello_greets es outcome (answers.given_up is) = (ap (λ (v : Outcome). v.added) is, inl (ap (λ (v : Outcome). v.who) is))
+  hello_greets es outcome (answers.given_up wants is) = (ap (λ (v : Outcome). v.added) is, inl (ap (λ (v : Outcome). v.who) is))
 
   alone_says : (es : List EntryTree) (labels : List FormulaTree) (replies : List Reply) (asks : List Ask) (last : Point) → All IsReadAgain labels
       → Told1 h s (at_first es) (askings_of (bundle_requests x secret labels)) replies asks last

@@ -36,9 +36,10 @@ module _ (h : Head) (es : List EntryTree) (s : ℕ) (x secret : List ℕ) (named
           let entry = one_said h s p x f e turn.added (greeted_named h s x secret before.who greeted p who) (one_event x f named read e is) (ap (λ (t : Turn). t.added) same) in
           (ap (λ (t : Turn). t.after.who) same, subst (λ (o : Option ℕ). Says h s o (f ∷ []) turn.added) (sym who) entry)
       of (told.call p op object arg who is calls) = absurd (cc is)
-      of (told.given_up same) = still _ same refl refl
+      of (told.given_up wants same) = still _ same refl refl
       of (told.call_given_up p op object arg who is gives) = absurd (cc is)
       of (told.call_unrecorded p op object arg who is goes) = absurd (cc is)
+      of (told.see p k who is sees) = absurd (cc is)
 
   -- so it is of all labels
   leads_say : (labels : List FormulaTree) (before : Standing) (replies : List Reply) (asks : List Ask) (steps : List Item) (added : List EntryTree) (last : Standing)
@@ -62,9 +63,10 @@ module _ (h : Head) (es : List EntryTree) (s : ℕ) (x secret : List ℕ) (named
   hello_greets first turn (told.early nobody other same) = absurd (other x secret refl)
   hello_greets first turn (told.change p e who is changes) = absurd (cc who)
   hello_greets first turn (told.call p op object arg who is calls) = absurd (cc who)
-  hello_greets first turn (told.given_up same) = (ap (λ (t : Turn). t.added) same, inl (ap (λ (t : Turn). t.after.who) same))
+  hello_greets first turn (told.given_up wants same) = (ap (λ (t : Turn). t.added) same, inl (ap (λ (t : Turn). t.after.who) same))
   hello_greets first turn (told.call_given_up p op object arg who is gives) = absurd (cc who)
   hello_greets first turn (told.call_unrecorded p op object arg who is goes) = absurd (cc who)
+  hello_greets first turn (told.see p k who is sees) = absurd (cc who)
 
   session_says : (first : ℕ) (labels : List FormulaTree) (replies : List Reply) (asks : List Ask) (steps : List Item) (added : List EntryTree) (last : Standing)
       → All IsReadAgain labels → Leads h es s (beginning first) (bundle_requests x secret labels) replies asks steps added last → AreOfPeer h s x secret labels added

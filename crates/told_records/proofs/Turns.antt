@@ -122,10 +122,11 @@ replies_are_right h es s before request turn (told.call q op2 object2 arg2 is_wh
     subst (λ (x : ℕ). IsRightCall h es x op object turn.asks at v) same
     (subst (λ (x : List ℕ). IsRightCall h es q x object turn.asks at v) (sym words.0)
     (subst (λ (x : List ℕ). IsRightCall h es q op2 x turn.asks at v) (sym words.1) (called h es before q op2 object2 arg2 at v turn r calls)))
-replies_are_right h es s before request turn (told.given_up is) = λ p op object arg at v who call r. absurd (no_reply h es before p op object arg at v turn r (ap (λ (t : Turn). t.reply) is))
+replies_are_right h es s before request turn (told.given_up wants is) = λ p op object arg at v who call r. absurd (no_reply h es before p op object arg at v turn r (ap (λ (t : Turn). t.reply) is))
 replies_are_right h es s before request turn (told.call_given_up q op2 object2 arg2 is_who is gives) = λ p op object arg at v who call r.
     absurd (given_up h es before q op2 object2 arg2 at v turn r gives)
 replies_are_right h es s before request turn (told.call_unrecorded q op2 object2 arg2 is_who is goes) = λ p op object arg at v who call r.
     let refused = unrecorded_reply goes in
     let eight = (as_reply h es before q op2 object2 arg2 at v turn r (Refused refused.0 20) refused.1).0 in
     absurd (cc eight)
+replies_are_right h es s before request turn (told.see q k is_who is sees) = λ p op object arg at v who call r. absurd (cc (sym is ∙ call))

@@ -4,6 +4,7 @@ use Rattle.session_wire.specs.declared.requests.Request.{Request}
 use Rattle.session_wire.specs.declared.replies.Reply.{Reply}
 use Rattle.session_wire.specs.declared.frame_reader.Framed.{Framed}
 use Rattle.session_wire.specs.declared.frame_reader.Framed.TheVariants as framed
+use Rattle.session_wire.specs.Answers.{WantsMemory}
 use Rattle.session_wire.specs.Frames.{reply_frames}
 use Rattle.session_wire.specs.Beginnings.{Spells}
 use Rattle.session_core.specs.declared.ends.SessionEnd.{SessionEnd}
@@ -48,7 +49,7 @@ pub record IsReplied (Told Now : Telling) (sent sent_now : List ℕ) (request : 
 -- what one turn comes to, by what the reader gave
 abbrev pub IsTurnOf : Framed → Telling → Telling → List ℕ → List ℕ → Option SessionEnd → Type 0
 IsTurnOf (framed.Request q) Told Now sent sent_now end = IsReplied Told Now sent sent_now q end
-IsTurnOf framed.Memory Told Now sent sent_now end = (q : Request) → IsReplied Told Now sent sent_now q end
+IsTurnOf framed.Memory Told Now sent sent_now end = (q : Request) → WantsMemory q → IsReplied Told Now sent sent_now q end
 IsTurnOf (framed.Bad fault place) Told Now sent sent_now end = TellsNoMore Told Now × IsRefused place end sent sent_now
 IsTurnOf framed.End Told Now sent sent_now end = TellsNoMore Told Now × (sent_now ≡ sent) × (end ≡ Some Closed)
 IsTurnOf framed.Torn Told Now sent sent_now end = TellsNoMore Told Now × (sent_now ≡ sent) × (end ≡ Some Torn)

@@ -6,10 +6,10 @@ pub returns-in_default-clause-turn : goal.returns-in_default-clause-turn
 returns-in_default-clause-turn g c = early_change c.args.self c.args.request.now _ (nobody_of c.args.self c.in_default.is) c.requires.no_hello c.at-at.ensures.length
 
 pub returns-in_default-event_of-clause-turn : goal.returns-in_default-event_of-clause-turn
-returns-in_default-event_of-clause-turn g c = given_up_any c.args.self _
+returns-in_default-event_of-clause-turn g c = given_up_any c.args.self _ c.requires.wants
 
 pub returns-in_default-policy_line-clause-turn : goal.returns-in_default-policy_line-clause-turn
-returns-in_default-policy_line-clause-turn g c = given_up_any c.args.self _
+returns-in_default-policy_line-clause-turn g c = given_up_any c.args.self _ c.requires.wants
 
 pub returns-clause-turn : goal.returns-clause-turn
 returns-clause-turn g c =

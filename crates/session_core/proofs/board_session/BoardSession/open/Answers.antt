@@ -12,7 +12,7 @@ returns-in_default-found-clause-turn g c =
     (found_here _ c.args.self c.args.name.now c.args.secret.now c.admit-found.result None c.requires.ready c.admit-found.ensures.number c.in_default-found.is) c.at-at.ensures.length
 
 pub returns-in_default-copy-clause-turn : goal.returns-in_default-copy-clause-turn
-returns-in_default-copy-clause-turn g c = given_up_any c.args.self _
+returns-in_default-copy-clause-turn g c = given_up_any c.args.self _ (λ k same. cc same)
 
 pub returns-clause-turn : goal.returns-clause-turn
 returns-clause-turn g c =
