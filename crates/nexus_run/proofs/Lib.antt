@@ -1,7 +1,7 @@
 pub mod Words
+mod FirstWords
 mod LoadEnds
 mod Commanded
-pub mod ClientCalls
 mod TrueRuns
 mod Running
 mod ServiceAsks

@@ -7,7 +7,6 @@ use Rattle.std.specs.Prelude.{length, option_map}
 use Rattle.policy_history.specs.Values.{History}
 use Rattle.run_streams.specs.Runs.{SourceRun, sink_run, source_run}
 use Rattle.nexus_client.specs.declared.inputs.TalkInput.{TalkInput}
-use Rattle.nexus_client.specs.declared.inputs.TalkInput.TheVariants.{RequestLines, PeerBundle}
 use Rattle.script_command.specs.Scripts.{HasMore, panel_run}
 use Rattle.script_command.proofs.ForCallers.{more_nothing}
 use Rattle.nexus_serve.specs.Hosting.{Plan}
@@ -17,27 +16,20 @@ use Rattle.service_commands.specs.Services.{EndedValue, EndsService, HandsBack, 
 use Rattle.service_commands.specs.Services as service
 use Rattle.service_commands.proofs.ForCallers.{aside_back, runs_beside, runs_client, runs_service, sink_back, sink_of}
 use Rattle.nexus_run.specs.Commanded.{RunsCommand}
-use Rattle.nexus_run.specs.Commands.{IsCommand, IsServiceCall, IsTalkCall, compact_words, core_words, drill_words, script_words, serve_words, talk_words}
-use Rattle.nexus_run.specs.Runs.{Handed, Runs, Tellers}
-use Rattle.nexus_run.proofs.ClientCalls.{handed, talk_not_plain, talk_same}
-use Rattle.nexus_run.proofs.Commanded.{memory_commanded, none_commanded, other_letter}
+use Rattle.nexus_run.specs.Commands.{IsCommand, IsServiceCall, IsWithin, command_words, core_words, drill_words, serve_words, talk_words}
+use Rattle.nexus_run.specs.Runs.{DoesCommand, Handed, Runs, Tellers}
+use Rattle.nexus_run.specs.declared.commands.Command.{Command}
+use Rattle.nexus_run.specs.declared.commands.Command.TheVariants.{Compact, Core, Drill, Script}
+use Rattle.nexus_run.proofs.Commanded.{memory_commanded, same_runs}
+use Rattle.nexus_run.proofs.FirstWords.{serve_not_plain, serve_not_talk, talk_not_plain, talk_same, told}
 use Rattle.nexus_run.proofs.Recordings.{grows_same, not_recorded}
 use Rattle.nexus_run.proofs.ServiceAsks.{service_more}
 use Rattle.nexus_run.proofs.Words.{serve_same}
 
--- the words of a service are not those of a talk
-no_talk : (input : TalkInput) (address other : List ℕ) (workers sessions : ℕ) (patience : Option ℕ) (recording : Bool) {words : List (List ℕ)} → words ≡ serve_words address workers sessions patience recording
-    → words ≡ talk_words input other → ⊥
-no_talk RequestLines a o m n p r are is = other_letter (serve_words a m n p r) (talk_words RequestLines o) are is refl
-no_talk PeerBundle a o m n p r are is = other_letter (serve_words a m n p r) (talk_words PeerBundle o) are is refl
-
--- nor are those of a talk the words of a generated load, of `script` or of `compact`
-talk_no_drill : {words : List (List ℕ)} {address : List ℕ} (input : TalkInput) (number workers calls : ℕ) → words ≡ talk_words input address → words ≡ drill_words number workers calls → ⊥
-talk_no_drill {address = a} RequestLines l m n are is = other_letter (talk_words RequestLines a) (drill_words l m n) are is refl
-talk_no_drill {address = a} PeerBundle l m n are is = other_letter (talk_words PeerBundle a) (drill_words l m n) are is refl
-
-talk_no_core : {words : List (List ℕ)} {address : List ℕ} (input : TalkInput) (number steps : ℕ) → words ≡ talk_words input address → words ≡ core_words number steps → ⊥
-talk_no_core input number steps are is = cc (sym are ∙ is)
+-- what holds of what is handed back
+pub handed : {K : Type 0} {P Q : K → Type 0} (output : Option K) → ((k : K) → P k → Q k) → HandsBack output P → HandsBack output Q
+handed None f p = p
+handed (Some k) f p = f k p
 
 module _ {S K C D L P : Type 0} (t : Tellers S K C D L P) (words : List (List ℕ)) (before : Handed S K C D P) (input_now : S) where
   abbrev read : SourceRun
@@ -62,8 +54,8 @@ module _ {S K C D L P : Type 0} (t : Tellers S K C D L P) (words : List (List �
         let told = ended_view t.output t.records t.recorder t.door t.link ended in
         record {
           command = record {
-            plain = λ other. absurd (other is_service);
-            talk = λ talk other words_too is. absurd (no_talk talk address other workers sessions patience recording words_are words_too);
+            plain = λ other words_too is. absurd (serve_not_plain address workers sessions patience recording other (sym words_are ∙ words_too));
+            talk = λ talk other words_too is. absurd (serve_not_talk address workers sessions patience recording talk other (sym words_are ∙ words_too));
             serve = λ a m n p r words_too is.
                 let same = serve_same a m n p r address workers sessions patience recording is within (sym words_too ∙ words_are) in
                 rw (same.0, same.1, same.2, same.3, same.4) (runs_beside view recording before.records ended.records told refl ends);
@@ -75,8 +67,8 @@ module _ {S K C D L P : Type 0} (t : Tellers S K C D L P) (words : List (List �
             asked = service_more ends;
           };
           alone = record {
-            by_core = λ n m is. absurd (other_letter (serve_words address workers sessions patience recording) (core_words n m) words_are is refl);
-            by_drill = λ l m n is. absurd (other_letter (serve_words address workers sessions patience recording) (drill_words l m n) words_are is refl);
+            by_core = λ n m is. absurd (serve_not_plain address workers sessions patience recording (Core n m) (sym words_are ∙ is));
+            by_drill = λ l m n is. absurd (serve_not_plain address workers sessions patience recording (Drill l m n) (sym words_are ∙ is));
             unwritten = λ other. absurd (other is_service);
             unrecorded = λ other unrecorded. aside_back view recording before.records ended.records told refl ends (not_recorded recording within words_are unrecorded);
             door = λ other. absurd (other is_service);
@@ -97,11 +89,9 @@ module _ {S K C D L P : Type 0} (t : Tellers S K C D L P) (words : List (List �
       → Runs t words before input_now ended
   talk_runs input address is words_are ended gave sent untouched undialed ends unused = record {
     command = record {
-      plain = λ other. subst (λ (o : Option C). HandsBack ended.output (λ k. HandsBack o (λ r. RunsCommand words read (sink_run t.output before.output k) (sink_run t.records before.records r)
-          (t.output.synced k ≡ length (t.output.sent k)) (panel_run (t.panel before.panel) (t.panel ended.panel)) ended.journal ended.status))) (sym unused.5)
-          (handed ended.output (λ k ended. none_commanded (talk_not_plain input words_are)) ends);
+      plain = λ other words_too is_too. absurd (talk_not_plain input address other (sym words_are ∙ words_too));
       talk = λ talk other words_too is_too. (let same = talk_same talk input (sym words_too ∙ words_are) in rw (same.0, same.1) (handed ended.output (λ k ends. runs_client ends) ends));
-      serve = λ a m n p r words_too is_too. absurd (no_talk input a address m n p r words_too words_are);
+      serve = λ a m n p r words_too is_too. absurd (serve_not_talk a m n p r input address (sym words_too ∙ words_are));
     };
     grows = record {
       gave = gave;
@@ -110,8 +100,8 @@ module _ {S K C D L P : Type 0} (t : Tellers S K C D L P) (words : List (List �
       asked = more_nothing (ap t.panel unused.3);
     };
     alone = record {
-      by_core = λ n m words_too. absurd (talk_no_core input n m words_are words_too);
-      by_drill = λ l m n words_too. absurd (talk_no_drill input l m n words_are words_too);
+      by_core = λ n m words_too. absurd (talk_not_plain input address (Core n m) (sym words_are ∙ words_too));
+      by_drill = λ l m n words_too. absurd (talk_not_plain input address (Drill l m n) (sym words_are ∙ words_too));
       unwritten = λ other. untouched;
       unrecorded = λ other unrecorded. subst (λ (o : Option C). HandsBack o (λ r. r ≡ before.records)) (sym unused.5) refl;
       door = λ other quiet. absurd (quiet (input, address, is, words_are));
@@ -122,7 +112,7 @@ module _ {S K C D L P : Type 0} (t : Tellers S K C D L P) (words : List (List �
     };
   }
 
-  -- ---- Neither
+  -- ---- Another command
 
   -- what is handed back where nobody was dialed and nobody served
   abbrev pub handed_back : ℕ → K → C → Option History → P → EndedValue K C D L P
@@ -139,27 +129,34 @@ module _ {S K C D L P : Type 0} (t : Tellers S K C D L P) (words : List (List �
     means = [];
   }
 
-  module _ (no_service : ¬ IsServiceCall words) (quiet : ¬ IsTalkCall words) (status : ℕ) (output : K) (records : C) (journal : Option History) (panel : P) where
+  module _ (command : Command) (within : IsWithin command) (words_are : words ≡ command_words command) (status : ℕ) (output : K) (records : C) (journal : Option History) (panel : P) where
+    -- the words of a load are those of no other command
+    is_core : (number steps : ℕ) → words ≡ core_words number steps → (m : ℕ) × (n : ℕ) × (command ≡ Core m n)
+    is_core number steps are = told (core_words number steps) command (sym are ∙ words_are)
+
+    is_drill : (number workers calls : ℕ) → words ≡ drill_words number workers calls → (l : ℕ) × (m : ℕ) × (n : ℕ) × (command ≡ Drill l m n)
+    is_drill number workers calls are = told (drill_words number workers calls) command (sym are ∙ words_are)
+
     pub plain_runs : HasGiven t.source before.input input_now → Grows (t.output.sent before.output) (t.output.sent output) → Grows (t.records.sent before.records) (t.records.sent records)
-        → (words ≢ compact_words → records ≡ before.records) → HasMore (t.panel before.panel) (t.panel panel) → ((status ≡ 4) ⊎ (status ≡ 6) → output ≡ before.output)
-        → RunsCommand words read (sink_run t.output before.output output) (sink_run t.records before.records records) (t.output.synced output ≡ length (t.output.sent output)) (panel_run (t.panel before.panel) (t.panel panel)) journal status
-        → ((number steps : ℕ) → words ≡ core_words number steps → input_now ≡ before.input) → ((number workers calls : ℕ) → words ≡ drill_words number workers calls → input_now ≡ before.input)
-        → (words ≢ script_words → (panel ≡ before.panel) × (journal ≡ None)) → Runs t words before input_now (handed_back status output records journal panel)
-    plain_runs gave sent recorded unrecorded asked untouched command by_core by_drill other_panel = record {
+        → (command ≢ Compact → records ≡ before.records) → HasMore (t.panel before.panel) (t.panel panel) → ((status ≡ 4) ⊎ (status ≡ 6) → output ≡ before.output)
+        → RunsCommand command read (sink_run t.output before.output output) (sink_run t.records before.records records) (t.output.synced output ≡ length (t.output.sent output)) (panel_run (t.panel before.panel) (t.panel panel)) journal status
+        → ((number steps : ℕ) → command ≡ Core number steps → input_now ≡ before.input) → ((number workers calls : ℕ) → command ≡ Drill number workers calls → input_now ≡ before.input)
+        → (command ≢ Script → (panel ≡ before.panel) × (journal ≡ None)) → Runs t words before input_now (handed_back status output records journal panel)
+    plain_runs gave sent recorded unrecorded asked untouched runs core_unread drill_unread other_panel = record {
       command = record {
-        plain = λ other. command;
-        talk = λ talk address words_are is. absurd (quiet (talk, address, is, words_are));
-        serve = λ a m n p r words_are is. absurd (no_service (a, m, n, p, r, is, words_are));
+        plain = λ other are is. same_runs _ _ _ _ _ _ _ command other within is (sym words_are ∙ are) runs;
+        talk = λ talk address are is. absurd (talk_not_plain talk address command (sym are ∙ words_are));
+        serve = λ a m n p r are is. absurd (serve_not_plain a m n p r command (sym are ∙ words_are));
       };
       grows = record { gave = gave; sent = λ other. sent; recorded = recorded; asked = asked };
       alone = record {
-        by_core = by_core;
-        by_drill = by_drill;
+        by_core = λ n m are. (let is = is_core n m are in core_unread is.0 is.1 is.2);
+        by_drill = λ l m n are. (let is = is_drill l m n are in drill_unread is.0 is.1 is.2 is.3);
         unwritten = λ other none. untouched;
-        unrecorded = λ other plain. unrecorded other;
+        unrecorded = λ other plain. unrecorded (λ is. other (words_are ∙ ap command_words is));
         door = λ other quiet. refl;
         undialed = λ other none status. refl;
-        panel = λ other_words other. other_panel other_words;
+        panel = λ other_words other. other_panel (λ is. other_words (words_are ∙ ap command_words is));
         dialed = λ quiet. refl;
         workers = λ other. (refl, refl, refl);
       };
@@ -167,22 +164,13 @@ module _ {S K C D L P : Type 0} (t : Tellers S K C D L P) (words : List (List �
 
 -- ---- Where nothing was done
 
--- a call of no command, which is read no further
 module _ {S K C D L P : Type 0} (t : Tellers S K C D L P) (words : List (List ℕ)) (before : Handed S K C D P) where
-  pub none_runs : (status : ℕ) → ¬ IsCommand words → Runs t words before before.input (handed_back t words before before.input status before.output before.records None before.panel)
-  none_runs status none =
-      plain_runs t words before before.input (λ call. none (inr (inl call))) (λ call. none (inr (inr call))) status before.output before.records None before.panel
-      (gave-nothing (t.source.left before.input) (t.source.given before.input)) (grows-nothing (t.output.sent before.output)) (grows-nothing (t.records.sent before.records)) (λ other. refl) (more_nothing refl) (λ failed. refl)
-      (none_commanded (λ plain. none (inl plain))) (λ n m is. refl) (λ l m n is. refl) (λ other. (refl, refl))
+  abbrev all_back : ℕ → EndedValue K C D L P
+  all_back status = handed_back t words before before.input status before.output before.records None before.panel
 
-  -- one that found no memory, whatever its words
-  pub no_memory_runs : Runs t words before before.input (handed_back t words before before.input 6 before.output before.records None before.panel)
-  no_memory_runs = record {
-    command = record {
-      plain = λ other. memory_commanded refl refl (gained-nothing (t.output.sent before.output)) refl refl (gained-nothing (t.records.sent before.records)) refl;
-      talk = λ talk address is address_is. runs_client (talks.no_memory refl refl refl (gained-nothing (t.output.sent before.output)) refl refl);
-      serve = λ a m n p r is within. runs_service t.panel _ _ _ _ _ _ _ (service.no_memory refl (unbegun r) refl refl);
-    };
+  idle : (status : ℕ) → DoesCommand t words before before.input (all_back status) → Runs t words before before.input (all_back status)
+  idle status command = record {
+    command = command;
     grows = record {
       gave = gave-nothing (t.source.left before.input) (t.source.given before.input);
       sent = λ other. grows-nothing (t.output.sent before.output);
@@ -201,7 +189,23 @@ module _ {S K C D L P : Type 0} (t : Tellers S K C D L P) (words : List (List �
       workers = λ other. (refl, refl, refl);
     };
   }
+
+  -- a call of no command, which is read no further
+  pub none_runs : (status : ℕ) → ¬ IsCommand words → Runs t words before before.input (all_back status)
+  none_runs status none = idle status (record {
+    plain = λ command are is. absurd (none (inl (command, is, are)));
+    talk = λ talk address are is. absurd (none (inr (inr (talk, address, is, are))));
+    serve = λ a m n p r are is. absurd (none (inr (inl (a, m, n, p, r, is, are))));
+  })
+
+  -- one that found no memory, whatever its words
+  pub no_memory_runs : Runs t words before before.input (all_back 6)
+  no_memory_runs = idle 6 (record {
+    plain = λ command are is. memory_commanded _ _ _ _ _ _ refl refl (gained-nothing (t.output.sent before.output)) refl refl (gained-nothing (t.records.sent before.records)) refl command;
+    talk = λ talk address is address_is. runs_client (talks.no_memory refl refl refl (gained-nothing (t.output.sent before.output)) refl refl);
+    serve = λ a m n p r is within. runs_service t.panel _ _ _ _ _ _ _ (service.no_memory refl (unbegun r) refl refl);
+  })
     where
       unbegun : (recorded : Bool) → IsUnbegun (door_view t.door t.link before.door) before.panel (only_where recorded (Some (recorder_view t.records t.recorder before.records)))
-          (record (ended_view t.output t.records t.recorder t.door t.link (handed_back t words before before.input 6 before.output before.records None before.panel)) { recorder = only_where recorded (Some (recorder_view t.records t.recorder before.records)) })
+          (record (ended_view t.output t.records t.recorder t.door t.link (all_back 6)) { recorder = only_where recorded (Some (recorder_view t.records t.recorder before.records)) })
       unbegun recorded = record { journal = refl; reports = refl; door_is = refl; doors = refl; panel_is = refl; recorder_is = refl; means = refl }

@@ -14,13 +14,13 @@ use Rattle.std.proofs.lemmas.Str.Ascii.{IsAscii-from_all}
 use Rattle.std.specs.Prelude.{nat_le, ◌&&◌, ◌≤◌, None, Some}
 use Rattle.std.specs.declared.option.Option.{Option}
 use Rattle.nal_term.specs.Secrets.{is_secret_byte}
-use Rattle.nexus_run.specs.Commands.{IsCommand, IsDrill, IsLoad, IsWithin, audit_words, check_words, command_words, compact_words, core_words, drill_words, explain_words, export_words, patience_words, prove_words, records_words, recover_words, script_words, serve_words, talk_word, talk_words, trust_words}
+use Rattle.nexus_run.specs.Commands.{IsCommand, IsDrill, IsLoad, IsPlain, IsTalkCall, IsWithin, audit_words, check_words, command_words, compact_words, core_words, drill_words, explain_words, export_words, patience_words, prove_words, records_words, recover_words, script_words, serve_words, talk_word, talk_words, trust_words}
 use Rattle.nal_term.specs.Names.{IsName, is_letter, is_word, is_word_byte}
 use Rattle.nexus_client.specs.declared.inputs.TalkInput.{TalkInput}
 use Rattle.nexus_client.specs.declared.inputs.TalkInput.TheVariants.{RequestLines, PeerBundle}
 use Rattle.service_commands.specs.Services.{IsAddress, IsPatience, IsService, patience_in}
 use Rattle.nexus_run.specs.declared.commands.Command.{Command}
-use Rattle.nexus_run.specs.declared.commands.Command.TheVariants.{Check, Script, Core, Trust, Prove, Audit, Explain, Recover, Compact, Drill}
+use Rattle.nexus_run.specs.declared.commands.Command.TheVariants.{Check, Script, Trust, Prove, Audit, Explain, Recover, Compact, Export, Core, Drill}
 
 -- one text more
 pub next_text : {T W : Type 0} (f : T → List ℕ) (g : W → List ℕ) (ts us : List T) (ws : List W) (t : T) (w : W) (k : ℕ) → map f ts ≡ take k (map g ws)
@@ -298,18 +298,6 @@ not_all_texts g ws w k room at n all =
     let item : get_or (map g ws) k (g w) ≡ g w = get_or-map g ws k w (g w) room ∙ ap g (sym at) in
     n (subst IsUtf8 item (All-get_or IsUtf8 (map g ws) k (g w) within all))
 
-plain_is_text : (command : Command) → IsWithin command → All IsUtf8 (command_words command)
-plain_is_text Check within = check_words_are_texts
-plain_is_text Script within = script_words_are_texts
-plain_is_text Trust within = trust_words_are_texts
-plain_is_text Prove within = prove_words_are_texts
-plain_is_text Audit within = audit_words_are_texts
-plain_is_text Explain within = explain_words_are_texts
-plain_is_text Recover within = recover_words_are_texts
-plain_is_text Compact within = compact_words_are_texts
-plain_is_text (Drill number workers calls) within = drill_words_are_texts number workers calls within
-plain_is_text (Core number steps) within = core_words_are_texts number steps within
-
 talk_is_text : (input : TalkInput) → IsUtf8 (talk_word input)
 unfolding lib.Utf8.encode
 talk_is_text RequestLines = (codes "client", (refl, refl))
@@ -327,12 +315,32 @@ export_words_are_texts : (name : List ℕ) → IsName name → All IsUtf8 (expor
 export_words_are_texts name is =
     All-cons IsUtf8 (codes "export") (name ∷ []) export_is_text (All-cons IsUtf8 name [] (name_is_text name is) (All-nil IsUtf8))
 
+plain_is_text : (command : Command) → IsWithin command → All IsUtf8 (command_words command)
+plain_is_text Check within = check_words_are_texts
+plain_is_text Script within = script_words_are_texts
+plain_is_text Trust within = trust_words_are_texts
+plain_is_text Prove within = prove_words_are_texts
+plain_is_text Audit within = audit_words_are_texts
+plain_is_text Explain within = explain_words_are_texts
+plain_is_text Recover within = recover_words_are_texts
+plain_is_text Compact within = compact_words_are_texts
+plain_is_text (Export name) within = export_words_are_texts name.now within
+plain_is_text (Drill number workers calls) within = drill_words_are_texts number workers calls within
+plain_is_text (Core number steps) within = core_words_are_texts number steps within
+
 -- words that are not all texts are not those of a command
 pub not_command : (words : List (List ℕ)) → (All IsUtf8 words → ⊥) → IsCommand words → ⊥
-not_command words n (inl (inl (command, within, e))) = n (rw e (plain_is_text command within))
-not_command words n (inl (inr (name, is, e))) = n (rw e (export_words_are_texts name is))
+not_command words n (inl (command, within, e)) = n (rw e (plain_is_text command within))
 not_command words n (inr (inl (address, workers, sessions, patience, records, within, e))) = n (rw e (serve_words_are_texts address workers sessions patience records within))
 not_command words n (inr (inr (input, address, is, e))) = n (rw e (talk_words_are_texts input address is))
+
+-- words that are those of no service, of no talk and of no other command are those of no command
+pub no_command : {words : List (List ℕ)}
+    → ((address : List ℕ) (workers sessions : ℕ) (patience : Option ℕ) (records : Bool) → IsService address workers sessions patience → words ≡ serve_words address workers sessions patience records → ⊥)
+    → (IsTalkCall words → ⊥) → (IsPlain words → ⊥) → IsCommand words → ⊥
+no_command service talk plain (inl is) = plain is
+no_command service talk plain (inr (inl (address, workers, sessions, patience, records, within, e))) = service address workers sessions patience records within e
+no_command service talk plain (inr (inr is)) = talk is
 
 -- one word is the list of its texts
 pub one_word : {A : Type 0} (f : A → List ℕ) (due : List ℕ) (ws rest : List A) (w : A) (b : Bool) → ws ≡ w ∷ rest → (length rest == 0) ≡ true

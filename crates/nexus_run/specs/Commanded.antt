@@ -1,9 +1,9 @@
 -- How a run of a command ends that is neither a service nor a talk.
-use Rattle.std.specs.Prelude.{◌≡◌, ℕ, List, Option}
-use Rattle.nal_term.specs.Names.{IsName}
+use Rattle.std.specs.Prelude.{ℕ, Option}
 use Rattle.policy_history.specs.Values.{History}
 use Rattle.run_streams.specs.Runs.{SinkRun, SourceRun}
-use Rattle.nexus_run.specs.Commands.{IsDrill, IsLoad, audit_words, check_words, compact_words, core_words, drill_words, explain_words, export_words, prove_words, recover_words, script_words, trust_words}
+use Rattle.nexus_run.specs.declared.commands.Command.{Command}
+use Rattle.nexus_run.specs.declared.commands.Command.TheVariants.{Check, Script, Trust, Prove, Audit, Explain, Recover, Compact, Export, Core, Drill}
 use Rattle.nexus_run.specs.Lasting.{EndsLasting}
 use Rattle.nexus_run.specs.LoadRuns.{RunsCore, RunsDrill}
 use Rattle.answer_commands.specs.Audits.{RunsAudit}
@@ -23,16 +23,16 @@ pub record RunsLasting (runs : SinkRun → ℕ → Type 0) (sink : SinkRun) (syn
   pub runs_so : runs (record sink { faults_now = faults }) written
   pub ends : EndsLasting synced written status faults sink.faults_now
 
--- what a run with these words is, for each command
-pub record RunsCommand (words : List (List ℕ)) (source : SourceRun) (sink records : SinkRun) (synced : Type 0) (panel : PanelRun) (journal : Option History) (status : ℕ) : Type 0 where
-  pub check : words ≡ check_words → RunsCheck source sink status
-  pub script : words ≡ script_words → RunsLasting (λ sink status. RunsScript source sink panel journal status) sink synced status
-  pub trust : words ≡ trust_words → RunsTrust source sink status
-  pub prove : words ≡ prove_words → RunsProve source sink status
-  pub audit : words ≡ audit_words → RunsAudit source sink status
-  pub explain : words ≡ explain_words → RunsExplain source sink status
-  pub recover : words ≡ recover_words → RunsLasting (RunsRecover source) sink synced status
-  pub compact : words ≡ compact_words → RunsLasting (λ sink status. RunsCompact source sink records status) sink synced status
-  pub export : (name : List ℕ) → words ≡ export_words name → IsName name → RunsExport name source sink status
-  pub core : (number steps : ℕ) → words ≡ core_words number steps → IsLoad number steps → RunsCore number steps sink status
-  pub drill : (number workers calls : ℕ) → words ≡ drill_words number workers calls → IsDrill number workers calls → RunsDrill number workers calls sink status
+-- what a run of the command is
+abbrev pub RunsCommand : Command → SourceRun → SinkRun → SinkRun → Type 0 → PanelRun → Option History → ℕ → Type 0
+RunsCommand Check source sink records synced panel journal status = RunsCheck source sink status
+RunsCommand Script source sink records synced panel journal status = RunsLasting (λ sink status. RunsScript source sink panel journal status) sink synced status
+RunsCommand Trust source sink records synced panel journal status = RunsTrust source sink status
+RunsCommand Prove source sink records synced panel journal status = RunsProve source sink status
+RunsCommand Audit source sink records synced panel journal status = RunsAudit source sink status
+RunsCommand Explain source sink records synced panel journal status = RunsExplain source sink status
+RunsCommand Recover source sink records synced panel journal status = RunsLasting (RunsRecover source) sink synced status
+RunsCommand Compact source sink records synced panel journal status = RunsLasting (λ sink status. RunsCompact source sink records status) sink synced status
+RunsCommand (Export name) source sink records synced panel journal status = RunsExport name.now source sink status
+RunsCommand (Core number steps) source sink records synced panel journal status = RunsCore number steps sink status
+RunsCommand (Drill number workers calls) source sink records synced panel journal status = RunsDrill number workers calls sink status

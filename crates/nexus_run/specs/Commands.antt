@@ -6,8 +6,10 @@ use Rattle.nal_term.specs.Names.{IsName}
 use Rattle.nexus_client.specs.declared.inputs.TalkInput.{TalkInput}
 use Rattle.nexus_client.specs.declared.inputs.TalkInput.TheVariants.{RequestLines, PeerBundle}
 use Rattle.service_commands.specs.Services.{IsAddress, IsService}
+use Rattle.nexus_run.specs.declared.commands.Call.{Call}
+use Rattle.nexus_run.specs.declared.commands.Call.TheVariants.{Serve, Talk, Plain}
 use Rattle.nexus_run.specs.declared.commands.Command.{Command}
-use Rattle.nexus_run.specs.declared.commands.Command.TheVariants.{Check, Script, Core, Trust, Prove, Audit, Explain, Recover, Compact, Drill}
+use Rattle.nexus_run.specs.declared.commands.Command.TheVariants.{Check, Script, Trust, Prove, Audit, Explain, Recover, Compact, Export, Core, Drill}
 
 abbrev pub check_words : List (List ℕ)
 check_words = codes "check" ∷ []
@@ -33,6 +35,10 @@ recover_words = codes "recover" ∷ []
 abbrev pub compact_words : List (List ℕ)
 compact_words = codes "compact" ∷ []
 
+-- whose labels are exported
+abbrev pub export_words : List ℕ → List (List ℕ)
+export_words name = codes "export" ∷ name ∷ []
+
 -- a number from which a load is drawn, and how many steps it has
 abbrev pub core_words : ℕ → ℕ → List (List ℕ)
 core_words number steps = codes "core" ∷ decimal number ∷ decimal steps ∷ []
@@ -56,7 +62,7 @@ pub record IsDrill (number workers calls : ℕ) : Type 0 where
   pub workers_are : (1 ≤ workers) × (workers ≤ 64)
   pub calls_are : (1 ≤ calls) × (calls ≤ 4000)
 
--- the words of a command
+-- the words of a command that is neither a service nor a talk
 abbrev pub command_words : Command → List (List ℕ)
 command_words Check = check_words
 command_words Script = script_words
@@ -66,30 +72,20 @@ command_words Audit = audit_words
 command_words Explain = explain_words
 command_words Recover = recover_words
 command_words Compact = compact_words
+command_words (Export name) = export_words name.now
 command_words (Core number steps) = core_words number steps
 command_words (Drill number workers calls) = drill_words number workers calls
 
--- the numbers of a command, if it has some, are within their bounds
+-- its name or its numbers, if it has some, are within their bounds
 abbrev pub IsWithin : Command → Type 0
+IsWithin (Export name) = IsName name.now
 IsWithin (Core number steps) = IsLoad number steps
 IsWithin (Drill number workers calls) = IsDrill number workers calls
 IsWithin _ = Unit {0}
 
--- the words are those of a command that they name alone, or with numbers
-abbrev pub IsNamed : List (List ℕ) → Type 0
-IsNamed words = (command : Command) × IsWithin command × (words ≡ command_words command)
-
--- whose labels are exported
-abbrev pub export_words : List ℕ → List (List ℕ)
-export_words name = codes "export" ∷ name ∷ []
-
--- the words are those of an export
-abbrev pub IsExportCall : List (List ℕ) → Type 0
-IsExportCall words = (name : List ℕ) × IsName name × (words ≡ export_words name)
-
--- the words are those of a command, but not of a service or a talk
+-- the words are those of a command that is neither a service nor a talk
 abbrev pub IsPlain : List (List ℕ) → Type 0
-IsPlain words = IsNamed words ⊎ IsExportCall words
+IsPlain words = (command : Command) × IsWithin command × (words ≡ command_words command)
 
 -- for how many seconds a service waits for a peer that is admitted, where that is said
 abbrev pub patience_words : Option ℕ → List (List ℕ)
@@ -133,3 +129,10 @@ IsTalkCall words = (input : TalkInput) × (address : List ℕ) × IsAddress addr
 -- the words are those of a command
 abbrev pub IsCommand : List (List ℕ) → Type 0
 IsCommand words = IsPlain words ⊎ IsServiceCall words ⊎ IsTalkCall words
+
+-- the words are those of the call, and its parts are within their bounds
+abbrev pub IsCalledBy : Call → List (List ℕ) → Type 0
+IsCalledBy (Serve s) words =
+    IsService s.address.now s.workers s.sessions s.patience × (words ≡ serve_words s.address.now s.workers s.sessions s.patience s.records)
+IsCalledBy (Talk t) words = IsAddress t.address.now × (words ≡ talk_words t.input t.address.now)
+IsCalledBy (Plain command) words = IsWithin command × (words ≡ command_words command)

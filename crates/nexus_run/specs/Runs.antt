@@ -13,8 +13,9 @@ use Rattle.nexus_client.specs.declared.inputs.TalkInput.{TalkInput}
 use Rattle.script_command.specs.Scripts.{HasMore, panel_run}
 use Rattle.service_commands.specs.Clients.{RunsClient}
 use Rattle.service_commands.specs.Services.{EndedValue, HandsBack, IsAddress, IsService, RunsService, ended_view, only_where, patience_in}
+use Rattle.nexus_run.specs.declared.commands.Command.{Command}
 use Rattle.nexus_run.specs.Commanded.{RunsCommand}
-use Rattle.nexus_run.specs.Commands.{IsRecordedCall, IsServiceCall, IsTalkCall, compact_words, core_words, drill_words, script_words, serve_words, talk_words}
+use Rattle.nexus_run.specs.Commands.{IsRecordedCall, IsServiceCall, IsTalkCall, IsWithin, command_words, compact_words, core_words, drill_words, script_words, serve_words, talk_words}
 
 -- the ghost members by which the objects that a run is handed tell what they did
 pub record Tellers (S K C D L P : Type 0) : Type 1 where
@@ -49,8 +50,9 @@ pub record Handed (S K C D P : Type 0) : Type 0 where
 -- What the command of these words does, over what it was handed: one that is neither a service nor a talk, a talk, or a service. `input_now` is the
 -- source behind the run, and `after` what is handed back
 pub record DoesCommand {S K C D L P : Type 0} (t : Tellers S K C D L P) (words : List (List ℕ)) (before : Handed S K C D P) (input_now : S) (after : EndedValue K C D L P) : Type 0 where
-  pub plain : ¬ IsServiceCall words → HandsBack after.output (λ k. HandsBack after.records (λ r.
-      RunsCommand words (source_run t.source before.input input_now) (sink_run t.output before.output k) (sink_run t.records before.records r)
+  pub plain : (command : Command) → words ≡ command_words command → IsWithin command
+      → HandsBack after.output (λ k. HandsBack after.records (λ r. RunsCommand command (source_run t.source before.input input_now)
+      (sink_run t.output before.output k) (sink_run t.records before.records r)
       (t.output.synced k ≡ length (t.output.sent k)) (panel_run (t.panel before.panel) (t.panel after.panel)) after.journal after.status))
   pub talk : (talk : TalkInput) (address : List ℕ) → words ≡ talk_words talk address → IsAddress address
       → HandsBack after.output (λ k. RunsClient talk address (source_run t.source before.input input_now) (sink_run t.output before.output k)

@@ -2,7 +2,7 @@
 ghost use Rattle.std.specs.Prelude.{◌≡◌, ◌≢◌, ◌↔◌, ◌<◌, ◌≤◌, ◌^◌, ◌∷◌, ◌++◌, [], ℕ, Bool, List, IsTrue, MatchOption, Option, false, map, true};
 ghost use Rattle.nal_term.specs.Names.{IsName};
 ghost use Rattle.nexus_client.specs.declared.inputs.TalkInput.{TalkInput};
-ghost use Rattle.nexus_run.specs.Commands.{IsDrill, IsExportCall, IsLoad, IsNamed, IsTalkCall, IsWithin, command_words, core_words, drill_words, export_words, most_steps, patience_words, records_words, serve_words, talk_word, talk_words};
+ghost use Rattle.nexus_run.specs.Commands.{IsCalledBy, IsCommand, IsDrill, IsLoad, IsPlain, IsTalkCall, IsWithin, command_words, core_words, drill_words, export_words, most_steps, patience_words, records_words, serve_words, talk_word, talk_words};
 ghost use Rattle.service_commands.specs.Services.{IsAddress, IsPatience, IsService, patience_in};
 
 use nal_term::{is_name, is_secret};
@@ -28,9 +28,9 @@ const MOST_CALLS: u64 = 4000;
 /// How many sessions a worker serves at most.
 const MOST_SESSIONS: u64 = 65_536;
 
-/// What the program can be asked to do by one word, or by one and numbers.
+/// What the program can be asked to do, beside a service and a talk.
 #[derive(Clone, Copy, Debug, PartialEq, Eq)]
-pub enum Command {
+pub enum Command<'a> {
     /// Checks one proof.
     Check,
     /// Answers the requests of a script.
@@ -47,6 +47,10 @@ pub enum Command {
     Recover,
     /// Makes a policy of the entries that still matter.
     Compact,
+    /// Prints the bundle of the labels that a principal holds.
+    Export {
+        name: &'a [u8],
+    },
     /// Takes so many steps of a load that is drawn from a number.
     Core {
         number: u64,
@@ -60,9 +64,35 @@ pub enum Command {
     },
 }
 
+/// What the program is called for.
+#[derive(Clone, Copy)]
+pub enum Call<'a> {
+    /// Serves the sessions of workers.
+    Serve(Service<'a>),
+    /// Talks to a service.
+    Talk(TalkCall<'a>),
+    /// Runs any other command.
+    Plain(Command<'a>),
+}
+
+/// What the program is called for by these words. None exactly where they are those of no command. `docs/FORMATS.md`, "Commands",
+/// states them.
+pub fn call_of<'a>(words: &'a [&'a str]) -> Option<Call<'a>>
+    ensures { MatchOption result
+        (¬ IsCommand (map (λ w. w.now) words.now))
+        (λ call. IsCalledBy call (map (λ w. w.now) words.now)) }
+{
+    if let Some(service) = service_of(words) {
+        return Some(Call::Serve(service));
+    }
+    if let Some(talk) = talk_of(words) {
+        return Some(Call::Talk(talk));
+    }
+    Some(Call::Plain(command_of(words)?))
+}
+
 /// The service that is called by these words. None exactly where they are those of none.
-/// `docs/FORMATS.md`, "Commands", states them.
-pub fn service_of<'a>(words: &'a [&'a str]) -> Option<Service<'a>>
+fn service_of<'a>(words: &'a [&'a str]) -> Option<Service<'a>>
     ensures { MatchOption result ((address : List ℕ) (workers sessions : ℕ) (patience : Option ℕ) (records : Bool)
         → IsService address workers sessions patience → map (λ w. w.now) words.now ≢ serve_words address workers
         sessions patience records)
@@ -143,8 +173,8 @@ fn is_patience(seconds: u64) -> bool
     (1..=MOST_PATIENCE).contains(&seconds)
 }
 
-/// The talk that is called by these words. None exactly where they are those of none. `docs/FORMATS.md`, "Commands", states them.
-pub fn talk_of<'a>(words: &'a [&'a str]) -> Option<TalkCall<'a>>
+/// The talk that is called by these words. None exactly where they are those of none.
+fn talk_of<'a>(words: &'a [&'a str]) -> Option<TalkCall<'a>>
     ensures { MatchOption result (¬ IsTalkCall (map (λ w. w.now) words.now))
         (λ call. IsAddress call.address.now × (map (λ w. w.now) words.now ≡ talk_words call.input call.address.now)) }
 {
@@ -167,21 +197,6 @@ fn talk_input(word: &str) -> Option<TalkInput>
         Some(TalkInput::RequestLines)
     } else if is_same(word, "import") {
         Some(TalkInput::PeerBundle)
-    } else {
-        None
-    }
-}
-
-/// The name of the principal whose labels are exported, by these words. None exactly where they are not those of an export.
-/// `docs/FORMATS.md`, "Commands", states them.
-pub fn export_of<'a>(words: &'a [&'a str]) -> Option<&'a [u8]>
-    ensures { MatchOption result (¬ IsExportCall (map (λ w. w.now) words.now))
-        (λ name. IsName name.now × (map (λ w. w.now) words.now ≡ export_words name.now)) }
-{
-    let (word, name) = two(words)?;
-    let name = name.as_bytes();
-    if is_same(word, "export") && is_name(name) {
-        Some(name)
     } else {
         None
     }
@@ -219,11 +234,12 @@ fn is_address(word: &[u8]) -> bool
     is_secret(word) && word != b"help".as_slice() && word.first() != Some(&b'-')
 }
 
-/// The command that these words name alone, or with numbers. None exactly where they name none.
-/// `docs/FORMATS.md`, "Commands", lists them.
-pub fn command_of(words: &[&str]) -> Option<Command>
-    ensures { MatchOption result (¬ IsNamed (map (λ w. w.now) words.now)) (λ command. IsWithin command
-        × (map (λ w. w.now) words.now ≡ command_words command)) }
+/// The command that is called by these words, where they are those of neither a service nor a talk. None exactly where they are those of
+/// none.
+fn command_of<'a>(words: &'a [&'a str]) -> Option<Command<'a>>
+    ensures { MatchOption result
+        (¬ IsPlain (map (λ w. w.now) words.now))
+        (λ command. IsWithin command × (map (λ w. w.now) words.now ≡ command_words command)) }
 {
     if is_word(words, "check") {
         Some(Command::Check)
@@ -242,12 +258,41 @@ pub fn command_of(words: &[&str]) -> Option<Command>
     } else if is_word(words, "compact") {
         Some(Command::Compact)
     } else {
-        load_of(words)
+        further_of(words)
+    }
+}
+
+/// The command that is called by these words, if they are those of `export`, `core` or `drill`.
+fn further_of<'a>(words: &'a [&'a str]) -> Option<Command<'a>>
+    ensures { MatchOption result
+        (((name : List ℕ) → IsName name → map (λ w. w.now) words.now ≢ export_words name)
+        × ((number steps : ℕ) → IsLoad number steps → map (λ w. w.now) words.now ≢ core_words number steps)
+        × ((number workers calls : ℕ) → IsDrill number workers calls
+        → map (λ w. w.now) words.now ≢ drill_words number workers calls))
+        (λ command. IsWithin command × (map (λ w. w.now) words.now ≡ command_words command)) }
+{
+    match export_of(words) {
+        Some(name) => Some(Command::Export { name }),
+        None => load_of(words),
+    }
+}
+
+/// The name of the principal whose labels are exported, by these words. None exactly where they are not those of an export.
+fn export_of<'a>(words: &'a [&'a str]) -> Option<&'a [u8]>
+    ensures { MatchOption result ((name : List ℕ) → IsName name → map (λ w. w.now) words.now ≢ export_words name)
+        (λ name. IsName name.now × (map (λ w. w.now) words.now ≡ export_words name.now)) }
+{
+    let (word, name) = two(words)?;
+    let name = name.as_bytes();
+    if is_same(word, "export") && is_name(name) {
+        Some(name)
+    } else {
+        None
     }
 }
 
 /// The load that is called by these words, if they are those of `core` or `drill`.
-fn load_of(words: &[&str]) -> Option<Command>
+fn load_of<'a>(words: &[&str]) -> Option<Command<'a>>
     ensures { MatchOption result
         (((number steps : ℕ) → IsLoad number steps → map (λ w. w.now) words.now ≢ core_words number steps)
         × ((number workers calls : ℕ) → IsDrill number workers calls
@@ -261,7 +306,7 @@ fn load_of(words: &[&str]) -> Option<Command>
 }
 
 /// The load that is called by these words, if they are those of `drill`.
-fn drill_of(words: &[&str]) -> Option<Command>
+fn drill_of<'a>(words: &[&str]) -> Option<Command<'a>>
     ensures { MatchOption result ((number workers calls : ℕ) → IsDrill number workers calls
         → map (λ w. w.now) words.now ≢ drill_words number workers calls)
         (λ command. IsWithin command × (map (λ w. w.now) words.now ≡ command_words command)) }
@@ -293,7 +338,7 @@ fn is_drill(workers: u64, calls: u64) -> bool
 }
 
 /// The load that is called by these words, if they are those of `core`.
-fn core_of(words: &[&str]) -> Option<Command>
+fn core_of<'a>(words: &[&str]) -> Option<Command<'a>>
     ensures { MatchOption result ((number steps : ℕ) → IsLoad number steps
         → map (λ w. w.now) words.now ≢ core_words number steps) (λ command. IsWithin command
         × (map (λ w. w.now) words.now ≡ command_words command)) }

@@ -9,6 +9,7 @@ mod program;
 mod starting;
 
 pub use arguments::{Arguments, SystemArguments, texts, words_of_call};
+pub use commands::{Call, Command, call_of};
 pub use plain::run_plain;
 pub use program::run;
 pub use script_command::PlainEnd;

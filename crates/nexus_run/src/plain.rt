@@ -1,14 +1,14 @@
 //! The commands that are neither a service nor a talk.
-ghost use Rattle.std.specs.Prelude.{◌≡◌, ◌≢◌, ◌⊎◌, ℕ, None, length, map};
+ghost use Rattle.std.specs.Prelude.{◌≡◌, ◌≢◌, ◌⊎◌, ℕ, None, length};
 ghost use Rattle.nx_io.specs.Streams.{Grows};
 ghost use Rattle.nx_io.specs.Views.{HasGiven};
 ghost use Rattle.run_streams.specs.Runs.{sink_run, source_run};
 ghost use Rattle.nexus_run.specs.Commanded.{RunsCommand};
 ghost use Rattle.nexus_run.specs.Lasting.{EndsLasting};
-ghost use Rattle.nexus_run.specs.Commands.{IsPlain, compact_words, core_words, drill_words, script_words};
+ghost use Rattle.nexus_run.specs.Commands.{IsWithin};
 ghost use Rattle.script_command.specs.Scripts.{HasMore, panel_run};
 
-use crate::commands::{Command, command_of, export_of};
+use crate::commands::Command;
 use crate::load::{drill, load};
 use answer_commands::{Found, Recovered, answer_input, check, compact, export};
 use audit_form::Told;
@@ -35,19 +35,18 @@ use trust_check::Trust;
 ///
 /// The status is 0 where all was done (of `check` at `allowed`, of `trust` at `safe`, of `explain` at `allowed`, of
 /// `prove` at a proof, of `audit` where each record is right), 1 at `denied`, where a goal is not safe, where there is
-/// no chain, where a record is wrong and where there is no principal to export, 2 where the words are not those of a
-/// command, which then reads and writes nothing, 3 where the input is refused, 4 where the source failed, 5 where the
-/// sink failed, or of `compact` the records, 6 where memory ran out, and 8 where an authority could not be reached. At
-/// 4, 6 and 8 nothing was written, and at 5 a proper part of what was to be. `docs/FORMATS.md`, "Statuses", states
-/// this. What `script`, `recover` and `compact` have written whole is synced before they end with 0; where that fails, the status is 5 and
-/// all was written.
+/// no chain, where a record is wrong and where there is no principal to export, 3 where the input is refused, 4 where the
+/// source failed, 5 where the sink failed, or of `compact` the records, 6 where memory ran out, and 8 where an authority
+/// could not be reached. At 4, 6 and 8 nothing was written, and at 5 a proper part of what was to be. `docs/FORMATS.md`,
+/// "Statuses", states this. What `script`, `recover` and `compact` have written whole is synced before they end with 0;
+/// where that fails, the status is 5 and all was written.
 ///
 /// The input is what the source gives in this call. It is read to its first end, unless it is too large. The panel is
 /// handed back; only `script` uses it, and only `compact` the records.
 pub fn run_plain<R, S: Source, C: Sink, K: Sink, P: Panel>(
     rt: &R,
     alloc: Global,
-    words: &[&str],
+    command: Command<'_>,
     input: &mut S,
     records: &mut C,
     output: &mut K,
@@ -55,46 +54,33 @@ pub fn run_plain<R, S: Source, C: Sink, K: Sink, P: Panel>(
 ) -> PlainEnd<P>
 where
     R: Net<Listener = TcpListener, Stream = TcpStream> + Clock + Wait + Threads + Sync,
-    ensures other_words { ¬ IsPlain (map (λ w. w.now) words.now)
-        → (result.status ≡ 2) × (input.new ≡ input.old) × (output.new ≡ output.old) }
+    requires { IsWithin command }
     ensures gave { HasGiven S.Source input.old input.new }
     ensures sent { Grows (K.sent output.old) (K.sent output.new) }
     ensures recorded { Grows (C.sent records.old) (C.sent records.new) }
-    ensures unrecorded { map (λ w. w.now) words.now ≢ compact_words → records.new ≡ records.old }
+    ensures unrecorded { command.entry ≢ Command.Compact → records.new ≡ records.old }
     ensures asked { HasMore (P.history panel) (P.history result.panel) }
     ensures untouched { (result.status ≡ 4) ⊎ (result.status ≡ 6) → output.new ≡ output.old }
-    ensures command { RunsCommand (map (λ w. w.now) words.now)
+    ensures command { RunsCommand command.entry
         (source_run S.Source input.old input.new)
         (sink_run K.Sink output.old output.new)
         (sink_run C.Sink records.old records.new)
         (K.synced output.new ≡ length (K.sent output.new))
         (panel_run (P.history panel) (P.history result.panel))
         result.journal result.status }
-    ensures core_reads_nothing { (number steps : ℕ) → map (λ w. w.now) words.now ≡ core_words number steps
+    ensures core_reads_nothing { (number steps : ℕ) → command.entry ≡ Command.Core number steps
         → input.new ≡ input.old }
-    ensures drill_reads_nothing { (number workers calls : ℕ) → map (λ w. w.now) words.now ≡ drill_words number
-        workers calls → input.new ≡ input.old }
-    ensures other_panel { map (λ w. w.now) words.now ≢ script_words → (result.panel ≡ panel) × (result.journal ≡ None) }
+    ensures drill_reads_nothing { (number workers calls : ℕ) → command.entry ≡ Command.Drill number workers calls
+        → input.new ≡ input.old }
+    ensures other_panel { command.entry ≢ Command.Script → (result.panel ≡ panel) × (result.journal ≡ None) }
 {
-    if let Some(name) = export_of(words) {
-        return PlainEnd {
-            status: export(alloc, name, input, output),
-            journal: None,
-            panel,
-        };
-    }
-    match command_of(words) {
-        None => PlainEnd {
-            status: 2,
-            journal: None,
-            panel,
-        },
-        Some(Command::Check) => PlainEnd {
+    match command {
+        Command::Check => PlainEnd {
             status: check(alloc, input, output),
             journal: None,
             panel,
         },
-        Some(Command::Script) => {
+        Command::Script => {
             let PlainEnd {
                 status,
                 journal,
@@ -106,27 +92,27 @@ where
                 panel,
             }
         }
-        Some(Command::Trust) => PlainEnd {
+        Command::Trust => PlainEnd {
             status: answer_input::<Trust, S, K>(alloc, &(), input, output),
             journal: None,
             panel,
         },
-        Some(Command::Prove) => PlainEnd {
+        Command::Prove => PlainEnd {
             status: answer_input::<Found, S, K>(alloc, &(), input, output),
             journal: None,
             panel,
         },
-        Some(Command::Audit) => PlainEnd {
+        Command::Audit => PlainEnd {
             status: answer_input::<Told, S, K>(alloc, &(), input, output),
             journal: None,
             panel,
         },
-        Some(Command::Explain) => PlainEnd {
+        Command::Explain => PlainEnd {
             status: answer_input::<ExplanationText, S, K>(alloc, &(), input, output),
             journal: None,
             panel,
         },
-        Some(Command::Recover) => {
+        Command::Recover => {
             let status = answer_input::<Recovered, S, K>(alloc, &(), input, output);
             PlainEnd {
                 status: lasting(status, output),
@@ -134,7 +120,7 @@ where
                 panel,
             }
         }
-        Some(Command::Compact) => {
+        Command::Compact => {
             let status = compact(alloc, input, output, records);
             PlainEnd {
                 status: lasting(status, output),
@@ -142,18 +128,21 @@ where
                 panel,
             }
         }
-        Some(Command::Core { number, steps }) => PlainEnd {
+        Command::Export { name } => PlainEnd {
+            status: export(alloc, name, input, output),
+            journal: None,
+            panel,
+        },
+        Command::Core { number, steps } => PlainEnd {
             status: load(alloc, number, steps, output),
             journal: None,
             panel,
         },
-        Some(
-            Command::Drill {
-                number,
-                workers,
-                calls,
-            },
-        ) => PlainEnd {
+        Command::Drill {
+            number,
+            workers,
+            calls,
+        } => PlainEnd {
             status: drill(rt, alloc, number, workers, calls, output),
             journal: None,
             panel,

@@ -15,7 +15,7 @@ ghost use Rattle.service_commands.specs.Services.{HandsBack};
 ghost use Rattle.nexus_run.specs.Commands.{IsCommand};
 ghost use Rattle.nexus_run.specs.Runs.{Runs, told_by};
 
-use crate::commands::{service_of, talk_of};
+use crate::commands::{Call, call_of};
 use crate::plain::run_plain;
 use authority_ask::Panel;
 use nexus_serve::Outside;
@@ -90,22 +90,25 @@ where
         (gained (K.sent output) (K.sent k)) (kept_of result.means)) }
 {
     let alloc = rt.alloc();
-    if let Some(service) = service_of(words) {
-        let (recorder, aside) = service.recorder(records);
-        let outside = Outside {
-            door,
-            panel,
-            recorder,
-        };
-        let ended = run_service(rt, alloc, service, input, output, outside, gate);
-        return ended.with_records(aside);
-    }
-    match talk_of(words) {
-        Some(call) => run_talk(rt, alloc, call, input, records, output, door, panel),
-        None => {
+    let Some(call) = call_of(words) else {
+        return handed_back(alloc, 2, None, records, output, door, panel);
+    };
+    match call {
+        Call::Serve(service) => {
+            let (recorder, aside) = service.recorder(records);
+            let outside = Outside {
+                door,
+                panel,
+                recorder,
+            };
+            let ended = run_service(rt, alloc, service, input, output, outside, gate);
+            ended.with_records(aside)
+        }
+        Call::Talk(talk) => run_talk(rt, alloc, talk, input, records, output, door, panel),
+        Call::Plain(command) => {
             let mut records = records;
             let mut output = output;
-            let end = run_plain(rt, alloc, words, input, &mut records, &mut output, panel);
+            let end = run_plain(rt, alloc, command, input, &mut records, &mut output, panel);
             handed_back(
                 alloc,
                 end.status,

@@ -1,6 +1,6 @@
 // Plays rows of runs that are neither a service nor a client, over streams and a panel in memory. In a row `|` stands for a line feed.
 use authority_ask::{Ask, MemPanel};
-use nexus_run::run_plain;
+use nexus_run::{Call, call_of, run_plain};
 use nx_io::{MemSink, MemSource};
 use std::alloc::{AllocError, Global};
 use std::mem;
@@ -79,8 +79,8 @@ pub fn asks_of(alloc: Global, letters: &str) -> Result<Vec<Ask>, AllocError> {
     Ok(asks)
 }
 
-// The status of a run with these words, over a panel that gives these answers. What is handed back is kept, since it takes long to prove that it may be
-// dropped.
+// The status of a run with these words, over a panel that gives these answers: 2, as `run` has it, where they are those of no command
+// that is neither a service nor a talk. What is handed back is kept, since it takes long to prove that it may be dropped.
 fn status_of<R>(
     rt: &R,
     alloc: Global,
@@ -94,8 +94,11 @@ fn status_of<R>(
 where
     R: Net<Listener = TcpListener, Stream = TcpStream> + Clock + Wait + Threads + Sync,
 {
+    let Some(Call::Plain(command)) = call_of(words) else {
+        return Ok(2);
+    };
     let panel = MemPanel::new(alloc, answers, &[reach_fails], &[])?;
-    let end = run_plain(rt, alloc, words, source, records, sink, panel);
+    let end = run_plain(rt, alloc, command, source, records, sink, panel);
     let status = end.status;
     mem::forget(end);
     Ok(status)
