@@ -61,3 +61,17 @@ func (c *Client) Unbind(ctx context.Context, principal string) (Reply, error) {
 func (c *Client) Call(ctx context.Context, operation, object string, argument uint64) (Reply, error) {
 	return c.Ask(ctx, Call{operation, object, argument})
 }
+
+// See asks by a See, and returns the number of Seen, which is at least the length. With any other reply comes a *NotSeen,
+// and 0.
+func (c *Client) See(ctx context.Context, length uint64) (uint64, error) {
+	reply, err := c.Ask(ctx, See{length})
+	if err != nil {
+		return 0, err
+	}
+	seen, isSeen := reply.(Seen)
+	if !isSeen {
+		return 0, &NotSeen{reply}
+	}
+	return seen.At, nil
+}

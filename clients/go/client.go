@@ -17,6 +17,7 @@ type Client struct {
 	reader     *bufio.Reader
 	frames     []byte
 	waiting    int
+	at         uint64
 	ended      Ended
 }
 
@@ -49,9 +50,16 @@ func (c *Client) Close() error { return c.connection.Close() }
 // Waiting is how many requests were sent whose replies have not been received.
 func (c *Client) Waiting() int { return c.waiting }
 
+// At is the greatest At of all replies that were received, refusals too, or 0 where none had one. It stays when the
+// connection ends.
+func (c *Client) At() uint64 { return c.at }
+
 // Ask sends a request and waits for its reply. Replies to requests before it have to be received first: a *RequestError
-// where one is outstanding.
+// where one is outstanding. Where the connection has ended, that end is the error again.
 func (c *Client) Ask(ctx context.Context, request Request) (Reply, error) {
+	if c.ended != nil {
+		return nil, c.ended
+	}
 	if c.waiting > 0 {
 		return nil, &RequestError{Reason: fmt.Sprintf("%d replies are to be received first", c.waiting)}
 	}
@@ -150,6 +158,9 @@ func (c *Client) receive(ctx context.Context) (Reply, error) {
 	}
 	if c.waiting > 0 {
 		c.waiting--
+	}
+	if at := pointOf(reply); at > c.at {
+		c.at = at
 	}
 	return reply, nil
 }

@@ -2,6 +2,7 @@ package nexus
 
 import (
 	"context"
+	"encoding/binary"
 	"encoding/hex"
 	"errors"
 	"io"
@@ -67,8 +68,8 @@ func TestTorn(t *testing.T) {
 
 func TestBadReplies(t *testing.T) {
 	for _, digits := range []string{
-		"00000000", "00000002", "00000008", "0000000a", "00000022", "00000029", "ffffffff", "0000000140", "0000000149", "0000000148", "0000000947",
-		"0000001944",
+		"00000000", "00000002", "00000008", "0000000a", "00000022", "00000029", "ffffffff", "0000000140", "0000000149", "000000014a", "0000000148",
+		"0000000947", "000000094a", "0000001149", "0000001944",
 	} {
 		// They are told at once: the service doesn't end the connection.
 		client, service := pair(t)
@@ -81,7 +82,7 @@ func TestBadReplies(t *testing.T) {
 func TestAReplyBeforeTheEnd(t *testing.T) {
 	client, service := pair(t)
 	table := rows(t, "reply")
-	service.Write(append(append([]byte{}, table[0].frame...), table[10].frame[:4]...))
+	service.Write(append(append([]byte{}, table[0].frame...), table[13].frame[:4]...))
 	service.Close()
 	if reply, err := client.Receive(background); reply != (Welcome{1, 0}) || err != nil {
 		t.Fatal(reply, err)
@@ -141,6 +142,9 @@ func expectLate(t *testing.T, client *Client, err error, due error) {
 		t.Fatalf("%T %v, where %v is due", err, err, due)
 	}
 	if again := client.Send(background, NewObject{"f"}); again != err {
+		t.Fatal(again)
+	}
+	if _, again := client.Ask(background, NewObject{"f"}); again != err {
 		t.Fatal(again)
 	}
 }
@@ -266,6 +270,130 @@ func TestOutstandingReplies(t *testing.T) {
 		if _, err := client.Receive(background); err != nil || client.Waiting() != left {
 			t.Fatal(err, client.Waiting())
 		}
+	}
+}
+
+// told is the frame of a reply of this kind with these numbers.
+func told(kind byte, numbers ...uint64) []byte {
+	frame := []byte{0, 0, 0, byte(1 + 8*len(numbers)), kind}
+	for _, number := range numbers {
+		frame = binary.BigEndian.AppendUint64(frame, number)
+	}
+	return frame
+}
+
+// A Seen is a length, and any other reply an error that leaves the connection as it is.
+func TestSee(t *testing.T) {
+	client, service := pair(t)
+	sent := 0
+	for _, row := range []struct {
+		length uint64
+		reply  []byte
+		at     uint64
+	}{{0, told(73, 0), 0}, {0, told(73, 3), 3}, {5, told(73, 5), 5}, {5, told(73, 7), 7}, {1<<64 - 1, told(73, 1<<64-1), 1<<64 - 1}} {
+		service.Write(row.reply)
+		if at, err := client.See(background, row.length); at != row.at || err != nil {
+			t.Fatal(row.length, at, err)
+		}
+		sent++
+	}
+	for _, row := range []struct {
+		reply    []byte
+		wanted   Reply
+		isNotYet bool
+	}{
+		{told(69, 7, 23), Refused{7, NotYet}, true}, {told(69, 0, 23), Refused{0, NotYet}, true}, {told(69, 0, 1), Refused{0, NotOpen}, false},
+		{told(71), NoMemory{}, false}, {told(72, 23), Bad{23}, false}, {told(66, 8, 23), Done{8, 23}, false},
+	} {
+		service.Write(row.reply)
+		at, err := client.See(background, 8)
+		var not *NotSeen
+		if at != 0 || !errors.As(err, &not) || not.Reply != row.wanted || not.IsNotYet() != row.isNotYet {
+			t.Fatal(at, err)
+		}
+		var ended Ended
+		if errors.As(err, &ended) || err.Error() != "nexus: not seen: "+row.wanted.String() {
+			t.Error(err)
+		}
+		sent++
+	}
+	taken := make([]byte, 13*sent)
+	if _, err := io.ReadFull(service, taken); err != nil {
+		t.Fatal(err)
+	}
+	for turn, length := range []uint64{0, 0, 5, 5, 1<<64 - 1, 8} {
+		frame, _ := AppendFrame(nil, See{length})
+		if string(taken[13*turn:13*turn+13]) != string(frame) {
+			t.Errorf("%x, where %x is due", taken[13*turn:13*turn+13], frame)
+		}
+	}
+	service.Write(told(73, 9))
+	if reply, err := client.Ask(background, See{9}); reply != (Seen{9}) || err != nil {
+		t.Error(reply, err)
+	}
+}
+
+// A See that can't be sent is a RequestError, and one whose connection has ended is the end.
+func TestSeeWithoutAReply(t *testing.T) {
+	client, service := pair(t)
+	done, cancel := context.WithCancel(background)
+	cancel()
+	var wrong *RequestError
+	if at, err := client.See(done, 1); at != 0 || !errors.As(err, &wrong) || !errors.Is(err, context.Canceled) {
+		t.Error(at, err)
+	}
+	client.Send(background, NewObject{"f"})
+	if at, err := client.See(background, 1); at != 0 || !errors.As(err, &wrong) {
+		t.Error(at, err)
+	}
+	service.Write(told(66, 1, 0))
+	client.Receive(background)
+	service.Write(told(73, 1)[:12])
+	service.CloseWrite()
+	at, err := client.See(background, 1)
+	var torn *Torn
+	if at != 0 || !errors.As(err, &torn) || client.At() != 1 {
+		t.Error(at, err, client.At())
+	}
+	if _, again := client.Receive(background); again != err {
+		t.Error(again)
+	}
+}
+
+// Each reply that has a point counts by it, and by no other number of it. It counts when it is received.
+func TestAt(t *testing.T) {
+	client, service := pair(t)
+	if client.At() != 0 {
+		t.Error(client.At())
+	}
+	for _, row := range []struct {
+		reply []byte
+		at    uint64
+	}{
+		{told(71), 0}, {told(69, 0, 23), 0}, {told(69, 1, 23), 1}, {told(65, 99, 2), 2}, {told(66, 3, 99), 3}, {told(66, 1, 99), 3},
+		{told(67, 4, 99, 99), 4}, {told(68, 5, 99, 99, 99), 5}, {told(70, 6, 99), 6}, {told(69, 7, 99), 7}, {told(73, 8), 8}, {told(65, 9, 0), 8},
+		{told(72, 99), 8}, {told(71), 8}, {told(73, 7), 8},
+	} {
+		service.Write(row.reply)
+		if reply, err := client.Receive(background); err != nil || client.At() != row.at {
+			t.Errorf("%v %v: %d, where %d is due", reply, err, client.At(), row.at)
+		}
+	}
+	service.Write(append(told(73, 20), told(69, 21, 23)...))
+	for _, due := range []uint64{20, 21} {
+		if _, err := client.Receive(background); err != nil || client.At() != due {
+			t.Error(err, client.At())
+		}
+	}
+	service.Write(append(told(73, 22), told(69, 21, 23)...))
+	if replies, err := client.AskAll(background, []Request{See{22}, See{23}}, 64); len(replies) != 2 || err != nil || client.At() != 22 {
+		t.Error(replies, err, client.At())
+	}
+	service.Write(told(73, 99)[:12])
+	service.CloseWrite()
+	expectEnd(t, "half a reply", client, &Torn{})
+	if client.At() != 22 {
+		t.Error(client.At())
 	}
 }
 

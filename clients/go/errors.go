@@ -15,6 +15,17 @@ func (e *RequestError) Error() string { return "nexus: nothing was sent: " + e.R
 // Unwrap is the context's error, or nil.
 func (e *RequestError) Unwrap() error { return e.Err }
 
+// A NotSeen says that the reply to Client.See is another one than Seen. The connection stands.
+type NotSeen struct{ Reply Reply }
+
+func (e *NotSeen) Error() string { return "nexus: not seen: " + e.Reply.String() }
+
+// IsNotYet says whether the reply is Refused with NotYet: the session has not come to that length, and may ask again.
+func (e *NotSeen) IsNotYet() bool {
+	refused, isRefused := e.Reply.(Refused)
+	return isRefused && refused.Refusal == NotYet
+}
+
 // An Ended is an end of the connection. Its type is one of the five below.
 type Ended interface {
 	error

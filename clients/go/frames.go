@@ -109,7 +109,7 @@ func numbersOf(kind byte) int {
 		return 4
 	case 71:
 		return 0
-	case 72:
+	case 72, 73:
 		return 1
 	}
 	return -1
@@ -137,8 +137,10 @@ func replyOf(kind byte, n []uint64) Reply {
 		return Down{n[0], n[1]}
 	case 71:
 		return NoMemory{}
+	case 72:
+		return Bad{n[0]}
 	}
-	return Bad{n[0]}
+	return Seen{n[0]}
 }
 
 // ParseReply is the reply with this payload, which is the kind and the fields, without the length in front. A *BadReply

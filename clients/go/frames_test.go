@@ -14,13 +14,14 @@ import (
 var requests = []Request{
 	Hello{"bob", "pw"}, Say{"bob", "ok"}, Transfer{3, "bob"}, Delete{258}, NewObject{"f"}, SetGoal{"read", "f", "true"},
 	ClearGoal{"read", "f"}, SetProof{"read", "f", ""}, ClearProof{"read", "f"}, Bind{"bob.x", 1<<64 - 1}, Unbind{"bob"},
-	Call{"read", "ledger_of_2026", 7},
+	Call{"read", "ledger_of_2026", 7}, See{258}, See{0},
 }
 
 // The replies of clients/frames.txt, in their order.
 var replies = []Reply{
 	Welcome{1, 0}, Done{3, 3}, Allowed{4, 1, 7}, Denied{1, GoalUnset, 0, 0}, Denied{5, LabelMissing, 1, 0},
-	Denied{6, Line, 1, NotGoal}, Denied{6, 9, 1, 13}, Refused{1, NotRecorded}, Refused{0, 21}, Down{4, 2}, NoMemory{}, Bad{5},
+	Denied{6, Line, 1, NotGoal}, Denied{6, 9, 1, 13}, Refused{1, NotRecorded}, Refused{1, ReadOnly}, Refused{262_144, JournalFull},
+	Refused{7, NotYet}, Refused{0, 24}, Down{4, 2}, NoMemory{}, Bad{5}, Seen{258},
 }
 
 // row is a line, and its frame where it has one.
@@ -86,6 +87,7 @@ func TestNames(t *testing.T) {
 	names := map[string]string{
 		Cause(1).String(): "GoalUnset", Cause(6).String(): "AuthorityNo", Fault(1).String(): "NoSuchRef", NotFresh.String(): "NotFresh",
 		Fault(12).String(): "NotGoal", Refusal(1).String(): "NotOpen", Refusal(17).String(): "Quota", Refusal(20).String(): "NotRecorded",
+		Refusal(21).String(): "ReadOnly", Refusal(22).String(): "JournalFull", Refusal(23).String(): "NotYet", Refusal(24).String(): "24",
 		Cause(7).String(): "7", Fault(13).String(): "13", Refusal(1<<64 - 1).String(): "18446744073709551615",
 	}
 	for got, wanted := range names {
@@ -93,7 +95,7 @@ func TestNames(t *testing.T) {
 			t.Errorf("%s, where %s is due", got, wanted)
 		}
 	}
-	if NotBound != 5 || StillOpen != 11 || NoSuchObject != 8 || BadProof != 16 {
+	if NotBound != 5 || StillOpen != 11 || NoSuchObject != 8 || BadProof != 16 || ReadOnly != 21 || JournalFull != 22 || NotYet != 23 {
 		t.Error("a name has another number")
 	}
 }
@@ -141,7 +143,10 @@ func TestRequestsThatAreNone(t *testing.T) {
 }
 
 func TestPayloadsThatAreNone(t *testing.T) {
-	for _, digits := range []string{"", "40", "49", "48", "47" + "0000000000000000", "41" + "0000000000000000", "44" + strings.Repeat("00", 24)} {
+	for _, digits := range []string{
+		"", "40", "49", "4a", "48", "47" + "0000000000000000", "41" + "0000000000000000", "44" + strings.Repeat("00", 24), "49" + strings.Repeat("00", 16),
+		"4a" + "0000000000000000",
+	} {
 		payload, _ := hex.DecodeString(digits)
 		reply, err := ParseReply(payload)
 		var bad *BadReply

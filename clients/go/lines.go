@@ -62,6 +62,8 @@ func requestOf(word string, w *words, text string) Request {
 		return Unbind{w.next()}
 	case "call":
 		return Call{w.next(), w.next(), w.number()}
+	case "see":
+		return See{w.number()}
 	}
 	return nil
 }

@@ -5,7 +5,7 @@ import (
 	"strings"
 )
 
-// A Reply is one of the eight structs below. Its String is the reply's line, as docs/FORMATS.md, "Reply lines", states it.
+// A Reply is one of the nine structs below. Its String is the reply's line, as docs/FORMATS.md, "Reply lines", states it.
 type Reply interface {
 	String() string
 	reply()
@@ -44,6 +44,10 @@ type NoMemory struct{}
 // Bad: what was sent is no request. Place is the wrong byte, counted from the first of the connection. The service ends
 // the session.
 type Bad struct{ Place uint64 }
+
+// Seen: the session has come to the length for which it asked: to At entries of the journal, and no later reply of it
+// names fewer.
+type Seen struct{ At uint64 }
 
 // A Cause is why a call is denied.
 type Cause uint64
@@ -102,6 +106,9 @@ const (
 	ObjectsFull
 	CasesFull
 	NotRecorded
+	ReadOnly
+	JournalFull
+	NotYet
 )
 
 var (
@@ -110,7 +117,7 @@ var (
 		"StillOpen NotGoal")
 	refusals = strings.Fields("NotOpen AlreadyOpen BadSecret NoSuchPrincipal NotYourPrincipal NoSuchLabel NotHolder " +
 		"NoSuchObject NameTaken NotOwner NoGoal NoSuchProof NoBinding BadPort BadFormula BadProof Quota ObjectsFull CasesFull " +
-		"NotRecorded")
+		"NotRecorded ReadOnly JournalFull NotYet")
 )
 
 // named is the name with this number, the first being 1, or the number where it names nothing.
@@ -146,6 +153,7 @@ func (r Refused) String() string  { return line("refused", r.At) + " " + r.Refus
 func (r Down) String() string     { return line("down", r.At, r.Line) }
 func (r NoMemory) String() string { return "nomemory" }
 func (r Bad) String() string      { return line("bad", r.Place) }
+func (r Seen) String() string     { return line("seen", r.At) }
 
 func (r Denied) String() string {
 	told := line("denied", r.At) + " " + r.Cause.String()
@@ -166,3 +174,25 @@ func (Refused) reply()  {}
 func (Down) reply()     {}
 func (NoMemory) reply() {}
 func (Bad) reply()      {}
+func (Seen) reply()     {}
+
+// pointOf is the At of a reply, or 0 where it has none.
+func pointOf(reply Reply) uint64 {
+	switch r := reply.(type) {
+	case Welcome:
+		return r.At
+	case Done:
+		return r.At
+	case Allowed:
+		return r.At
+	case Denied:
+		return r.At
+	case Refused:
+		return r.At
+	case Down:
+		return r.At
+	case Seen:
+		return r.At
+	}
+	return 0
+}

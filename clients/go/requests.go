@@ -1,6 +1,6 @@
 package nexus
 
-// A Request is one of the twelve structs below.
+// A Request is one of the thirteen structs below.
 type Request interface {
 	// kind is that of the frame.
 	kind() byte
@@ -54,6 +54,10 @@ type Call struct {
 	Argument          uint64
 }
 
+// See asks whether the journal, as far as this session is concerned, has come to a length, which may be 0. The reply is
+// Seen, or Refused with NotYet, or with NotOpen before a hello. Nothing waits.
+type See struct{ Length uint64 }
+
 func (Hello) kind() byte      { return 1 }
 func (Say) kind() byte        { return 2 }
 func (Transfer) kind() byte   { return 3 }
@@ -66,6 +70,7 @@ func (ClearProof) kind() byte { return 9 }
 func (Bind) kind() byte       { return 10 }
 func (Unbind) kind() byte     { return 11 }
 func (Call) kind() byte       { return 12 }
+func (See) kind() byte        { return 13 }
 
 func (r Hello) fields(f *frame)      { f.name(r.Name); f.secret(r.Secret) }
 func (r Say) fields(f *frame)        { f.text(r.Principal); f.text(r.Formula) }
@@ -79,3 +84,4 @@ func (r ClearProof) fields(f *frame) { f.name(r.Operation); f.name(r.Object) }
 func (r Bind) fields(f *frame)       { f.text(r.Principal); f.number(r.Port) }
 func (r Unbind) fields(f *frame)     { f.text(r.Principal) }
 func (r Call) fields(f *frame)       { f.name(r.Operation); f.name(r.Object); f.number(r.Argument) }
+func (r See) fields(f *frame)        { f.number(r.Length) }

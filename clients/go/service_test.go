@@ -80,6 +80,29 @@ func expect(t *testing.T, wanted Reply) func(Reply, error) {
 	}
 }
 
+// expectSeen wants this length, and no error.
+func expectSeen(t *testing.T, wanted uint64) func(uint64, error) {
+	t.Helper()
+	return func(at uint64, err error) {
+		t.Helper()
+		if at != wanted || err != nil {
+			t.Fatalf("%d %v, where %d is due", at, err, wanted)
+		}
+	}
+}
+
+// expectNotYet wants a *NotSeen, whose reply is Refused with NotYet at this length.
+func expectNotYet(t *testing.T, wanted uint64) func(uint64, error) {
+	t.Helper()
+	return func(at uint64, err error) {
+		t.Helper()
+		var not *NotSeen
+		if at != 0 || !errors.As(err, &not) || not.Reply != (Refused{wanted, NotYet}) || !not.IsNotYet() {
+			t.Fatalf("%d %v, where NotYet at %d is due", at, err, wanted)
+		}
+	}
+}
+
 // Each kind of request once, and what is then written.
 func TestEachRequest(t *testing.T) {
 	head := "nexus 2\nprincipal alice pa\nprincipal bob pb\nauthority 3 clock\n"
@@ -105,6 +128,8 @@ func TestEachRequest(t *testing.T) {
 	expect(t, Done{9, 0})(client.Transfer(ctx, 3, "bob"))
 	expect(t, Refused{9, NotHolder})(client.Delete(ctx, 3))
 	expect(t, Refused{9, BadFormula})(client.Say(ctx, "alice", "no ("))
+	expectSeen(t, 9)(client.See(ctx, 9))
+	expectNotYet(t, 9)(client.See(ctx, 10))
 	client.Close()
 	wanted := head
 	for _, entry := range []string{
@@ -114,6 +139,49 @@ func TestEachRequest(t *testing.T) {
 		wanted += "1 alice " + entry + "\n"
 	}
 	if text := it.text(t); text != wanted+"end\n" {
+		t.Error(text)
+	}
+}
+
+// Two sessions: what one was told of the other can ask for, and nothing is written of that.
+func TestSeeOfAnother(t *testing.T) {
+	head := "nexus 2\nprincipal alice pa\nprincipal bob pb\n"
+	it := start(t, head+"end\n", 2, 1)
+	alice, bob := it.dial(t), it.dial(t)
+	var not *NotSeen
+	if at, err := bob.See(background, 0); at != 0 || !errors.As(err, &not) || not.Reply != (Refused{0, NotOpen}) || not.IsNotYet() {
+		t.Fatal(at, err)
+	}
+	for client, name := range map[*Client]string{alice: "alice", bob: "bob"} {
+		if reply, err := client.Hello(background, name, "p"+name[:1]); reflect.TypeOf(reply) != reflect.TypeOf(Welcome{}) {
+			t.Fatal(reply, err)
+		}
+	}
+	expectSeen(t, 0)(bob.See(background, 0))
+	expectNotYet(t, 0)(bob.See(background, 1))
+	expectNotYet(t, 0)(bob.See(background, 1<<64-1))
+	for at := uint64(1); at <= 100; at++ {
+		expect(t, Done{at, at})(alice.Say(background, "alice", "ok"))
+		if alice.At() != at || bob.At() != at-1 {
+			t.Fatal(at, alice.At(), bob.At())
+		}
+		expectNotYet(t, at)(bob.See(background, at+1))
+		expectSeen(t, at)(bob.See(background, alice.At()))
+		expectSeen(t, at)(bob.See(background, 0))
+	}
+	expect(t, Refused{100, NoSuchObject})(bob.Call(background, "read", "f", 0))
+	got, err := bob.AskAll(background, []Request{See{100}, Say{"bob", "ok"}, See{101}, See{102}}, 64)
+	if err != nil || !reflect.DeepEqual(got, []Reply{Seen{100}, Done{101, 101}, Seen{101}, Refused{101, NotYet}}) {
+		t.Fatal(got, err)
+	}
+	if alice.At() != 100 || bob.At() != 101 {
+		t.Error(alice.At(), bob.At())
+	}
+	expectSeen(t, 101)(alice.See(background, bob.At()))
+	alice.Close()
+	bob.Close()
+	text := it.text(t)
+	if !strings.HasPrefix(text, head) || strings.Count(text, "\n") != 3+101+1 || strings.Count(text, " alice say alice : ok\n") != 100 {
 		t.Error(text)
 	}
 }
@@ -215,13 +283,17 @@ func TestClientsAtOnce(t *testing.T) {
 	}
 }
 
-// A frame that is too long, one of an unknown kind and one with a name that is none are told, and the session is over.
+// A frame that is too long, one of an unknown kind, one with a name that is none, and ones with too few or too many fields
+// are told, and the session is over.
 func TestWhatIsNoFrame(t *testing.T) {
-	it := start(t, "nexus 2\nend\n", 1, 3)
+	it := start(t, "nexus 2\nend\n", 1, 5)
 	for _, row := range []struct {
 		data  string
 		place uint64
-	}{{"\x00\x00\x84\x01", 0}, {"\x00\x00\x00\x01\x0d", 4}, {"\x00\x00\x00\x0a\x01\x00\x031ob\x00\x02pw", 5}} {
+	}{
+		{"\x00\x00\x84\x01", 0}, {"\x00\x00\x00\x01\x0e", 4}, {"\x00\x00\x00\x0a\x01\x00\x031ob\x00\x02pw", 5},
+		{"\x00\x00\x00\x01\x0d", 5}, {"\x00\x00\x00\x11\x0d" + strings.Repeat("\x00", 16), 13},
+	} {
 		client := it.dial(t)
 		if err := client.SendBytes(background, []byte(row.data)); err != nil {
 			t.Fatal(err)

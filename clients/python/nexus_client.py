@@ -26,6 +26,18 @@ has a class for each of its kinds:
 All of them are `Ended`. The connection is given up then, and each later call raises the same again. It isn't known of a request
 without a reply whether it was carried out.
 
+Most replies name a point `at`, a length of the journal for which they hold. `Client.at` is the greatest of them that has come. Who
+learnt of a change elsewhere, by another session, another machine or word of mouth, calls `see` with the `at` of the other before it
+goes on. Nothing waits in the service, so where the journal has not come there it asks again:
+
+    at = other.at  # handed on with whatever tells of the change
+    told = client.see(at)
+    while isinstance(told, Refused) and told.name == "NotYet":
+        time.sleep(0.01)
+        told = client.see(at)
+
+Once `see` has returned a number, every later reply of this session names a point of at least that.
+
 The bytes pass in the clear, the secret too: connect over loopback, or through a tunnel.
 """
 from __future__ import annotations
@@ -41,8 +53,8 @@ from types import TracebackType
 from typing import ClassVar, Optional, Union
 
 __all__ = [
-    "Hello", "Say", "Transfer", "Delete", "NewObject", "SetGoal", "ClearGoal", "SetProof", "ClearProof", "Bind", "Unbind", "Call", "Request",
-    "Welcome", "Done", "Allowed", "Denied", "Refused", "Down", "NoMemory", "Bad", "Reply",
+    "Hello", "Say", "Transfer", "Delete", "NewObject", "SetGoal", "ClearGoal", "SetProof", "ClearProof", "Bind", "Unbind", "Call", "See",
+    "Request", "Welcome", "Done", "Allowed", "Denied", "Refused", "Down", "NoMemory", "Bad", "Seen", "Reply",
     "Ended", "ClosedAtEdge", "Torn", "BadReply", "TimedOut", "SystemFault",
     "CAUSES", "FAULTS", "REFUSALS", "LONGEST_LINE", "LONGEST_PAYLOAD",
     "frame", "encode", "decode", "request_of_line", "line_of", "records", "connect", "Client",
@@ -57,6 +69,7 @@ FAULTS: tuple[str, ...] = (
 REFUSALS: tuple[str, ...] = (
     "NotOpen", "AlreadyOpen", "BadSecret", "NoSuchPrincipal", "NotYourPrincipal", "NoSuchLabel", "NotHolder", "NoSuchObject", "NameTaken",
     "NotOwner", "NoGoal", "NoSuchProof", "NoBinding", "BadPort", "BadFormula", "BadProof", "Quota", "ObjectsFull", "CasesFull", "NotRecorded",
+    "ReadOnly", "JournalFull", "NotYet",
 )  # fmt: skip
 
 # A frame's payload and a request line have at most so many bytes.
@@ -218,10 +231,21 @@ class Call(_Request):
     argument: int = 0
 
 
-Request = Union[Hello, Say, Transfer, Delete, NewObject, SetGoal, ClearGoal, SetProof, ClearProof, Bind, Unbind, Call]
+@dataclass(frozen=True)
+class See(_Request):
+    """Asks whether the journal, as far as this session is concerned, has come to a length, which may be 0. The reply is `Seen`, or
+    `Refused` with NotYet, or with NotOpen before a hello. Nothing waits."""
+
+    KIND: ClassVar[int] = 13
+    WORD: ClassVar[str] = "see"
+    FORM: ClassVar[str] = "#"
+    length: int
+
+
+Request = Union[Hello, Say, Transfer, Delete, NewObject, SetGoal, ClearGoal, SetProof, ClearProof, Bind, Unbind, Call, See]
 
 _REQUESTS: tuple[type[Request], ...] = (
-    Hello, Say, Transfer, Delete, NewObject, SetGoal, ClearGoal, SetProof, ClearProof, Bind, Unbind, Call,
+    Hello, Say, Transfer, Delete, NewObject, SetGoal, ClearGoal, SetProof, ClearProof, Bind, Unbind, Call, See,
 )  # fmt: skip
 _BY_WORD: dict[str, type[Request]] = {kind.WORD: kind for kind in _REQUESTS}
 
@@ -312,7 +336,14 @@ class Bad:
     place: int
 
 
-Reply = Union[Welcome, Done, Allowed, Denied, Refused, Down, NoMemory, Bad]
+@dataclass(frozen=True)
+class Seen:
+    """The session has come to the length for which it asked: to `at` entries of the journal, and no later reply of it names fewer."""
+
+    at: int
+
+
+Reply = Union[Welcome, Done, Allowed, Denied, Refused, Down, NoMemory, Bad, Seen]
 
 # The replies by their kinds, with how many numbers they have.
 _REPLIES: dict[int, tuple[type[Reply], int]] = {
@@ -324,6 +355,7 @@ _REPLIES: dict[int, tuple[type[Reply], int]] = {
     70: (Down, 2),
     71: (NoMemory, 0),
     72: (Bad, 1),
+    73: (Seen, 1),
 }
 _LENGTHS = frozenset(1 + 8 * count for _, count in _REPLIES.values())
 
@@ -513,6 +545,7 @@ class Client:
         """A session over a connection that stands. The client closes it. Its timeout bounds each wait."""
         self.socket = connection
         self._waiting = 0
+        self._at = 0
         self._ahead = bytearray()
         self._ended: Optional[Ended] = None
         try:
@@ -537,6 +570,11 @@ class Client:
         return self._waiting
 
     @property
+    def at(self) -> int:
+        """The greatest `at` of all replies that were received, refusals too, or 0 where none had one. It stays when the connection ends."""
+        return self._at
+
+    @property
     def is_quiet(self) -> bool:
         """Whether the connection stands and nothing waits to be received. Where every reply was received and it is not quiet, the service
         has ended the session, or what came is the reply to nothing; whoever keeps sessions takes another one then."""
@@ -550,7 +588,8 @@ class Client:
 
     def ask(self, request: Request) -> Reply:
         """Sends a request and waits for its reply. Replies to requests before it have to be received first: it is a `ValueError` where
-        one is outstanding."""
+        one is outstanding. Where the connection has ended, that end is raised again."""
+        self._stop_if_ended()
         if self._waiting:
             raise ValueError(f"{self._waiting} replies are to be received first")
         self.send(request)
@@ -604,6 +643,11 @@ class Client:
         """`Call`"""
         return self.ask(Call(operation, thing, argument))
 
+    def see(self, length: int) -> Union[int, Reply]:
+        """`See`: where the reply is `Seen`, its number alone, which may be 0; any other reply is returned as it came."""
+        reply = self.ask(See(length))
+        return reply.at if isinstance(reply, Seen) else reply
+
     # Several requests at a time
 
     def ask_all(self, requests: Iterable[Request], window: int = 64) -> Iterator[Reply]:
@@ -653,6 +697,8 @@ class Client:
         reply = decode(bytes(self._ahead[4 : 4 + length]))
         del self._ahead[: 4 + length]
         self._waiting = max(0, self._waiting - 1)
+        if not isinstance(reply, (NoMemory, Bad)):
+            self._at = max(self._at, reply.at)
         return reply
 
     def _fill(self, count: int) -> None:

@@ -26,8 +26,8 @@ sys.path.insert(0, str(Path(__file__).resolve().parent))
 
 from nexus_client import (
     Allowed, Bad, BadReply, Bind, Call, ClearGoal, ClearProof, Client, ClosedAtEdge, Delete, Denied, Done, Down, Ended, Hello, NewObject, NoMemory,
-    Refused, Reply, Request, Say, SetGoal, SetProof, SystemFault, TimedOut, Torn, Transfer, Unbind, Welcome, connect, decode, encode, frame, line_of,
-    records, request_of_line,
+    Refused, Reply, Request, Say, See, Seen, SetGoal, SetProof, SystemFault, TimedOut, Torn, Transfer, Unbind, Welcome, connect, decode, encode,
+    frame, line_of, records, request_of_line,
 )  # fmt: skip
 
 program: Optional[str] = None
@@ -36,12 +36,13 @@ program: Optional[str] = None
 REQUESTS: list[Request] = [
     Hello("bob", "pw"), Say("bob", "ok"), Transfer(3, "bob"), Delete(258), NewObject("f"), SetGoal("read", "f", "true"), ClearGoal("read", "f"),
     SetProof("read", "f", ""), ClearProof("read", "f"), Bind("bob.x", 2**64 - 1), Unbind("bob"), Call("read", "ledger_of_2026", 7),
+    See(258), See(0),
 ]  # fmt: skip
 
 # The replies of frames.txt, in their order.
 REPLIES: list[Reply] = [
     Welcome(1, 0), Done(3, 3), Allowed(4, 1, 7), Denied(1, 1, 0, 0), Denied(5, 4, 1, 0), Denied(6, 3, 1, 12), Denied(6, 9, 1, 13), Refused(1, 20),
-    Refused(0, 21), Down(4, 2), NoMemory(), Bad(5),
+    Refused(1, 21), Refused(262_144, 22), Refused(7, 23), Refused(0, 24), Down(4, 2), NoMemory(), Bad(5), Seen(258),
 ]  # fmt: skip
 
 TABLES = (Path(__file__).resolve().parents[1] / "frames.txt").read_text()
@@ -84,11 +85,13 @@ class Frames(unittest.TestCase):
         denied = Denied(6, 3, 1, 5)
         self.assertEqual((denied.cause_name, denied.fault_name), ("Line", "NotFresh"))
         self.assertIsNone(Denied(6, 6, 3, 0).fault_name)
-        self.assertEqual(Refused(0, 1).name, "NotOpen")
+        named = {1: "NotOpen", 17: "Quota", 18: "ObjectsFull", 20: "NotRecorded", 21: "ReadOnly", 22: "JournalFull", 23: "NotYet", 24: "24", 0: "0"}
+        self.assertEqual({number: Refused(0, number).name for number in named}, named)
 
     def test_lines_that_are_none(self) -> None:
         lines: list[str] = re.findall(r'^none: "(.*)"$', TABLES, re.MULTILINE)
         self.assertIn("transfer 03 bob", lines)
+        self.assertIn("see 03", lines)
         for line in [*lines, *NO_LINES]:
             with self.subTest(line[:40]), self.assertRaises(ValueError):
                 request_of_line(line)
@@ -98,14 +101,14 @@ class Frames(unittest.TestCase):
     def test_requests_that_are_none(self) -> None:
         for request in [
             Hello("says", "pw"), Hello("bob", ""), Hello("bob", "p w"), NewObject("1f"), NewObject("f\n"), Delete(2**64), Delete(-1), Say("a", "x" * 65_536),
-            SetGoal("read", "f.g", "true"), Say("", "x" * 33_788),
+            See(2**64), See(-1), SetGoal("read", "f.g", "true"), Say("", "x" * 33_788),
         ]:  # fmt: skip
             with self.subTest(str(request)[:40]), self.assertRaises(ValueError):
                 encode(request)
         self.assertEqual(len(encode(Say("", "x" * 33_787))), 4 + 33_792)
 
     def test_payloads_that_are_none(self) -> None:
-        for payload in ["", "40", "49", "48", "47" + "00" * 8, "41" + "00" * 8, "44" + "00" * 24]:
+        for payload in ["", "40", "49", "4a", "48", "47" + "00" * 8, "41" + "00" * 8, "44" + "00" * 24, "49" + "00" * 16, "4a" + "00" * 8]:
             with self.subTest(payload), self.assertRaises(BadReply):
                 decode(bytes.fromhex(payload))
 
@@ -115,13 +118,115 @@ class Frames(unittest.TestCase):
         talk: list[tuple[Request, Reply]] = [
             (call, Refused(0, 1)), (Hello("bob", "pb"), Refused(0, 3)), (call, Refused(0, 1)), (Hello("bob", "pw"), Welcome(1, 0)), (call, Refused(0, 8)),
             (call, Denied(1, 1, 0, 0)), (call, Denied(1, 3, 2, 12)), (call, Allowed(4, 1, 7)), (call, Down(4, 2)), (call, NoMemory()),
-            (Say("bob", "ok"), Done(5, 5)), (Say("bob", "ok"), Refused(5, 8)),
+            (Say("bob", "ok"), Done(5, 5)), (Say("bob", "ok"), Refused(5, 8)), (See(5), Seen(5)), (See(6), Refused(5, 23)),
         ]  # fmt: skip
         wanted = ["0 bob read f ? : refused NoSuchObject", "1 bob read f ? : denied GoalUnset", "1 bob read f ? : denied Line 2 NotGoal"]
         self.assertEqual(records(talk), [*wanted, "4 bob read f ? : allowed", "4 bob read f ? : down 2"])
 
     def test_a_frame_of_anything(self) -> None:
-        self.assertEqual(frame(13, "a", 1), bytes.fromhex("0000000c0d0001610000000000000001"))
+        self.assertEqual(frame(14, "a", 1), bytes.fromhex("0000000c0e0001610000000000000001"))
+
+
+class Points(unittest.TestCase):
+    """What a client knows of the journal's length, over a pair of sockets."""
+
+    def see(self, length: int, *replies: str) -> tuple[object, int]:
+        """What `see` gives where these replies come, of which the last is that to it, and the greatest point afterwards."""
+        client, service = pair()
+        with client, service:
+            for line in replies[:-1]:
+                service.sendall(encode_reply(line))
+                client.receive()
+            service.sendall(encode_reply(replies[-1]))
+            told = client.see(length)
+            self.assertEqual(service.recv(1000), encode(See(length)))
+            return told, client.at
+
+    def test_see(self) -> None:
+        for length, reply, told, at in [
+            (5, "seen 5", 5, 5), (5, "seen 7", 7, 7), (0, "seen 0", 0, 0), (0, "seen 3", 3, 3), (2**64 - 1, f"seen {2**64 - 1}", 2**64 - 1, 2**64 - 1),
+            (8, "refused 7 23", Refused(7, 23), 7), (1, "refused 0 23", Refused(0, 23), 0), (1, "refused 0 1", Refused(0, 1), 0), (1, "bad 13", Bad(13), 0),
+            (1, "nomemory", NoMemory(), 0), (1, "done 1 0", Done(1, 0), 1),
+        ]:  # fmt: skip
+            with self.subTest(f"{length} {reply}"):
+                self.assertEqual(self.see(length, reply), (told, at))
+
+    def test_see_as_a_request(self) -> None:
+        """`ask` gives the reply itself. What can't be sent leaves the client as it is."""
+        client, service = pair()
+        with client, service:
+            service.sendall(encode_reply("seen 5"))
+            self.assertEqual(client.ask(See(5)), Seen(5))
+            for length in [-1, 2**64]:
+                with self.assertRaises(ValueError):
+                    client.see(length)
+            client.send(See(5))
+            with self.assertRaises(ValueError):
+                client.see(5)
+            self.assertEqual((client.waiting, client.at), (1, 5))
+
+    def test_a_point_never_falls(self) -> None:
+        self.assertEqual(self.see(5, "welcome 1 9", "seen 6"), (6, 9))
+        self.assertEqual(self.see(5, "refused 9 23", "seen 6"), (6, 9))
+
+    def test_at(self) -> None:
+        """Each reply that has a point counts by it, and by no other number of it."""
+        client, service = pair()
+        with client, service:
+            self.assertEqual(client.at, 0)
+            for line, at in [
+                ("nomemory", 0), ("refused 0 23", 0), ("refused 1 23", 1), ("welcome 99 2", 2), ("done 3 99", 3), ("done 1 99", 3), ("allowed 4 99 99", 4),
+                ("denied 5 99 99 99", 5), ("down 6 99", 6), ("refused 7 99", 7), ("seen 8", 8), ("welcome 9 0", 8), ("bad 99", 8), ("nomemory", 8), ("seen 7", 8),
+            ]:  # fmt: skip
+                with self.subTest(line):
+                    service.sendall(encode_reply(line))
+                    client.receive()
+                    self.assertEqual(client.at, at)
+            service.sendall(encode_reply("seen 99")[:-1])
+            service.close()
+            with self.assertRaises(Torn):
+                client.receive()
+            self.assertEqual(client.at, 8)
+        self.assertEqual(client.at, 8)
+
+    def test_at_of_several(self) -> None:
+        """A reply counts when it is given, not when its bytes have come."""
+        client, service = pair()
+        with client, service:
+            service.sendall(encode_reply("seen 2") + encode_reply("refused 2 23"))
+            replies = client.ask_all([See(1), See(3)])
+            self.assertEqual(client.at, 0)
+            self.assertEqual((next(replies), client.at), (Seen(2), 2))
+            service.sendall(encode_reply("done 4 4"))
+            self.assertEqual((list(replies), client.at), ([Refused(2, 23)], 2))
+            self.assertEqual((client.receive(), client.at), (Done(4, 4), 4))
+
+    def test_asking_again(self) -> None:
+        """What nexus_client and README.md say of who learnt of a change elsewhere."""
+        folder = Path(__file__).resolve().parent
+        code = 'while isinstance(told, Refused) and told.name == "NotYet":\n        time.sleep(0.01)\n        told = client.see(at)\n'
+        for name in ["nexus_client.py", "README.md"]:
+            self.assertIn(f"    told = client.see(at)\n    {code}", (folder / name).read_text())
+        for replies, wanted in [
+            (["refused 0 23", "refused 2 23", "seen 3"], 3), (["seen 5"], 5), (["refused 2 23", "refused 2 1"], Refused(2, 1)), (["nomemory"], NoMemory()),
+        ]:  # fmt: skip
+            client, service = pair()
+            with self.subTest(replies[-1]), client, service:
+                service.sendall(b"".join(map(encode_reply, replies)))
+                told = client.see(3)
+                while isinstance(told, Refused) and told.name == "NotYet":
+                    told = client.see(3)
+                self.assertEqual(told, wanted)
+                self.assertEqual(service.recv(1000), encode(See(3)) * len(replies))
+
+    def test_see_at_an_end(self) -> None:
+        client, service = pair()
+        with client:
+            service.close()
+            for _ in range(2):
+                with self.assertRaises(Ended):
+                    client.see(0)
+            self.assertEqual(client.at, 0)
 
 
 class Ends(unittest.TestCase):
@@ -150,7 +255,10 @@ class Ends(unittest.TestCase):
                     self.end_of(data[:cut], Torn)
 
     def test_bad_replies(self) -> None:
-        for row in ["00000000", "00000002", "00000008", "0000000a", "00000022", "ffffffff", "0000000140", "0000000149", "0000000148", "0000000947", "0000001944"]:
+        for row in [
+            "00000000", "00000002", "00000008", "0000000a", "00000022", "ffffffff", "0000000140", "0000000149", "000000014a", "0000000148", "0000000947",
+            "000000094a", "0000001149", "0000001944",
+        ]:  # fmt: skip
             with self.subTest(row):
                 self.end_of(bytes.fromhex(row), BadReply)
 
@@ -189,8 +297,11 @@ class Ends(unittest.TestCase):
         client, service = pair(timeout=0.05)
         with client, service:
             service.sendall(bytes(3))
-            with self.assertRaises(TimedOut):
+            with self.assertRaises(TimedOut) as raised:
                 client.ask(NewObject("f"))
+            with self.assertRaises(TimedOut) as again:
+                client.ask(NewObject("f"))
+            self.assertIs(again.exception, raised.exception)
 
     def test_nothing_taken_in_time(self) -> None:
         client, service = pair(timeout=0.05)
@@ -265,9 +376,9 @@ class Ends(unittest.TestCase):
 
 
 def encode_reply(line: str) -> bytes:
-    """The frame of a reply of the table with this line, or with numbers that this line has."""
+    """The frame of a reply of the table with this line, or with numbers that this line has. Causes, faults and refusals are numbers in it."""
     word, *numbers = line.split()
-    kinds = {"welcome": 65, "done": 66, "nomemory": 71}
+    kinds = {"welcome": 65, "done": 66, "allowed": 67, "denied": 68, "refused": 69, "down": 70, "nomemory": 71, "bad": 72, "seen": 73}
     return frame(kinds[word], *map(int, numbers))
 
 
@@ -364,11 +475,38 @@ class Service(unittest.TestCase):
             self.assertEqual(client.transfer(3, "bob"), Done(9, 0))
             self.assertEqual(client.delete(3), Refused(9, 7))
             self.assertEqual(client.say("alice", "no ("), Refused(9, 15))
+            self.assertEqual(client.see(9), 9)
+            self.assertEqual(client.see(10), Refused(9, 23))
         entries = [
             "object f", "goal write f : alice says ok", "say alice : ok", "proof write f : proof 2 ; 1 label : alice says ok ; end", "bind alice.clock 3",
             "unbind alice.clock", "noproof write f", "nogoal write f", "transfer 3 bob",
         ]  # fmt: skip
         self.assertEqual(self.text(), head + "".join(f"1 alice {entry}\n" for entry in entries) + "end\n")
+
+    def test_see(self) -> None:
+        """Two sessions: what one was told of the other can ask for, and nothing is written of that."""
+        head = "nexus 2\nprincipal alice pa\nprincipal bob pb\n"
+        address = self.start(head + "end\n", workers=2)
+        with connect(address, timeout=20, patience=20) as alice, connect(address, timeout=20, patience=20) as bob:
+            self.assertEqual(bob.see(0), Refused(0, 1))
+            self.assertEqual(bob.hello("alice", "pb"), Refused(0, 3))
+            self.assertEqual(bob.see(1), Refused(0, 1))
+            opened = alice.hello("alice", "pa")
+            assert isinstance(opened, Welcome)
+            self.assertIsInstance(bob.hello("bob", "pb"), Welcome)
+            self.assertEqual((bob.see(0), bob.see(1), bob.see(2**64 - 1), bob.at), (0, Refused(0, 23), Refused(0, 23), 0))
+            for at in range(1, 101):
+                self.assertEqual(alice.say("alice", "ok"), Done(at, at))
+                self.assertEqual((alice.at, bob.at), (at, at - 1))
+                self.assertEqual(bob.see(at + 1), Refused(at, 23))
+                self.assertEqual((bob.see(alice.at), bob.see(0), bob.at), (at, at, at))
+            self.assertEqual(bob.call("read", "f"), Refused(100, 8))
+            requests: list[Request] = [See(100), Say("bob", "ok"), See(101), See(102)]
+            self.assertEqual(list(bob.ask_all(requests)), [Seen(100), Done(101, 101), Seen(101), Refused(101, 23)])
+            self.assertEqual((alice.at, alice.see(bob.at), alice.at), (100, 101, 101))
+        text = self.text()
+        self.assertTrue(text.startswith(head + f"{opened.session} alice say alice : ok\n" * 100))
+        self.assertEqual(text.count("\n"), 3 + 101 + 1)
 
     def test_denials(self) -> None:
         """A line with a fault, a missing label, a port that isn't bound, and an authority that says No."""
@@ -453,9 +591,11 @@ class Service(unittest.TestCase):
         self.text()
 
     def test_what_is_no_frame(self) -> None:
-        """A frame that is too long and one of an unknown kind are told, and the session is over."""
-        address = self.start("nexus 2\nend\n", sessions=3)
-        for data, wanted in [(bytes.fromhex("00008401"), Bad(0)), (frame(13), Bad(4)), (frame(1, "1ob", "pw"), Bad(5))]:
+        """A frame that is too long, one of an unknown kind, and ones with too few or too many fields are told, and the session is over."""
+        address = self.start("nexus 2\nend\n", sessions=5)
+        for data, wanted in [
+            (bytes.fromhex("00008401"), Bad(0)), (frame(14), Bad(4)), (frame(1, "1ob", "pw"), Bad(5)), (frame(13), Bad(5)), (frame(13, 1, 2), Bad(13)),
+        ]:  # fmt: skip
             with connect(address, timeout=20, patience=20) as client:
                 client.send_bytes(data)
                 self.assertEqual(client.receive(), wanted)

@@ -241,13 +241,16 @@ class Verdicts(unittest.TestCase):
         for reply, status in [
             (ALLOWED, 200), (DENIED, 403), (frame(68, 4, 1, 0, 0), 403), (frame(68, 4, 0, 0, 0), 403), (frame(68, 4, 99, 1, 99), 403), (frame(69, 4, 8), 403),
             (frame(69, 4, 1), 503), (frame(69, 4, 2), 503), (frame(69, 4, 3), 503), (frame(69, 4, 99), 503), (frame(70, 4, 1), 503), (frame(71), 503),
-            (frame(72, 0), 503), (WELCOME, 503), (frame(66, 4, 0), 503),
+            (frame(72, 0), 503), (WELCOME, 503), (frame(66, 4, 0), 503), (frame(69, 4, 22), 503), (frame(69, 4, 23), 503), (frame(73, 4), 503),
         ]:  # fmt: skip
             with self.subTest(reply.hex()):
                 self.assertEqual(self.status(WELCOME, reply), status)
 
     def test_no_welcome(self) -> None:
-        for reply, status in [(frame(69, 0, 3), 401), (frame(69, 0, 1), 503), (frame(69, 0, 2), 503), (ALLOWED, 503), (DENIED, 503), (frame(71), 503), (frame(72, 0), 503)]:
+        for reply, status in [
+            (frame(69, 0, 3), 401), (frame(69, 0, 1), 503), (frame(69, 0, 2), 503), (frame(69, 0, 23), 503), (ALLOWED, 503), (DENIED, 503), (frame(71), 503),
+            (frame(72, 0), 503), (frame(73, 0), 503),
+        ]:  # fmt: skip
             with self.subTest(reply.hex()):
                 self.assertEqual(self.status(reply, ALLOWED), status)
 
@@ -391,7 +394,7 @@ class Keeping(unittest.TestCase):
 
     def test_a_session_out_of_step_is_given_up(self) -> None:
         """What answers a call as if it were another request would tell its replies one call late."""
-        for reply in [frame(66, 4, 0), WELCOME, frame(69, 4, 1), frame(72, 0)]:
+        for reply in [frame(66, 4, 0), WELCOME, frame(69, 4, 1), frame(69, 4, 23), frame(72, 0), frame(73, 4)]:
             with self.subTest(reply.hex()), Peer(says(WELCOME, reply, ALLOWED), says(WELCOME, DENIED)) as peer:
                 gate = gate_to(peer.address)
                 self.assertEqual([gate.answer(question()).status for _ in range(2)], [503, 403])
