@@ -140,6 +140,42 @@ records 65536 | "$program" audit >"$work/output"
 expect 'as many records as there may be' 0 'audited 65536'
 records 65537 | "$program" audit >"$work/output"
 expect 'a record too many' 3 'refused line 65542'
+# As many principals as a policy may have, and one more; the first line of the policy is the header.
+principals() {
+    echo 'nexus 2'
+    seq -f 'principal p%.0f s' "$1"
+    echo end
+}
+principals 16384 >"$work/policy"
+"$program" recover <"$work/policy" | cmp -s - "$work/policy" && echo same >"$work/output"
+expect 'as many principals as there may be' 0 same
+principals 16385 | "$program" recover >"$work/output"
+expect 'a principal too many' 3 'refused line 16386'
+{
+    principals 17 | sed '$d'
+    for k in $(seq 16); do seq -f "1 p$k object o${k}x%.0f" 4096; done
+    echo '1 p17 object o'
+    echo end
+} | "$program" recover >"$work/output"
+expect 'an object too many' 3 'refused line 65555'
+# A journal with as many entries as it may have: one more is refused, calls are answered, and nothing is lost.
+{
+    echo 'nexus 2'
+    seq -f 'principal p%.0f s' 65
+    printf '1 p1 %s\n' 'object f' 'goal read f : true' 'proof read f : proof 2 ; 1 true_i : true ; end'
+    seq 4093 | sed 's/.*/1 p1 say p1 : ok/'
+    for k in $(seq 2 64); do seq 4096 | sed "s/.*/1 p$k say p$k : ok/"; done
+    echo end
+} >"$work/policy"
+{ cat "$work/policy"; printf '1 %s\n' 'hello p65 s' 'say p65 : ok' 'see 262144' 'call read f 0'; echo '2 hello p1 s'; echo '2 say p1 : ok'; echo '2 call read f 0'; } | "$program" script >"$work/replies"
+tail -n +8 "$work/replies" | cmp -s - "$work/policy" && head -n 7 "$work/replies" >"$work/output"
+expect 'a full journal' 0 'welcome 2 262144
+refused 262144 JournalFull
+seen 262144
+denied 262144 NoProof
+welcome 3 262144
+refused 262144 Quota
+allowed 262144 0 0'
 head -c 67108865 /dev/zero | tr '\0' a >"$work/large"
 "$program" check <"$work/large" >"$work/output"
 expect 'an input of one byte too many' 3 'refused size'

@@ -1,11 +1,11 @@
 // A load for `nexus serve`: each connection sends DEPTH requests at once, and the next when the replies to all of them were read.
 //
-//   load PLACE CONNECTIONS COUNT DEPTH call|miss|say
+//   load PLACE CONNECTIONS COUNT DEPTH call|miss|say|hello
 //   load PLACE churn
 //
 // PLACE is a port of the loopback, or the path of a local socket.
 // Connection K, of at most 1,024, is principal pN with the secret sN, N being K modulo 60, and asks COUNT times: for a call of `read oN` that is allowed, of `miss oN` that is denied,
-// or to say a label. Prints the requests a second of all connections, and how many microseconds 99 of 100 requests waited at most. With
+// to say a label, or, each time over a connection of its own, to be admitted, once more before all is timed. Prints the requests a second of all connections, and how many microseconds 99 of 100 requests waited at most. With
 // `churn` principal pC says a label and takes it back, 500 changes a second, until it is killed. Ends with 1 at a reply of another kind than the due one.
 #include <arpa/inet.h>
 #include <netinet/tcp.h>
@@ -134,6 +134,15 @@ static void say(struct Frame *frame, const char *name) {
     end(frame);
 }
 
+// Is admitted anew for each request, over a connection of its own.
+static void greet(long k, const char *name, const char *secret) {
+    for (int asked = 0; asked < count; asked++) {
+        double sent = now();
+        close(admit(name, secret));
+        waits[k * count + asked] = now() - sent;
+    }
+}
+
 static void *run(void *number) {
     long k = (long)number;
     char name[8], secret[8], object[8];
@@ -142,6 +151,12 @@ static void *run(void *number) {
     snprintf(name, sizeof name, "p%ld", k % 60);
     snprintf(secret, sizeof secret, "s%ld", k % 60);
     snprintf(object, sizeof object, "o%ld", k % 60);
+    if (strcmp(kind, "hello") == 0) {
+        close(admit(name, secret));
+        pthread_barrier_wait(&admitted);
+        greet(k, name, secret);
+        return NULL;
+    }
     int due = strcmp(kind, "say") == 0 ? DONE : strcmp(kind, "call") == 0 ? ALLOWED : DENIED;
     int link = admit(name, secret);
     if (due == DONE) {

@@ -334,7 +334,7 @@ HELLO = frame(1, "bob", "pw")
 GARBAGE: list[tuple[str, bytes, str | None]] = [
     ("a length that is too large", bytes.fromhex("00008401"), "bad 0"),
     ("a length of 0", bytes(4), "bad 4"),
-    ("an unknown kind", frame(13), "bad 4"),
+    ("an unknown kind", frame(14), "bad 4"),
     ("a name that is none", frame(1, "1ob", "pw"), "bad 5"),
     ("a field that runs past the end", bytes.fromhex("0000000501") + bytes.fromhex("0003626f"), "bad 5"),
     ("a byte behind the last field", bytes([0, 0, 0, HELLO[3] + 1]) + HELLO[4:] + b"!", "bad 14"),
