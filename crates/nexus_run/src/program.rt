@@ -8,7 +8,7 @@ ghost use Rattle.policy_history.specs.Values.{entry_trees};
 ghost use Rattle.told_records.specs.Audited.{AreAudited};
 ghost use Rattle.nexus_serve.specs.Hosting.{kept_of};
 ghost use Rattle.nexus_serve.specs.Services.{IsJournal};
-ghost use Rattle.nexus_serve.specs.TrueReports.{AreTrue};
+ghost use Rattle.nexus_serve.specs.TrueReports.{AreTrue, asked_by};
 ghost use Rattle.verdict_words.specs.Settling.{flat};
 ghost use Rattle.service_commands.specs.Clients.{EndsClient};
 ghost use Rattle.service_commands.specs.Services.{HandsBack};
@@ -85,7 +85,8 @@ where
         (record { input = input.old; output = output; records = records; door = door; panel = panel })
         input.new result }
     ensures earned { (h : Head) (es : List Entry) → IsJournal result.journal h es
-        → (low : ℕ) × AreTrue h (entry_trees es) low (flat result.reports) }
+        → (low : ℕ) × AreTrue h (entry_trees es) low (asked_by P.history result.means)
+        (flat result.reports) }
     ensures audited { HandsBack result.output (λ k. AreAudited (K.faults output) (K.faults k)
         (gained (K.sent output) (K.sent k)) (kept_of result.means)) }
 {

@@ -36,7 +36,7 @@ use Rattle.nexus_serve.specs.Services.{HasSeenAll, IsServed, sessions_of}
 use Rattle.nexus_serve.specs.Workers.{HaveWorked, Stops, Works, nobody, next}
 use Rattle.nexus_serve.specs.Workers as work
 use Rattle.nexus_serve.proofs.Lists.{all_both, all_right, all_unfilter, all_unmap}
-use Rattle.nexus_serve.proofs.TruthOfReports.{IsServedReport, have_served}
+use Rattle.nexus_serve.proofs.TruthOfReports.{IsServedSome, each_served}
 
 -- ---- The sessions are numbered within their workers' numbers
 
@@ -133,16 +133,16 @@ module _ (h : Head) (es : List Entry) where
 -- ---- The policy of the journal
 
 -- each number of a reported session is such a one
-sessions_kept : (h : Head) (opening es : List Entry) (first most : ℕ) (reports : List ReportView) → All (IsServedReport h (length opening) 1) reports → All (HasSeenAll es) reports
+sessions_kept : (h : Head) (opening es : List Entry) (first most : ℕ) (reports : List ReportView) → All (IsServedSome h (length opening) 1) reports → All (HasSeenAll es) reports
     → All (IsBetween first most) reports → 1 ≤ first → most ≤ 2 ^ 64 → All (HasKept h es) (sessions_of reports)
 sessions_kept h opening es first most reports served seen between positive small =
     let Session : ReportView → ℕ = λ report. report.session in
-    let Told : ReportView → Type 0 = IsServedReport h (length opening) 1 in
+    let Told : ReportView → Type 0 = IsServedSome h (length opening) 1 in
     let both = all_both Told (HasSeenAll es) reports served seen in
     let all = all_both (λ report. Told report × HasSeenAll es report) (IsBetween first most) reports both between in
     All-map (HasKept h es) Session reports
     (All-weaker (λ report. (Told report × HasSeenAll es report) × IsBetween first most report) (λ report. HasKept h es (Session report))
-    (λ report it. let from = it.1.0 in let to = it.1.1 in record { entries = own_kept h es report it.0.0.3 it.0.1; first = omega (arith, positive, from); small = omega (arith, small, to) }) reports all)
+    (λ report it. let from = it.1.0 in let to = it.1.1 in record { entries = own_kept h es report it.0.0.1.2 it.0.1; first = omega (arith, positive, from); small = omega (arith, small, to) }) reports all)
 
 -- so each entry of one is kept
 more_kept : (h : Head) (opening es : List Entry) (reports : List ReportView) (more : List Entry) → es ≡ opening ++ more → All (HasKept h es) (sessions_of reports)
@@ -160,7 +160,7 @@ served_written {h} {opening} {es} {Failed} {sessions} {doors} {doors_now} {means
     let (more, is) = served.begins in
     let first = greatest_of (entry_trees opening) + 1 in
     let between = workers_between h (length opening) 1 Failed end first sessions doors doors_now means means_now reports served.worked in
-    let all = sessions_kept h opening es first (first + length doors * sessions) reports (have_served h (length opening) 1 Failed end first sessions doors doors_now means means_now reports served.worked) served.seen between (omega arith) (omega (arith, room)) in
+    let all = sessions_kept h opening es first (first + length doors * sessions) reports (each_served h (length opening) 1 Failed end first sessions doors doors_now means means_now reports served.worked) served.seen between (omega arith) (omega (arith, room)) in
     let behind : drop (length opening) es ≡ more = ap (drop (length opening)) is ∙ drop-append_seam opening more in
     let kept = more_kept h opening es reports more is all (subst (All (λ (e : Entry). Contains (sessions_of reports) e.session)) behind served.made) in
     let trees : entry_trees es ≡ entry_trees opening ++ entry_trees more = ap entry_trees is ∙ map-append entry_tree opening more in

@@ -12,7 +12,7 @@ ghost use Rattle.nx_io.specs.Views.{SinkView, door_view, sink_view};
 ghost use Rattle.nexus_serve.specs.Means.{means_history};
 ghost use Rattle.nexus_serve.specs.Hosting.{kept_of};
 ghost use Rattle.nexus_serve.specs.Services.{IsJournal, Serves};
-ghost use Rattle.nexus_serve.specs.TrueReports.{AreTrue};
+ghost use Rattle.nexus_serve.specs.TrueReports.{AreTrue, asked_between};
 ghost use Rattle.nexus_serve.specs.Inner.Desks.{AreLaid};
 ghost use Rattle.nexus_serve.specs.Inner.Gathering.{nothing};
 
@@ -160,7 +160,9 @@ where
     ensures served { Serves (means_history P.history) sessions journal.head journal.entries (sink_view K.Sink sink)
         (map (door_view D.Door D.Link.Link) doors.items) means.items result }
     ensures earned { (es : List Entry) → IsJournal result.journal journal.head es
-        → AreTrue journal.head (entry_trees es) (length journal.entries) result.reports }
+        → AreTrue journal.head (entry_trees es) (length journal.entries)
+        (asked_between (map (means_history P.history) means.items) (map (means_history P.history) result.means))
+        result.reports }
     ensures audited { IsWritten journal.head (entry_trees journal.entries) → All IsFresh (kept_of means.items)
         → (sink_now : SinkView) → result.sink ≡ Some sink_now
         → AreAudited (K.faults sink) sink_now.faults (gained (K.sent sink) sink_now.sent) (kept_of result.means) }
@@ -200,7 +202,9 @@ where
         (sink_view K.Sink sink)
         (map (door_view D.Door D.Link.Link) doors.items) means.items result }
     ensures earned { (es : List Entry) → IsJournal result.journal journal.head es
-        → AreTrue journal.head (entry_trees es) (length journal.entries) result.reports }
+        → AreTrue journal.head (entry_trees es) (length journal.entries)
+        (asked_between (map (means_history P.history) means.items) (map (means_history P.history) result.means))
+        result.reports }
     ensures audited { IsWritten journal.head (entry_trees journal.entries) → All IsFresh (kept_of means.items)
         → (sink_now : SinkView) → result.sink ≡ Some sink_now
         → AreAudited (K.faults sink) sink_now.faults (gained (K.sent sink) sink_now.sent) (kept_of result.means) }

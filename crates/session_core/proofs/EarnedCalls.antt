@@ -1,7 +1,8 @@
 -- What one call makes true.
-use Rattle.std.proofs.Common.{◌≡◌, ◌<◌, ℕ, List, [], map, take, Some, refl, sym, ap, subst, arith, ◌∙◌}
+use Rattle.std.proofs.Common.{◌≡◌, ◌<◌, ℕ, List, [], length, map, filter, take, Some, refl, sym, ap, subst, arith, ◌∙◌}
 use Rattle.std.specs.Prelude.{slice_get}
-use Rattle.nal_rules.specs.Asking.{Asked, IsAsked, asks_for}
+use Rattle.nal_rules.specs.Asking.{Asked, IsAsked, asks_for, lines_of}
+use Rattle.nal_rules.specs.Faults.{is_ask}
 use Rattle.nal_rules.specs.Numbers.{cause_numbers}
 use Rattle.nal_rules.specs.Verdicts.{CaseTree, IsVerdict}
 use Rattle.nal_rules.specs.declared.verdicts.Cause.{Cause}
@@ -78,15 +79,21 @@ found_of {h} {es} {before} {p} {op} {object} {turn} v = of v.rests v.unasked
 
 -- a case that is allowed is earned
 pub earned_of : {h : Head} {es : List EntryTree} {p : ℕ} {op object : List ℕ} {at : ℕ} {asked : List Ask} → IsFound h es p op object at asked AllowedVerdict → IsEarned h es p op object at asked
-earned_of found = record {
+earned_of {h} {es} {p} {op} {object} {at} {asked} found = record {
   number = found.number;
-  asks = found.asks;
+  count = length (filter is_ask (lines_of (case_at h (state_at h es at) p op found.number)));
   object_is = found.object_is;
-  asked_is = found.asked_is;
+  judged = record { verdict = found.is_verdict; count = refl; asks = found.asks; asked = found.is_asked; told_is = found.asked_is };
   supported = allowed_supported _ _ _ found.is_verdict found.is_asked;
 }
 
 -- a case that is denied is refuted by the numbers of its cause
 pub refuted_of : {h : Head} {es : List EntryTree} {p : ℕ} {op object : List ℕ} {at : ℕ} {asked : List Ask} (reason : Cause) → IsFound h es p op object at asked (DeniedVerdict reason)
     → IsRefuted h es p op object at asked (cause_numbers reason).0 (cause_numbers reason).1 (cause_numbers reason).2
-refuted_of reason found = record { number = found.number; reason = reason; object_is = found.object_is; numbers = refl; told = found.is_verdict }
+refuted_of reason found = record {
+  number = found.number;
+  reason = reason;
+  object_is = found.object_is;
+  numbers = refl;
+  judged = record { verdict = found.is_verdict; count = tt; asks = found.asks; asked = found.is_asked; told_is = found.asked_is };
+}

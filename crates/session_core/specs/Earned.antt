@@ -1,17 +1,15 @@
 -- What the replies of a session mean: the promise of the whole service, reply by reply.
 use Rattle.std.specs.Prelude.{◌≡◌, ◌≤◌, ◌<◌, ◌+◌, ℕ, List, [], ◌++◌, length, map, Option, Some, None, slice_get}
-use Rattle.nal_rules.specs.Asking.{Asked}
 use Rattle.nal_rules.specs.Numbers.{cause_numbers}
-use Rattle.nal_rules.specs.Verdicts.{IsVerdict}
 use Rattle.nal_rules.specs.declared.verdicts.Cause.{Cause}
-use Rattle.nal_rules.specs.declared.verdicts.Verdict.TheVariants.{Denied as DeniedVerdict}
 use Rattle.object_table.specs.Objects.{number_of}
 use Rattle.proof_check.specs.Laws.{IsSupported}
 use Rattle.policy_history.specs.declared.heads.Head.{Head}
 use Rattle.policy_history.specs.Events.{EntryTree, admitted}
 use Rattle.policy_history.specs.Judged.{case_at}
 use Rattle.authority_ask.specs.Panels.{Told}
-use Rattle.guard_core.specs.Judging.{answers_in, told_of}
+use Rattle.guard_core.specs.Judging.{IsJudged}
+use Rattle.guard_core.specs.declared.findings.Finding.TheVariants.{Allowed as AllowedFinding, Denied as DeniedFinding}
 use Rattle.session_wire.specs.declared.requests.Request.{Request}
 use Rattle.session_wire.specs.declared.requests.Request.TheVariants.{Hello, Call, See}
 use Rattle.session_wire.specs.declared.replies.Reply.{Reply}
@@ -24,21 +22,21 @@ use Rattle.session_core.specs.Standing.{Standing}
 use Rattle.session_core.specs.declared.lines.Asking.{Asking}
 use Rattle.session_core.specs.Told.{IsTold, state_at}
 
--- A call of principal p is earned at a length of the history: the object stands there, and the case of p there is supported by what was asked. So the goal in force, the caller's name in place of `?subject`, is derived from labels that the caller holds there and from statements to which authorities answered Yes in this very call
+-- A call of principal p is earned at a length of the history: the object stands there, and the case of p there is allowed, judged with what authorities answered in this very call, of whom exactly that was asked which the case asks for. So the goal in force, the caller's name in place of `?subject`, is derived from labels that the caller holds there and from statements to which authorities answered Yes
 pub record IsEarned (h : Head) (es : List EntryTree) (p : ℕ) (op object : List ℕ) (at : ℕ) (asked : List Told) : Type 0 where
   pub number : ℕ
-  pub asks : List Asked
+  pub count : ℕ
   pub object_is : number_of (state_at h es at).objects object ≡ Some number
-  pub asked_is : asked ≡ map told_of asks
-  pub supported : IsSupported (case_at h (state_at h es at) p op number) asks
+  pub judged : IsJudged (case_at h (state_at h es at) p op number) asked (AllowedFinding count)
+  pub supported : IsSupported (case_at h (state_at h es at) p op number) judged.asks
 
--- The call is denied there by a cause with these numbers: the cause is true of the case, with what authorities answered in this very call, and no earlier one is
+-- The call is denied there by a cause with these numbers: judged with what authorities answered in this very call, of whom exactly that was asked which the case asks for, the cause is true of the case, and no earlier one is
 pub record IsRefuted (h : Head) (es : List EntryTree) (p : ℕ) (op object : List ℕ) (at : ℕ) (asked : List Told) (cause line fault : ℕ) : Type 0 where
   pub number : ℕ
   pub reason : Cause
   pub object_is : number_of (state_at h es at).objects object ≡ Some number
   pub numbers : cause_numbers reason ≡ (cause, line, fault)
-  pub told : IsVerdict (case_at h (state_at h es at) p op number) (answers_in asked) (DeniedVerdict reason)
+  pub judged : IsJudged (case_at h (state_at h es at) p op number) asked (DeniedFinding reason)
 
 -- principal p is the one who was welcomed before request i of session s: with the name and the secret of p
 pub record IsWelcomed (h : Head) (s : ℕ) (requests : List Request) (replies : List Reply) (i p : ℕ) : Type 0 where
@@ -51,7 +49,7 @@ pub record IsWelcomed (h : Head) (s : ℕ) (requests : List Request) (replies : 
   pub welcome : slice_get replies place ≡ Some (Welcome s at)
   pub admitted_is : admitted h.principals name secret ≡ Some p
 
--- Request i is a call of a principal who was welcomed, and at this length of the history, which is none that the session had left behind when it began, what was asked for it makes this true of it
+-- Request i is a call of a principal who was welcomed, and at this length of the history, which is none below `low`, what was asked for it makes this true of it
 pub record IsCallOf (h : Head) (es : List EntryTree) (s low : ℕ) (requests : List Request) (replies : List Reply) (asks : List Told) (i at : ℕ)
     (Truth : ℕ → List ℕ → List ℕ → List Told → Type 0) : Type 0 where
   pub principal : ℕ
@@ -92,7 +90,7 @@ point_of (Down at line) = Some at
 point_of (Seen at) = Some at
 point_of _ = None
 
--- a reply of a session names no point before one that an earlier reply named, and none before what there was as the session began
+-- a reply of a session names no point before one that an earlier reply named, and none below `low`
 abbrev pub PointsRise : ℕ → List Reply → Type 0
 PointsRise low replies =
     (i j a b : ℕ) (reply next : Reply) → i ≤ j → slice_get replies i ≡ Some reply → slice_get replies j ≡ Some next → point_of reply ≡ Some a → point_of next ≡ Some b

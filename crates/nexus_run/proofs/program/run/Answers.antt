@@ -4,7 +4,7 @@ use Rattle.nx_io.specs.Views.{SinkView, sink_view}
 use Rattle.service_commands.proofs.ForCallers.{handed_audited, none_audited, service_audited}
 use Rattle.nexus_run.specs.Runs.{told_by}
 use Rattle.nexus_run.proofs.Running.{handed, none_runs, plain_runs, service_runs, talk_runs}
-use Rattle.nexus_run.proofs.TrueRuns.{no_report_true, service_true}
+use Rattle.nexus_run.proofs.TrueRuns.{no_journal, no_report_true, service_true}
 use Rattle.nexus_run.proofs.program.run.Goals as goal
 
 -- ---- No command
@@ -16,7 +16,7 @@ returns-in_default-clause-runs g c =
     (record { input = c.args.input.now; output = c.args.output; records = c.args.records; door = c.args.door; panel = c.args.panel }) _ c.in_default.ensures)
 
 pub returns-in_default-clause-earned : goal.returns-in_default-clause-earned
-returns-in_default-clause-earned g c = λ h es is. rw c.handed_back.ensures (no_report_true h es _ refl)
+returns-in_default-clause-earned g c = λ h es is. rw c.handed_back.ensures (no_report_true h es _ _ refl refl)
 
 pub returns-in_default-clause-audited : goal.returns-in_default-clause-audited
 returns-in_default-clause-audited g c = rw c.handed_back.ensures (none_audited {P = g.row.P.Denot} {C = g.row.C.Denot} _ _ _ [] refl)
@@ -65,7 +65,7 @@ returns-in-Talk-clause-runs g c =
     c.in-Talk.talk.input c.in-Talk.talk.address.now mine.0 mine.1 c.run_talk.result e.gave e.sent e.untouched e.undialed e.talk e.unused
 
 pub returns-in-Talk-clause-earned : goal.returns-in-Talk-clause-earned
-returns-in-Talk-clause-earned g c = λ h es is. no_report_true h es _ c.run_talk.ensures.unused.1
+returns-in-Talk-clause-earned g c = λ h es is. absurd (no_journal _ h es c.run_talk.ensures.unused.0 is)
 
 pub returns-in-Talk-clause-audited : goal.returns-in-Talk-clause-audited
 returns-in-Talk-clause-audited g c = handed c.run_talk.result.output (λ k grows. none_audited _ _ _ _ c.run_talk.ensures.unused.4) c.run_talk.ensures.sent
@@ -87,7 +87,7 @@ returns-in-Plain-clause-runs g c =
     c.in-Plain.command mine.0 mine.1 _ _ _ _ _ e.gave e.sent e.recorded e.unrecorded e.asked e.untouched e.command e.core_reads_nothing e.drill_reads_nothing e.other_panel)
 
 pub returns-in-Plain-clause-earned : goal.returns-in-Plain-clause-earned
-returns-in-Plain-clause-earned g c = λ h es is. rw c.handed_back-in-Plain.ensures (no_report_true h es _ refl)
+returns-in-Plain-clause-earned g c = λ h es is. rw c.handed_back-in-Plain.ensures (no_report_true h es _ _ refl refl)
 
 pub returns-in-Plain-clause-audited : goal.returns-in-Plain-clause-audited
 returns-in-Plain-clause-audited g c = rw c.handed_back-in-Plain.ensures (none_audited {P = g.row.P.Denot} {C = g.row.C.Denot} _ _ _ [] refl)

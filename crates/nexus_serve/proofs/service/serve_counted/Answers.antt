@@ -3,9 +3,10 @@ use Rattle.std.proofs.lemmas.List.{length-map}
 use Rattle.nx_io.specs.Views.{SinkView, door_view, sink_view}
 use Rattle.policy_history.specs.Values.{entry_trees}
 use Rattle.policy_book.specs.Books.{head_of}
+use Rattle.nexus_serve.specs.Means.{means_history}
 use Rattle.nexus_serve.specs.Services.{no_memory}
 use Rattle.nexus_serve.proofs.AuditOfRecords.{serves_audited, unserved_audited}
-use Rattle.nexus_serve.proofs.TruthOfReports.{none_true, serves_true}
+use Rattle.nexus_serve.proofs.TruthOfReports.{none_true, same_between, serves_true}
 use Rattle.nexus_serve.proofs.service.serve_counted.Goals as goal
 
 pub returns-in-Ok-prepare : goal.returns-in-Ok-prepare
@@ -33,7 +34,7 @@ returns-in-Ok-make g c =
     record {
       served = served;
       audited = λ written fresh sink_now is. serves_audited written (length c.args.doors.items) (length-map c.args.doors.items (door_view g.D.Door g.D.Link.Link)) c.requires.numbers fresh served sink_now is;
-      earned = λ es is. none_true c.args.journal.head (entry_trees es) (length c.args.journal.entries) _ e.back.reports;
+      earned = λ es is. none_true c.args.journal.head (entry_trees es) (length c.args.journal.entries) _ _ e.back.reports (same_between (means_history g.P.Panel.history) _ _ e.back.means_are);
     }
 
 pub returns-in_default-clause-audited : goal.returns-in_default-clause-audited
@@ -41,3 +42,11 @@ returns-in_default-clause-audited g c = λ written fresh sink_now is. unserved_a
 
 pub returns-clause-audited : goal.returns-clause-audited
 returns-clause-audited g c = λ written fresh sink_now is. unserved_audited (sink_view g.K.Sink c.args.sink) sink_now _ _ c.unserved-in-Err.ensures.back.means_are fresh
+
+pub returns-in_default-clause-earned : goal.returns-in_default-clause-earned
+returns-in_default-clause-earned g c = λ es is.
+    none_true c.args.journal.head (entry_trees es) (length c.args.journal.entries) _ _ c.unserved.ensures.back.reports (same_between (means_history g.P.Panel.history) _ _ c.unserved.ensures.back.means_are)
+
+pub returns-clause-earned : goal.returns-clause-earned
+returns-clause-earned g c = λ es is.
+    none_true c.args.journal.head (entry_trees es) (length c.args.journal.entries) _ _ c.unserved-in-Err.ensures.back.reports (same_between (means_history g.P.Panel.history) _ _ c.unserved-in-Err.ensures.back.means_are)
