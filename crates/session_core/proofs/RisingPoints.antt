@@ -16,7 +16,7 @@ use Rattle.session_core.specs.Standing.{Standing, beginning}
 use Rattle.session_core.specs.Told.{Answers, Calls, Changes, GoesUnrecorded, IsTold, Judges, Leads, Turn, verdict_reply}
 use Rattle.session_core.specs.Told as told
 use Rattle.session_core.specs.Earned.{TellsInOrder, TellsWhatLasts, point_of}
-use Rattle.session_core.specs.ToldRows.{SeenTooEarly, entry, f, head, hello, make_f}
+use Rattle.session_core.specs.Inner.ToldRows.{SeenTooEarly, entry, f, head, hello, make_f}
 use Rattle.session_core.proofs.EarnedReplies.{answers_low}
 use Rattle.session_core.proofs.ToldRefusals.{gives_up_silent, misses_low}
 

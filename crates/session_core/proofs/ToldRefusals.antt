@@ -33,7 +33,7 @@ use Rattle.nal_rules.specs.Asking.{asks_for}
 use Rattle.authority_ask.specs.declared.panels.Ask.TheVariants.{Yes}
 use Rattle.proof_store.specs.Cases.{CaseRow}
 use Rattle.proof_lines.specs.declared.rules.Rule.TheVariants.{Label}
-use Rattle.session_core.specs.ToldRows.{YesUsedTwice, asked, asking_entries, asking_head, by_ask, AllowedThenDenied, DeletedStillAllowed, DoneWithoutEntry, FirstCallHits, allowed_entries, alice_says_ok, deleted_entries, f, head, read}
+use Rattle.session_core.specs.Inner.ToldRows.{YesUsedTwice, asked, asking_entries, asking_head, by_ask, AllowedThenDenied, DeletedStillAllowed, DoneWithoutEntry, FirstCallHits, allowed_entries, alice_says_ok, deleted_entries, f, head, read}
 
 -- ---- What a turn leaves
 

@@ -14,7 +14,7 @@ use Rattle.verdict_words.specs.declared.views.Item.TheVariants.{Loaded, Met, Fil
 use Rattle.session_core.specs.Standing.{beginning}
 use Rattle.session_core.specs.Told.{Answers, IsPlaceIn, IsTold, Leads, plain, state_at}
 use Rattle.session_core.specs.Told as told
-use Rattle.session_core.specs.ToldRows.{read, f, make_f, want_ok, say_ok, show_label, say_other, AllowedAndKept, head, entry, place, allowed_entries, allowed_requests, allowed_replies, allowed_steps, behind_call, AllowedAndThenDeleted, deleted_entries, deleted_requests, deleted_replies, deleted_steps, AllowedAndOtherSaid, other_entries, other_requests, other_replies, other_steps}
+use Rattle.session_core.specs.Inner.ToldRows.{read, f, make_f, want_ok, say_ok, show_label, say_other, AllowedAndKept, head, entry, place, allowed_entries, allowed_requests, allowed_replies, allowed_steps, behind_call, AllowedAndThenDeleted, deleted_entries, deleted_requests, deleted_replies, deleted_steps, AllowedAndOtherSaid, other_entries, other_requests, other_replies, other_steps}
 use Rattle.session_core.proofs.WorkedTurns.{on, done, course_leads, IsKnownAt, is_done, is_hit, is_judged, is_missed, is_refused, goes_on, next_state}
 use Rattle.session_core.proofs.WorkedParts.{alice_read, ok_read, other_read, alice_says_ok_read, by_label_read, label_allowed, label_missing, f_made, goal_set, ok_said, label_shown, due, f_due, goal_due, say_due, label_due, delete_due, label_deleted, again_refused, other_due, other_said, no_hit, low, known, allowed_held}
 

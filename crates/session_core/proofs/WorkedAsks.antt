@@ -27,7 +27,7 @@ use Rattle.verdict_words.specs.declared.views.Item.TheVariants.{Loaded, Ran}
 use Rattle.session_core.specs.Standing.{beginning}
 use Rattle.session_core.specs.Told.{IsPlaceIn, Leads, Misses, state_at}
 use Rattle.session_core.specs.Told as told
-use Rattle.session_core.specs.ToldRows.{AskedEachTime, alice, alice_says_ok, asked, asking_entries, asking_head, asking_replies, asking_requests, asking_steps, asks_told, behind_call, bind_alice, by_ask, f, make_f, ok, place, read, show_ask, want_ok}
+use Rattle.session_core.specs.Inner.ToldRows.{AskedEachTime, alice, alice_says_ok, asked, asking_entries, asking_head, asking_replies, asking_requests, asking_steps, asks_told, behind_call, bind_alice, by_ask, f, make_f, ok, place, read, show_ask, want_ok}
 use Rattle.session_core.proofs.OneLineVerdicts.{affirmed_line, ask_fault, case, line, negated_line, undecided}
 use Rattle.session_core.proofs.WorkedTurns.{behind, course_leads, done, is_asked, is_done, is_down, is_given_up, is_missed, next_state, on}
 use Rattle.session_core.proofs.WorkedParts.{alice_read, alice_says_ok_closed, alice_says_ok_read, alice_says_ok_spelled, due, known, one, one_spelled}

@@ -14,7 +14,7 @@ use Rattle.verdict_words.specs.declared.views.Item.TheVariants.{Loaded, Met, Fil
 use Rattle.session_core.specs.Standing.{beginning}
 use Rattle.session_core.specs.Told.{Answers, IsPlaceIn, IsTold, Leads, plain, state_at}
 use Rattle.session_core.specs.Told as told
-use Rattle.session_core.specs.ToldRows.{read, f, make_f, want_ok, show_truth, clear, want_truth, head, entry, place, behind_call, WrongLineKept, wrong_entries, wrong_requests, wrong_replies, wrong_steps, WrongLineAndThenCleared, cleared_entries, cleared_requests, cleared_replies, cleared_steps}
+use Rattle.session_core.specs.Inner.ToldRows.{read, f, make_f, want_ok, show_truth, clear, want_truth, head, entry, place, behind_call, WrongLineKept, wrong_entries, wrong_requests, wrong_replies, wrong_steps, WrongLineAndThenCleared, cleared_entries, cleared_requests, cleared_replies, cleared_steps}
 use Rattle.session_core.proofs.WorkedTurns.{on, done, course_leads, is_done, is_hit, is_judged, is_missed, goes_on, next_state}
 use Rattle.session_core.proofs.WorkedParts.{truth_read, alice_says_ok_read, by_truth_read, truth_wrong, goal_unset, truth_allowed, f_made, goal_set, due, f_due, goal_due, truth_due, truth_shown, clear_due, goal_cleared, truth_goal_due, truth_wanted, no_hit, low, known, allowed_held}
 

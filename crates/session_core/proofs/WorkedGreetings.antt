@@ -11,7 +11,7 @@ use Rattle.policy_history.specs.Judged.{case_at}
 use Rattle.guard_core.specs.declared.findings.Finding.TheVariants.{Denied as DeniedFinding}
 use Rattle.session_core.specs.Told.{state_at}
 use Rattle.session_core.specs.Told as told
-use Rattle.session_core.specs.ToldRows.{GreetedOnce, NotRecordedIsRefused, allowed_entries, entry, f, head, make_f, read, want_truth}
+use Rattle.session_core.specs.Inner.ToldRows.{GreetedOnce, NotRecordedIsRefused, allowed_entries, entry, f, head, make_f, read, want_truth}
 use Rattle.session_core.proofs.OneLineVerdicts.{unset_goal}
 use Rattle.session_core.proofs.ToldRows.{label_at}
 use Rattle.session_core.proofs.WorkedParts.{due, f_due, f_made, label_shown, low, one, truth_read}

@@ -23,7 +23,7 @@ use Rattle.session_core.specs.Standing.{Triple, beginning}
 use Rattle.session_core.specs.Told.{IsPlaceIn, Leads, state_at}
 use Rattle.session_core.specs.Told as told
 use Rattle.session_core.proofs.WorkedTurns.{behind, course_leads, done, goes_on, is_missed, is_done, is_hit, is_judged, next_replay, next_state, on}
-use Rattle.session_core.specs.ToldRows.{OtherRegionLeaves, SameRegionRaises, near_entries, near_requests, near_replies, near_steps, behind_first_call, far_entries, far_requests, far_replies, far_steps, show_object, want_object, head, place, read, entry, object_name, objects_made}
+use Rattle.session_core.specs.Inner.ToldRows.{OtherRegionLeaves, SameRegionRaises, near_entries, near_requests, near_replies, near_steps, behind_first_call, far_entries, far_requests, far_replies, far_steps, show_object, want_object, head, place, read, entry, object_name, objects_made}
 
 abbrev rows : ℕ → List ObjectRow
 rows zero = []

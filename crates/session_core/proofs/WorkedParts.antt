@@ -30,7 +30,7 @@ use Rattle.verdict_words.specs.Answers.{MakesHit}
 use Rattle.verdict_words.specs.Words.{spelling}
 use Rattle.verdict_words.specs.declared.places.Held.{Held}
 use Rattle.session_core.specs.Standing.{Triple}
-use Rattle.session_core.specs.ToldRows.{read, f, alice, make_f, want_ok, say_ok, show_label, say_other, show_truth, clear, want_truth, head, ok, alice_says_ok, by_label, by_truth, other}
+use Rattle.session_core.specs.Inner.ToldRows.{read, f, alice, make_f, want_ok, say_ok, show_label, say_other, show_truth, clear, want_truth, head, ok, alice_says_ok, by_label, by_truth, other}
 use Rattle.session_core.proofs.OneLineVerdicts.{allowed_line, denied_line, label_fault, line, missing_line, truth_fault, unset_goal}
 use Rattle.session_core.proofs.WorkedTurns.{behind}
 

@@ -14,7 +14,7 @@ use Rattle.guard_core.specs.Judging.{IsJudged}
 use Rattle.proof_lines.specs.declared.rules.Rule.TheVariants.{Label}
 use Rattle.session_core.proofs.OneLineVerdicts.{line}
 use Rattle.session_core.proofs.ToldRows.{allowed_hit, allowed_right, deleted_at, label_at}
-use Rattle.session_core.specs.ToldRows.{ChangesAreSeen, later_replies, later_requests, later_steps, read, f, alice_says_ok, head, place, behind_call, deleted_entries}
+use Rattle.session_core.specs.Inner.ToldRows.{ChangesAreSeen, later_replies, later_requests, later_steps, read, f, alice_says_ok, head, place, behind_call, deleted_entries}
 use Rattle.session_core.proofs.WorkedTurns.{is_asked_from, on, done, course_leads, is_hit}
 use Rattle.session_core.proofs.WorkedParts.{one_line, label_allowed, label_missing, label_shown, label_deleted, no_hit, low, known, allowed_held}
 

@@ -4,3 +4,4 @@ pub mod Steps
 pub mod Sittings
 pub mod Knowing
 pub mod Boarding
+pub mod ToldRows

@@ -9,4 +9,3 @@ pub mod Standing
 pub mod Told
 pub mod Served
 pub mod ToldLaws
-pub mod ToldRows

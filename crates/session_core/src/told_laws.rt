@@ -1,7 +1,6 @@
 //! The laws of what a session over a shared board is told.
 ghost use Rattle.session_core.specs.Earned.{TellsInOrder, TellsWhatIsTrue, TellsWhatIsTrueAlone, TellsWhatLasts};
 ghost use Rattle.session_core.specs.ToldLaws.{DownsAreTold, DownsAreToldAlone, NotedStaysNoted, OnlyAllowedRuns, OnlyDoneAdds, ToldStaysTold};
-ghost use Rattle.session_core.specs.ToldRows.{AllowedAndKept, AllowedAndOtherSaid, AllowedAndThenDeleted, AllowedThenDenied, AskedEachTime, ChangesAreSeen, DeletedStillAllowed, DoneWithoutEntry, FirstCallHits, GreetedOnce, NotRecordedIsRefused, OtherRegionLeaves, SameRegionRaises, SeenTooEarly, WrongLineAndThenCleared, WrongLineKept, YesUsedTwice};
 
 /// What is told of a call is true. Each reply that allows one is earned: at the point that it names the goal in force is derived
 /// from labels that the caller holds there and from statements to which authorities answered Yes in this very call. Each reply
@@ -35,32 +34,4 @@ pub fn only_allowed_calls_run_and_only_changes_add()
 pub fn downs_are_told()
     ensures beside { DownsAreTold }
     ensures alone { DownsAreToldAlone }
-{}
-
-/// Sessions of one principal are told so, from their hello on: what is kept, what is looked up, and what is refused. The call does
-/// nothing.
-#[tactic(auto)]
-pub fn worked_sessions_are_told()
-    ensures kept { AllowedAndKept }
-    ensures deleted { AllowedAndThenDeleted }
-    ensures other { AllowedAndOtherSaid }
-    ensures wrong { WrongLineKept }
-    ensures cleared { WrongLineAndThenCleared }
-    ensures far { OtherRegionLeaves }
-    ensures near { SameRegionRaises }
-    ensures asked { AskedEachTime }
-    ensures seen { ChangesAreSeen }
-    ensures greeted { GreetedOnce }
-    ensures unrecorded { NotRecordedIsRefused }
-{}
-
-/// What such a session is never told, whatever was asked and whatever steps it made. The call does nothing.
-#[tactic(auto)]
-pub fn wrong_answers_are_never_told()
-    ensures done { DoneWithoutEntry }
-    ensures first { FirstCallHits }
-    ensures denied { AllowedThenDenied }
-    ensures allowed { DeletedStillAllowed }
-    ensures twice { YesUsedTwice }
-    ensures early { SeenTooEarly }
 {}
