@@ -4,19 +4,19 @@ use Rattle.std.proofs.lemmas.Bool.Decides.{Decides-eqb}
 use Rattle.nal_term.specs.Trees.{FormulaTree}
 use Rattle.nal_term.specs.declared.formulas.Formula.{Formula}
 use Rattle.answer_commands.specs.declared.check_form.Input.{Input}
-use Rattle.answer_commands.specs.declared.check_form.InputError.{InputError}
-use Rattle.answer_commands.specs.declared.check_form.InputError.TheVariants.{Wrong, Memory}
+use Rattle.answer_commands.specs.declared.answering.AnswerError.{AnswerError}
+use Rattle.answer_commands.specs.declared.answering.AnswerError.TheVariants.{Wrong, Memory}
 use Rattle.answer_commands.specs.declared.stages.Progress.{Progress}
 use Rattle.answer_commands.specs.declared.stages.Progress.TheVariants.{HeaderDue, SubjectDue, LabelsDue, YesDue, ProofDue}
-use Rattle.run_streams.specs.declared.outcomes.Outcome.TheVariants.{Refused}
-use Rattle.run_streams.specs.Runs.{most_bytes}
-use Rattle.answer_commands.specs.CheckOutcomes.{IsOutcome}
 use Rattle.text_lines.specs.Lines.{first_line, after_line}
+use Rattle.run_streams.specs.Refusals.{form_of}
+use Rattle.answer_commands.specs.Answers.{IsAnswerError}
+use Rattle.answer_commands.specs.Checks.{HasCheckForm}
 use Rattle.answer_commands.specs.CheckForm.{CheckForm, IsCheckForm, Stage, proof_due, Follows, Reaches, next_line, IsBeforeProof, IsWrongAt, before_proof, in_proof}
 use Rattle.answer_commands.specs.Inner.Forms.{stage_of, IsWrongProof, IsWrongLine}
 
 -- what is wrong in the proof's text is wrong in the input
-pub proof_error : {text rest x : List ℕ} {ls ys : List FormulaTree} {g : FormulaTree} {n : ℕ} (result : Result Input InputError)
+pub proof_error : {text rest x : List ℕ} {ls ys : List FormulaTree} {g : FormulaTree} {n : ℕ} (result : Result Input AnswerError)
     → Reaches text n rest (proof_due x ls ys g) → IfErr result (IsWrongProof rest n) → IfErr result (IsWrongLine text)
 proof_error (Ok i) r w = w
 proof_error (Err (Wrong k)) r w = in_proof w.1 r w.2 w.3 w.4
@@ -59,7 +59,8 @@ pub some_length : (xs : List ℕ) → (length xs == 0) ≡ false → 0 < length 
 some_length [] h = cc
 some_length (x ∷ xs) h = omega arith
 
--- what is wrong in a line is the outcome
-pub wrong_outcome : {text : List ℕ} {error : InputError} {line : ℕ} → error ≡ Wrong line → length text ≤ most_bytes → IsWrongLine text error
-    → (error ≢ Memory → (form : CheckForm) → IsCheckForm text form → ⊥) → IsOutcome text (Refused line)
-wrong_outcome {text = text} e room wrong none = (room, subst (IsWrongLine text) e wrong, none (λ m. absurd (cc (sym m ∙ e))))
+-- why an input was not read is why it has no answer
+pub answer_error : {text : List ℕ} (error : AnswerError) → IsWrongLine text error → (error ≢ Memory → (form : CheckForm) → IsCheckForm text form → ⊥)
+    → IsAnswerError (form_of HasCheckForm IsWrongAt) text error
+answer_error (Wrong k) wrong none = (wrong, λ has. none (λ m. cc m) has.0 has.1)
+answer_error Memory wrong none = tt

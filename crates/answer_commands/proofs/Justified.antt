@@ -15,7 +15,7 @@ use Rattle.nal_rules.specs.declared.verdicts.Verdict.{Verdict}
 use Rattle.nal_rules.specs.declared.verdicts.Verdict.TheVariants.{Allowed, Denied}
 use Rattle.answer_commands.proofs.Verdicts.{in_list, filter_first, filter_later}
 use Rattle.answer_commands.specs.CheckForm.{CheckForm}
-use Rattle.answer_commands.specs.CheckOutcomes.{IsJustifiedIfAllowed}
+use Rattle.answer_commands.specs.CheckVerdicts.{IsJustifiedIfAllowed}
 use Rattle.answer_commands.specs.Inner.Support.{IsUnanswered, IsSupportVerdict}
 
 label_rule : (r : Rule) (refs : List ℕ) (l : LineTree) → l.rule ≡ r → is_label l ≡ true → r ≡ Label

@@ -5,7 +5,5 @@ pub mod Inputs
 pub mod Verdicts
 pub mod OneOutcome
 pub mod Only
-pub mod CheckEnds
 pub mod Justified
-pub mod AnswerEnds
-pub mod ForCallers
+pub mod Statuses

@@ -3,11 +3,14 @@ use Rattle.std.proofs.Common.{◌≡◌, ◌≢◌, ◌↔◌, ◌+◌, ◌++◌
 use Rattle.nal_term.specs.Trees.{FormulaTree}
 use Rattle.proof_lines.specs.Lines.{LineTree}
 use Rattle.nal_rules.specs.declared.verdicts.Verdict.{Verdict}
-use Rattle.run_streams.specs.declared.outcomes.Outcome.TheVariants.{Told, Refused, TooLarge}
+use Rattle.run_streams.specs.declared.refusals.InputRefusal.{InputRefusal}
+use Rattle.run_streams.specs.declared.refusals.InputRefusal.TheVariants.{WrongLine, TooLarge}
+use Rattle.run_streams.specs.Refusals.{IsRefusal}
 use Rattle.text_lines.specs.Lines.{first_line, after_line}
 use Rattle.form_lines.specs.Statements.{IsGoal, IsStatement}
 use Rattle.answer_commands.specs.CheckForm.{CheckForm, Stage, labels_due, yes_due, proof_due, Follows, header, subject, label, first_yes, next_yes, goal, goal_after_yes, Reaches, IsCheckForm, IsStuck, IsBeforeProof, IsLineOfError, IsLineOfSegment, IsWrongAt, before_proof, in_proof}
-use Rattle.answer_commands.specs.CheckOutcomes.{AreAnswers, none, answer, case_of, IsVerdictOn}
+use Rattle.answer_commands.specs.CheckVerdicts.{AreAnswers, none, answer, case_of, IsVerdictOn}
+use Rattle.answer_commands.specs.Checks.{IsChecked, check_command}
 use Rattle.nal_parse.specs.Grammar.{IsFormulaText}
 use Rattle.proof_text.specs.ProofText.{IsProofText, IsRefused}
 use Rattle.nal_rules.specs.Verdicts.{IsVerdict}
@@ -126,16 +129,21 @@ answers_one (answer {b = a} p h) (answer {b = b} q i) = rw (bools_one a b p q, a
 verdicts_one : (form : CheckForm) (v w : Verdict) → IsVerdictOn form v → IsVerdictOn form w → v ≡ w
 verdicts_one form v w a b = one_verdict _ _ v w a.2 (subst (λ answers. IsVerdict (case_of form) answers w) (answers_one b.1 a.1) b.2)
 
+same_verdict : (text : List ℕ) (a b : Verdict) → IsChecked text a → IsChecked text b → a ≡ b
+same_verdict text a b o p =
+    let same = forms_one o.0 p.0 o.1 p.1 in
+    verdicts_one p.0 a b (subst (λ form. IsVerdictOn form a) same o.2) p.2
+
+same_refusal : (text : List ℕ) (a b : InputRefusal) → IsRefusal check_command.form text a → IsRefusal check_command.form text b → a ≡ b
+same_refusal text TooLarge TooLarge o p = refl
+same_refusal text TooLarge (WrongLine k) o p = absurd (omega (arith, o, p.0))
+same_refusal text (WrongLine k) TooLarge o p = absurd (omega (arith, p, o.0))
+same_refusal text (WrongLine k) (WrongLine j) o p = ap WrongLine (wrong_one o.1 p.1)
+
 -- an input has one outcome
 pub one_outcome : OneOutcome
-one_outcome text TooLarge TooLarge o p = refl
-one_outcome text TooLarge (Refused k) o p = absurd (omega (arith, o, p.0))
-one_outcome text TooLarge (Told v) o p = absurd (omega (arith, o, p.0))
-one_outcome text (Refused k) TooLarge o p = absurd (omega (arith, p, o.0))
-one_outcome text (Told v) TooLarge o p = absurd (omega (arith, p, o.0))
-one_outcome text (Refused k) (Refused j) o p = ap Refused (wrong_one o.1 p.1)
-one_outcome text (Refused k) (Told v) o p = absurd (o.2 p.1.0 p.1.1)
-one_outcome text (Told v) (Refused k) o p = absurd (p.2 o.1.0 o.1.1)
-one_outcome text (Told v) (Told w) o p =
-    let same = forms_one o.1.0 p.1.0 o.1.1 p.1.1 in
-    ap Told (verdicts_one p.1.0 v w (subst (λ form. IsVerdictOn form v) same o.1.2) p.1.2)
+one_outcome = record {
+  one_verdict = same_verdict;
+  one_refusal = same_refusal;
+  not_both = λ text k verdict r is. r.2 (is.0, is.1);
+}

@@ -9,8 +9,8 @@ use Rattle.answer_commands.specs.declared.stages.Progress.TheVariants.{HeaderDue
 use Rattle.text_lines.specs.Lines.{first_line, after_line}
 use Rattle.answer_commands.specs.CheckForm.{CheckForm, Stage, header_due, proof_due, Follows, Reaches, start, next_line, IsCheckForm}
 use Rattle.answer_commands.specs.declared.check_form.Input.{Input}
-use Rattle.answer_commands.specs.declared.check_form.InputError.{InputError}
-use Rattle.answer_commands.specs.declared.check_form.InputError.TheVariants.{Memory}
+use Rattle.answer_commands.specs.declared.answering.AnswerError.{AnswerError}
+use Rattle.answer_commands.specs.declared.answering.AnswerError.TheVariants.{Memory}
 use Rattle.answer_commands.specs.Inner.Forms.{form_of, HoldsProof, stage_of}
 use Rattle.answer_commands.proofs.Following.{proof_wrong}
 use Rattle.answer_commands.proofs.Inputs.{empty}
@@ -110,7 +110,7 @@ pub same_form : {x x' : List ℕ} {ls ls' ys ys' : List FormulaTree} {g g' : For
 same_form d e = cc
 
 -- one form is read
-pub proof_only : {text rest x : List ℕ} {ls ys : List FormulaTree} {g : FormulaTree} (result : Result Input InputError) → PassesThrough text rest (proof_due x ls ys g)
+pub proof_only : {text rest x : List ℕ} {ls ys : List FormulaTree} {g : FormulaTree} (result : Result Input AnswerError) → PassesThrough text rest (proof_due x ls ys g)
     → IfOk result (HoldsProof x ls ys g rest) → IfOk result (λ i. (ps : List LineTree) → IsProofText rest ps → ps ≡ line_trees i.proof)
     → IfOk result (λ i. (form : CheckForm) → IsCheckForm text form → form ≡ form_of i)
 proof_only (Ok i) t h o = λ form f.
@@ -119,7 +119,7 @@ proof_only (Ok i) t h o = λ form f.
 proof_only (Err e) t h o = tt
 
 -- where the rest is no proof's text, no form is read
-pub proof_refused : {text rest x : List ℕ} {ls ys : List FormulaTree} {g : FormulaTree} (result : Result Input InputError) → PassesThrough text rest (proof_due x ls ys g)
+pub proof_refused : {text rest x : List ℕ} {ls ys : List FormulaTree} {g : FormulaTree} (result : Result Input AnswerError) → PassesThrough text rest (proof_due x ls ys g)
     → IfErr result (λ e. e ≢ Memory → (ps : List LineTree) → IsProofText rest ps → ⊥) → IfErr result (λ e. e ≢ Memory → (form : CheckForm) → IsCheckForm text form → ⊥)
 proof_refused (Ok i) t w = tt
 proof_refused (Err e) t w = λ n form f. w n form.proof (parts t form f).1

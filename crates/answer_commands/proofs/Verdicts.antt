@@ -23,7 +23,7 @@ use Rattle.proof_check.specs.declared.checks.Checked.{Checked}
 use Rattle.proof_check.specs.declared.checks.CheckError.{CheckError}
 use Rattle.proof_check.specs.declared.checks.CheckError.TheVariants.{Empty, Line as CheckedLine}
 use Rattle.answer_commands.specs.CheckForm.{CheckForm}
-use Rattle.answer_commands.specs.CheckOutcomes.{bound_for, case_of, AreAnswers, none, answer, IsVerdictOn}
+use Rattle.answer_commands.specs.CheckVerdicts.{bound_for, case_of, AreAnswers, none, answer, IsVerdictOn}
 use Rattle.answer_commands.specs.Inner.Support.{IsUnanswered, IsSupportVerdict}
 
 -- whether a formula is one of a list's is decided

@@ -6,7 +6,7 @@ use Rattle.audit_form.specs.Answers.{IsToldOf, told_text}
 use Rattle.audit_form.specs.AuditForm.{AuditTree, IsAuditForm, IsWrongLine}
 use Rattle.audit_form.specs.declared.answers.Told.{Told}
 use Rattle.run_streams.specs.Runs.{SinkRun, SourceRun}
-use Rattle.answer_commands.specs.Answers.{Answering, RunsAnswer, answering}
+use Rattle.run_streams.specs.Ends.{Answering, RunsAnswer, answering}
 use Rattle.run_streams.specs.Refusals.{form_of}
 
 -- the text has the form of an input of `audit`

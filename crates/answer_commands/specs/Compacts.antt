@@ -10,7 +10,7 @@ use Rattle.policy_compaction.specs.Compactions.{IsCompaction}
 use Rattle.policy_compaction.specs.Kept.{compacted, numbers_text}
 use Rattle.run_streams.specs.Refusals.{form_of}
 use Rattle.run_streams.specs.Runs.{IsProperPart, SinkRun, SourceRun}
-use Rattle.answer_commands.specs.Answers.{Answering, IsAnswerOf, RunsAnswer, answering}
+use Rattle.run_streams.specs.Ends.{Answering, IsAnswerOf, RunsAnswer, answering}
 use Rattle.answer_commands.specs.Exports.{HasPolicyForm, IsWrongPolicyLine}
 
 -- the text is that of a policy, and the answer has the text of what is left of it, which reads as that, and the numbers of its labels

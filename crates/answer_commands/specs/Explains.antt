@@ -4,7 +4,7 @@ use Rattle.explain_form.specs.Answers.{IsToldOf}
 use Rattle.explain_form.specs.ExplainForm.{ExplainTree, IsExplainForm, IsWrongLine}
 use Rattle.explain_form.specs.declared.answers.ExplanationText.{ExplanationText}
 use Rattle.run_streams.specs.Runs.{SinkRun, SourceRun}
-use Rattle.answer_commands.specs.Answers.{Answering, RunsAnswer, answering}
+use Rattle.run_streams.specs.Ends.{Answering, RunsAnswer, answering}
 use Rattle.run_streams.specs.Refusals.{form_of}
 
 -- the text has the form of an input of `explain`

@@ -9,7 +9,7 @@ use Rattle.peer_labels.specs.Bundles.{bundle_text}
 use Rattle.run_streams.specs.Refusals.{form_of}
 use Rattle.run_streams.specs.Runs.{SinkRun, SourceRun}
 use Rattle.answer_commands.specs.declared.answers.Exported.{Exported}
-use Rattle.answer_commands.specs.Answers.{Answering, RunsAnswer, answering}
+use Rattle.run_streams.specs.Ends.{Answering, RunsAnswer, answering}
 
 -- the text is that of a policy
 abbrev pub HasPolicyForm : List ℕ → Type 0

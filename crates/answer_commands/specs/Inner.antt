@@ -2,4 +2,3 @@
 pub mod Forms
 pub mod Hashes
 pub mod Support
-pub mod Answering

@@ -1,8 +1,13 @@
--- The law of outcomes.
+-- The law of what `check` comes to.
 use Rattle.std.specs.Prelude.{◌≡◌, ℕ, List}
-use Rattle.run_streams.specs.declared.outcomes.Outcome.{Outcome}
-use Rattle.answer_commands.specs.CheckOutcomes.{IsOutcome}
+use Rattle.nal_rules.specs.declared.verdicts.Verdict.{Verdict}
+use Rattle.run_streams.specs.declared.refusals.InputRefusal.{InputRefusal}
+use Rattle.run_streams.specs.declared.refusals.InputRefusal.TheVariants.{WrongLine}
+use Rattle.run_streams.specs.Refusals.{IsRefusal}
+use Rattle.answer_commands.specs.Checks.{IsChecked, check_command}
 
--- an input has one outcome
-abbrev pub OneOutcome : Type 0
-OneOutcome = (text : List ℕ) (a b : Outcome) → IsOutcome text a → IsOutcome text b → a ≡ b
+-- an input has one verdict, or is refused in one way, and never both
+pub record OneOutcome : Type 0 where
+  pub one_verdict : (text : List ℕ) (a b : Verdict) → IsChecked text a → IsChecked text b → a ≡ b
+  pub one_refusal : (text : List ℕ) (a b : InputRefusal) → IsRefusal check_command.form text a → IsRefusal check_command.form text b → a ≡ b
+  pub not_both : (text : List ℕ) (k : ℕ) (verdict : Verdict) → IsRefusal check_command.form text (WrongLine k) → ¬ IsChecked text verdict

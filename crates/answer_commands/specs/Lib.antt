@@ -1,6 +1,6 @@
 pub mod CheckForm
-pub mod CheckOutcomes
-pub mod CheckRuns
+pub mod CheckVerdicts
+pub mod Checks
 pub mod Laws
 pub mod Answers
 pub mod Trusts

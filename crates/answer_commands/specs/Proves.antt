@@ -4,7 +4,7 @@ use Rattle.proof_lines.specs.Lines.{LineTree}
 use Rattle.prove_form.specs.Answers.{IsTold, found_text}
 use Rattle.prove_form.specs.ProveForm.{ProveForm, IsProveForm, IsWrongLine}
 use Rattle.run_streams.specs.Runs.{SinkRun, SourceRun}
-use Rattle.answer_commands.specs.Answers.{Answering, RunsAnswer, answering}
+use Rattle.run_streams.specs.Ends.{Answering, RunsAnswer, answering}
 use Rattle.run_streams.specs.Refusals.{form_of}
 
 -- the text has the form of an input of `prove`

@@ -6,7 +6,7 @@ use Rattle.policy_history.specs.PolicyTexts.{policy_text}
 use Rattle.journal_text.specs.CutPolicies.{IsWrongCut, ReadsCut}
 use Rattle.journal_text.specs.PolicyText.{Fault}
 use Rattle.run_streams.specs.Runs.{SinkRun, SourceRun}
-use Rattle.answer_commands.specs.Answers.{Answering, RunsAnswer, answering}
+use Rattle.run_streams.specs.Ends.{Answering, RunsAnswer, answering}
 use Rattle.run_streams.specs.Refusals.{form_of}
 
 -- a policy: its head and its accepted changes

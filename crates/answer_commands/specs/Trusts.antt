@@ -5,7 +5,7 @@ use Rattle.trust_check.specs.declared.answers.Trust.TheVariants.{Safe, Label, Go
 use Rattle.trust_form.specs.Answers.{IsTold, trust_text}
 use Rattle.trust_form.specs.TrustForm.{TrustForm, IsTrustForm, IsWrongLine}
 use Rattle.run_streams.specs.Runs.{SinkRun, SourceRun}
-use Rattle.answer_commands.specs.Answers.{Answering, RunsAnswer, answering}
+use Rattle.run_streams.specs.Ends.{Answering, RunsAnswer, answering}
 use Rattle.run_streams.specs.Refusals.{form_of}
 
 -- the text has the form of an input of `trust`

@@ -3,13 +3,13 @@ ghost use Rattle.std.specs.Prelude.{◌≡◌, ◌≢◌, ◌⊎◌, IfErr, IfOk
 ghost use Rattle.nx_io.specs.Streams.{Grows};
 ghost use Rattle.nx_io.specs.Views.{HasGiven};
 ghost use Rattle.run_streams.specs.Runs.{sink_run, source_run};
-ghost use Rattle.answer_commands.specs.Answers.{IsAnswerOf, RunsAnswer, answering};
+ghost use Rattle.run_streams.specs.Ends.{IsAnswerOf, RunsAnswer, answering};
 ghost use Rattle.run_streams.specs.Refusals.{form_of};
-ghost use Rattle.answer_commands.specs.Inner.Answering.{TellsAnswer};
+ghost use Rattle.run_streams.specs.Telling.{Tells};
 ghost use Rattle.run_streams.specs.Inner.Unread.{IsUnread, faults_after_input};
 
-use nx_io::{Bytes, Reach, Sink, Source, send_all};
-use run_streams::{Outcome, ReadError, Unread, read_whole, tell};
+use nx_io::{Bytes, Sink, Source};
+use run_streams::{InputRefusal, ReadError, Unread, read_whole, tell_refusal, tell_text};
 use std::alloc::{AllocError, Global};
 
 /// Why a text has no answer.
@@ -80,7 +80,7 @@ pub fn answer_input<A: Answer + Drop, S: Source, K: Sink>(
 {
     match read_answer::<A, S>(alloc, about, input) {
         Ok(answer) => tell_answer(alloc, output, &answer),
-        Err(Unread::Refused(outcome)) => tell(alloc, output, outcome),
+        Err(Unread::Refused(refusal)) => tell_refusal(alloc, output, refusal),
         Err(Unread::Failed) => 4,
         Err(Unread::Memory) => 6,
     }
@@ -102,29 +102,28 @@ pub fn read_answer<A: Answer + Drop, S: Source>(
     match read_whole(alloc, input) {
         Ok(text) => match A::of(alloc, about, text.as_slice()) {
             Ok(answer) => Ok(answer),
-            Err(AnswerError::Wrong { line }) => Err(Unread::Refused(Outcome::Refused { line })),
+            Err(AnswerError::Wrong { line }) => {
+                Err(Unread::Refused(InputRefusal::WrongLine { line }))
+            }
             Err(AnswerError::Memory) => Err(Unread::Memory),
         },
-        Err(ReadError::TooLarge) => Err(Unread::Refused(Outcome::TooLarge)),
+        Err(ReadError::TooLarge) => Err(Unread::Refused(InputRefusal::TooLarge)),
         Err(ReadError::Failed) => Err(Unread::Failed),
         Err(ReadError::Memory) => Err(Unread::Memory),
     }
 }
 
 /// Writes the answer.
-#[tactic(auto, using(crate::proofs::AnswerEnds::small_status, crate::proofs::AnswerEnds::not_three))]
+#[tactic(auto, using(crate::proofs::Statuses::small_status, crate::proofs::Statuses::not_three))]
 pub fn tell_answer<A: Answer, K: Sink>(alloc: Global, output: &mut K, answer: &A) -> u8
     ensures untouched { (result ≡ 4) ⊎ (result ≡ 6) → output.new ≡ output.old }
     ensures few { result ≢ 3 }
-    ensures told { TellsAnswer A.written A.ends answer.now (K.sent output.old) (K.sent output.new) (K.faults output.old)
-        (K.faults output.new) result }
+    ensures told { Tells (A.written answer.now) (A.ends answer.now) (K.sent output.old) (K.sent output.new)
+        (K.faults output.old) (K.faults output.new) result }
 {
     let status = answer.status();
-    let Ok(text) = answer.output(alloc) else {
-        return 6;
-    };
-    match send_all(output, text.as_slice()) {
-        Reach::Ready => status,
-        Reach::Failed => 5,
+    match answer.output(alloc) {
+        Ok(text) => tell_text(output, text.as_slice(), status),
+        Err(_) => 6,
     }
 }

@@ -1,3 +1,4 @@
+use crate::answering::AnswerError;
 use crate::keys::FormulaKey;
 use crate::places::line_of_error;
 use crate::stages::Progress;
@@ -18,15 +19,6 @@ pub struct Input {
     pub proof: Proof,
 }
 
-/// Why an input was not read.
-#[derive(Clone, Copy, Debug, PartialEq, Eq)]
-pub enum InputError {
-    /// The lowest line that is wrong, or the number after the last where the input ends too early.
-    Wrong { line: u64 },
-    /// There was no memory for what it holds.
-    Memory,
-}
-
 impl Input {
     ghost use Rattle.std.specs.Prelude.{◌≡◌, ◌≢◌, ◌<◌, ◌≤◌, ◌+◌, ◌^◌, List, length, IfOk, IfErr};
     ghost use Rattle.nal_term.specs.Trees.{formula_tree};
@@ -37,12 +29,13 @@ impl Input {
 
     /// Reads an input of `check`. `Wrong` exactly where the text has not its form.
     /// `docs/FORMATS.md`, "The check form", states the form.
-    pub fn read(alloc: Global, text: &[u8]) -> Result<Input, InputError>
+    pub fn read(alloc: Global, text: &[u8]) -> Result<Input, AnswerError>
         requires { length text.now < 2 ^ 31 }
         ensures ok { IfOk result (λ input. IsCheckForm text.now (form_of input)) }
         ensures only { IfOk result (λ input. (form : CheckForm) → IsCheckForm text.now form → form ≡ form_of input) }
         ensures wrong { IfErr result (IsWrongLine text.now) }
-        ensures refused { IfErr result (λ e. e ≢ InputError.Memory → (form : CheckForm) → ¬ IsCheckForm text.now form) }
+        ensures refused { IfErr result
+            (λ e. e ≢ AnswerError.Memory → (form : CheckForm) → ¬ IsCheckForm text.now form) }
     {
         let mut progress = Progress::HeaderDue;
         let mut rest = text;
@@ -54,14 +47,14 @@ impl Input {
                 }
                 other => {
                     if rest.is_empty() {
-                        return Err(InputError::Wrong { line: lines + 1 });
+                        return Err(AnswerError::Wrong { line: lines + 1 });
                     }
                     match other.after(alloc, first_line(rest).0) {
                         Ok(next) => next,
                         Err(LineError::Wrong) => {
-                            return Err(InputError::Wrong { line: lines + 1 });
+                            return Err(AnswerError::Wrong { line: lines + 1 });
                         }
-                        Err(LineError::Memory) => return Err(InputError::Memory),
+                        Err(LineError::Memory) => return Err(AnswerError::Memory),
                     }
                 }
             };
@@ -78,7 +71,7 @@ impl Input {
         goal: Formula,
         rest: &[u8],
         lines: u64,
-    ) -> Result<Input, InputError>
+    ) -> Result<Input, AnswerError>
         requires room { lines < 2 ^ 31 }
         requires short { length rest.now < 2 ^ 31 }
         ensures ok { IfOk result
@@ -86,7 +79,8 @@ impl Input {
         ensures only { IfOk result
             (λ input. (ls : List LineTree) → IsProofText rest.now ls → ls ≡ line_trees input.proof) }
         ensures wrong { IfErr result (IsWrongProof rest.now lines) }
-        ensures refused { IfErr result (λ e. e ≢ InputError.Memory → (ls : List LineTree) → ¬ IsProofText rest.now ls) }
+        ensures refused { IfErr result
+            (λ e. e ≢ AnswerError.Memory → (ls : List LineTree) → ¬ IsProofText rest.now ls) }
     {
         match read_proof(alloc, rest) {
             Ok(proof) => Ok(Input {
@@ -97,8 +91,8 @@ impl Input {
                 proof,
             }),
             Err(error) => match error {
-                ProofError::Memory => Err(InputError::Memory),
-                _ => Err(InputError::Wrong {
+                ProofError::Memory => Err(AnswerError::Memory),
+                _ => Err(AnswerError::Wrong {
                     line: lines + line_of_error(rest, error),
                 }),
             },

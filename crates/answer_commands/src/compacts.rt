@@ -3,13 +3,13 @@ ghost use Rattle.std.specs.Prelude.{◌≡◌, ◌≢◌, ◌⊎◌, IfErr, IfOk
 ghost use Rattle.nx_io.specs.Streams.{Grows};
 ghost use Rattle.nx_io.specs.Views.{HasGiven};
 ghost use Rattle.run_streams.specs.Runs.{sink_run, source_run};
-ghost use Rattle.answer_commands.specs.Answers.{IsAnswerOf, RunsAnswer};
+ghost use Rattle.run_streams.specs.Ends.{IsAnswerOf, RunsAnswer};
 ghost use Rattle.answer_commands.specs.Compacts.{RunsCompact, compact_command};
 
 use crate::answering::{read_answer, tell_answer};
 use nx_io::{Reach, Sink, Source, send_all};
 use policy_compaction::Compacted;
-use run_streams::{Unread, tell};
+use run_streams::{Unread, tell_refusal};
 use std::alloc::Global;
 
 /// Reads a policy, writes the policy of its entries that still matter to the output, and then the old and the new numbers of its labels
@@ -68,7 +68,7 @@ fn compact_text<S: Source, K: Sink>(
                 Err(status)
             }
         }
-        Err(Unread::Refused(outcome)) => Err(tell(alloc, output, outcome)),
+        Err(Unread::Refused(refusal)) => Err(tell_refusal(alloc, output, refusal)),
         Err(Unread::Failed) => Err(4),
         Err(Unread::Memory) => Err(6),
     }

@@ -2,7 +2,7 @@ ghost use Rattle.std.specs.Prelude.{◌↔◌, IfOk, IsTrue, MatchOption, ℕ};
 ghost use Rattle.proof_lines.specs.Lines.{line_trees};
 ghost use Rattle.nal_rules.specs.Verdicts.{IsLowest, IsMissingLabel};
 ghost use Rattle.answer_commands.specs.Inner.Forms.{form_of, formula_trees};
-ghost use Rattle.answer_commands.specs.CheckOutcomes.{IsJustifiedIfAllowed, IsVerdictOn};
+ghost use Rattle.answer_commands.specs.CheckVerdicts.{IsJustifiedIfAllowed, IsVerdictOn};
 ghost use Rattle.answer_commands.specs.Inner.Support.{IsSupportVerdict, IsUnanswered};
 
 use crate::check_form::Input;

@@ -16,7 +16,6 @@ mod stages;
 
 pub use answering::{Answer, AnswerError, answer_input};
 pub use answers::{Exported, Found, Recovered};
-pub use checks::check;
 pub use compacts::compact;
 pub use exports::export;
 pub use laws::an_input_has_one_outcome;

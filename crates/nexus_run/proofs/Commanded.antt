@@ -1,5 +1,5 @@
 -- What a run of a command is, by the words that call it, and where there was no memory for them.
-use Rattle.std.proofs.Common.{◌≡◌, inl, ℕ, List, [], Option, None, refl, sym, ap, subst, ◌∙◌}
+use Rattle.std.proofs.Common.{◌≡◌, inr, ℕ, List, [], Option, None, refl, sym, ap, subst, ◌∙◌}
 use Rattle.policy_history.specs.Values.{History}
 use Rattle.nx_io.specs.Streams.{gained}
 use Rattle.run_streams.specs.Runs.{SinkRun, SourceRun}
@@ -9,13 +9,11 @@ use Rattle.nexus_run.specs.Commands.{IsWithin, command_words, core_words, drill_
 use Rattle.nexus_run.specs.Commanded.{RunsCommand, RunsLasting}
 use Rattle.nexus_run.specs.Lasting.{EndsLasting, undone}
 use Rattle.nexus_run.specs.LoadRuns.{no_memory as load_memory}
-use Rattle.answer_commands.specs.CheckRuns.{no_memory as check_memory}
 use Rattle.answer_commands.specs.Compacts.{unwritten}
-use Rattle.script_command.specs.Scripts.{IsIdle, PanelRun, no_memory as script_memory}
-use Rattle.answer_commands.specs.Answers.{no_memory as answer_memory}
-use Rattle.answer_commands.proofs.ForCallers.{runs_answer, runs_check}
+use Rattle.script_command.specs.Scripts.{IsIdle, PanelRun, unanswered}
+use Rattle.run_streams.specs.Ends.{no_memory as answer_memory}
 use Rattle.nexus_run.proofs.LoadEnds.{runs_load}
-use Rattle.run_streams.proofs.ForCallers.{apart}
+use Rattle.run_streams.proofs.ForCallers.{apart, runs_answer}
 use Rattle.script_command.proofs.ForCallers.{runs_script}
 use Rattle.nexus_run.proofs.FirstWords.{told}
 use Rattle.nexus_run.proofs.Words.{core_same, drill_same}
@@ -75,18 +73,18 @@ not_done {sink = sink} {status = status} six runs = record { written = status; f
 module _ (source : SourceRun) (sink records : SinkRun) (synced : Type 0) (panel : PanelRun) (status : ℕ) (six : status ≡ 6) (idle : IsIdle panel) (none : sink.sent ≡ []) (still : source.faults_now ≡ source.faults)
     (still_too : sink.faults_now ≡ sink.faults) (unrecorded : records.sent ≡ []) (still_there : records.faults_now ≡ records.faults) where
   pub memory_commanded : (command : Command) → RunsCommand command source sink records synced panel None status
-  memory_commanded Check = runs_check (check_memory six none still still_too)
-  memory_commanded Script = not_done six (runs_script (script_memory six (inl idle) refl none still still_too))
-  memory_commanded Trust = runs_answer (λ answer is e three. apart status 6 3 six three refl) (answer_memory six none still still_too)
-  memory_commanded Prove = runs_answer (λ answer is e three. apart status 6 3 six three refl) (answer_memory six none still still_too)
-  memory_commanded Audit = runs_answer (λ answer is e three. apart status 6 3 six three refl) (answer_memory six none still still_too)
-  memory_commanded Explain = runs_answer (λ answer is e three. apart status 6 3 six three refl) (answer_memory six none still still_too)
-  memory_commanded Recover = not_done six (runs_answer (λ answer is e three. apart status 6 3 six three refl) (answer_memory six none still still_too))
+  memory_commanded Check = runs_answer (λ answer is e three. apart status 6 3 six three refl) (inr (answer_memory six none still still_too))
+  memory_commanded Script = not_done six (runs_script (unanswered (answer_memory six none still still_too) idle refl))
+  memory_commanded Trust = runs_answer (λ answer is e three. apart status 6 3 six three refl) (inr (answer_memory six none still still_too))
+  memory_commanded Prove = runs_answer (λ answer is e three. apart status 6 3 six three refl) (inr (answer_memory six none still still_too))
+  memory_commanded Audit = runs_answer (λ answer is e three. apart status 6 3 six three refl) (inr (answer_memory six none still still_too))
+  memory_commanded Explain = runs_answer (λ answer is e three. apart status 6 3 six three refl) (inr (answer_memory six none still still_too))
+  memory_commanded Recover = not_done six (runs_answer (λ answer is e three. apart status 6 3 six three refl) (inr (answer_memory six none still still_too)))
   memory_commanded Compact = not_done six (record {
     text_status = 6;
-    text = runs_answer (λ answer is e three. apart 6 6 3 refl three refl) (answer_memory refl none still still_too);
+    text = runs_answer (λ answer is e three. apart 6 6 3 refl three refl) (inr (answer_memory refl none still still_too));
     numbers = unwritten (λ z. apart 6 6 0 refl z refl) six unrecorded still_there;
   })
-  memory_commanded (Export name) = runs_answer (λ answer is e three. apart status 6 3 six three refl) (answer_memory six none still still_too)
+  memory_commanded (Export name) = runs_answer (λ answer is e three. apart status 6 3 six three refl) (inr (answer_memory six none still still_too))
   memory_commanded (Core number steps) = runs_load (load_memory six none still_too)
   memory_commanded (Drill number workers calls) = runs_load (load_memory six none still_too)

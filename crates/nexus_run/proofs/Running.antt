@@ -5,6 +5,7 @@ use Rattle.nx_io.specs.Views.{HasGiven, door_view, link_view, recorder_view, sin
 use Rattle.nx_io.proofs.ForCallers.{gained-nothing, gave-nothing, grows-nothing}
 use Rattle.std.specs.Prelude.{length, option_map}
 use Rattle.policy_history.specs.Values.{History}
+use Rattle.run_streams.specs.Ends.{no_memory}
 use Rattle.run_streams.specs.Runs.{SourceRun, sink_run, source_run}
 use Rattle.nexus_client.specs.declared.inputs.TalkInput.{TalkInput}
 use Rattle.script_command.specs.Scripts.{HasMore, panel_run}
@@ -202,8 +203,8 @@ module _ {S K C D L P : Type 0} (t : Tellers S K C D L P) (words : List (List �
   pub no_memory_runs : Runs t words before before.input (all_back 6)
   no_memory_runs = idle 6 (record {
     plain = λ command are is. memory_commanded _ _ _ _ _ _ refl refl (gained-nothing (t.output.sent before.output)) refl refl (gained-nothing (t.records.sent before.records)) refl command;
-    talk = λ talk address is address_is. runs_client (talks.no_memory refl refl refl (gained-nothing (t.output.sent before.output)) refl refl);
-    serve = λ a m n p r is within. runs_service t.panel _ _ _ _ _ _ _ (service.no_memory refl (unbegun r) refl refl);
+    talk = λ talk address is address_is. runs_client (talks.undialed refl refl (no_memory refl (gained-nothing (t.output.sent before.output)) refl refl));
+    serve = λ a m n p r is within. runs_service t.panel _ _ _ _ _ _ _ (service.unbegun (sink_view t.output before.output) (unbegun r) refl (grows-nothing (t.output.sent before.output)) (λ failed. refl) (no_memory refl (gained-nothing (t.output.sent before.output)) refl refl));
   })
     where
       unbegun : (recorded : Bool) → IsUnbegun (door_view t.door t.link before.door) before.panel (only_where recorded (Some (recorder_view t.records t.recorder before.records)))

@@ -21,7 +21,4 @@ service_more (service.hosted head opening written end policy still (host.unready
 service_more (service.hosted head opening written end policy still (host.unready lent status idle (host.no_panel no_door few none same called kept))) = (_, called)
 service_more (service.hosted head opening written end policy still (host.unready lent status idle (host.no_recorder no_door all same called held))) = (_, called)
 service_more (service.hosted head opening written end policy still (host.unready lent status idle (host.no_door few all all_lent called_door called kept))) = (_, called)
-service_more {panel = panel} (service.refused outcome sink_now status refusal unbegun output sends still still_sink) = more_nothing (ap panel unbegun.panel_is)
-service_more {panel = panel} (service.refusal_cut_off outcome sink_now status refusal unbegun output sends still rose) = more_nothing (ap panel unbegun.panel_is)
-service_more {panel = panel} (service.source_failed status unbegun output rose) = more_nothing (ap panel unbegun.panel_is)
-service_more {panel = panel} (service.no_memory status unbegun output still) = more_nothing (ap panel unbegun.panel_is)
+service_more {panel = panel} (service.unbegun sink_now idle output grows kept ends) = more_nothing (ap panel idle.panel_is)

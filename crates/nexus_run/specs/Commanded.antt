@@ -9,7 +9,7 @@ use Rattle.nexus_run.specs.LoadRuns.{RunsCore, RunsDrill}
 use Rattle.answer_commands.specs.Audits.{RunsAudit}
 use Rattle.answer_commands.specs.Explains.{RunsExplain}
 use Rattle.answer_commands.specs.Exports.{RunsExport}
-use Rattle.answer_commands.specs.CheckRuns.{RunsCheck}
+use Rattle.answer_commands.specs.Checks.{RunsCheck}
 use Rattle.answer_commands.specs.Compacts.{RunsCompact}
 use Rattle.answer_commands.specs.Proves.{RunsProve}
 use Rattle.answer_commands.specs.Recovers.{RunsRecover}

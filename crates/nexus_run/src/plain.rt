@@ -10,10 +10,11 @@ ghost use Rattle.script_command.specs.Scripts.{HasMore, panel_run};
 
 use crate::commands::Command;
 use crate::load::{drill, load};
-use answer_commands::{Found, Recovered, answer_input, check, compact, export};
+use answer_commands::{Found, Recovered, answer_input, compact, export};
 use audit_form::Told;
 use authority_ask::Panel;
 use explain_form::ExplanationText;
+use nal_rules::Verdict;
 use nx_io::{Reach, Sink, Source};
 use script_command::{PlainEnd, script};
 use std::alloc::Global;
@@ -76,7 +77,7 @@ where
 {
     match command {
         Command::Check => PlainEnd {
-            status: check(alloc, input, output),
+            status: answer_input::<Verdict, S, K>(alloc, &(), input, output),
             journal: None,
             panel,
         },

@@ -1,7 +1,8 @@
 // What no clause says of readers, writers and arguments: only what was given, and which faults were counted.
-use answer_commands::check;
+use answer_commands::answer_input;
+use nal_rules::Verdict;
 use nexus_run::{SystemArguments, texts, words_of_call};
-use nx_io::{Discard, MemSource, StdSink, StdSource};
+use nx_io::{Discard, MemSource, Sink, Source, StdSink, StdSource};
 use std::alloc::{AllocError, Global};
 use std::env::FillError;
 use std::io::{self, ErrorKind, Read, Write};
@@ -34,6 +35,11 @@ impl Read for Scripted {
         buffer[..count].copy_from_slice(&part.as_bytes()[..count]);
         Ok(count)
     }
+}
+
+// A run of `check`.
+fn check<S: Source, K: Sink>(alloc: Global, input: &mut S, output: &mut K) -> u8 {
+    answer_input::<Verdict, S, K>(alloc, &(), input, output)
 }
 
 // How often a run of `check` over such a reader found it failing, behind its status.

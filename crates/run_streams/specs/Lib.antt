@@ -1,6 +1,6 @@
 pub mod Reading
 pub mod Runs
-pub mod Outcomes
 pub mod Refusals
+pub mod Ends
 pub mod Telling
 pub mod Inner

@@ -1,8 +1,9 @@
 -- What the input of a command is refused for: it is too large, or has not the form.
-use Rattle.std.specs.Prelude.{◌≡◌, ◌≢◌, ◌⊎◌, ◌↔◌, ◌<◌, ◌≤◌, ℕ, List, length}
+use Rattle.std.specs.Prelude.{◌≡◌, ◌≢◌, ◌⊎◌, ◌↔◌, ◌<◌, ◌≤◌, ◌∷◌, ◌++◌, [], ℕ, List, Some, codes, length}
+use Rattle.std.specs.Fmt.{decimal}
 use Rattle.run_streams.specs.Runs.{IsReadWhole, SourceRun, most_bytes}
-use Rattle.run_streams.specs.declared.outcomes.Outcome.{Outcome}
-use Rattle.run_streams.specs.declared.outcomes.Outcome.TheVariants.{Told, Refused, TooLarge}
+use Rattle.run_streams.specs.declared.refusals.InputRefusal.{InputRefusal}
+use Rattle.run_streams.specs.declared.refusals.InputRefusal.TheVariants.{WrongLine, TooLarge}
 
 -- a form of inputs: which texts have it, and which line of another text is the lowest that is wrong
 pub record Form : Type 1 where
@@ -12,16 +13,21 @@ pub record Form : Type 1 where
 abbrev pub form_of : (List ℕ → Type 0) → (List ℕ → ℕ → Type 0) → Form
 form_of formed wrong = record { formed = formed; wrong = wrong }
 
--- what is written of an input that is refused: it is too large, or this line is the lowest that is wrong
-abbrev pub IsRefusal : Form → List ℕ → Outcome → Type 0
+-- an input that is refused is too large, or this line is the lowest that is wrong
+abbrev pub IsRefusal : Form → List ℕ → InputRefusal → Type 0
 IsRefusal form text TooLarge = most_bytes < length text
-IsRefusal form text (Refused k) = (length text ≤ most_bytes) × form.wrong text k × ¬ form.formed text
-IsRefusal form text (Told verdict) = ⊥
+IsRefusal form text (WrongLine k) = (length text ≤ most_bytes) × form.wrong text k × ¬ form.formed text
 
--- the input is the bytes that the source gave, and it gave all, but for an input that is too large
-pub record IsRefusalOf (form : Form) (source : SourceRun) (outcome : Outcome) : Type 0 where
-  pub refusal : IsRefusal form source.given outcome
-  pub whole : outcome ≢ TooLarge → IsReadWhole source
+-- the line that is written of a refusal
+abbrev pub refusal_text : InputRefusal → List ℕ
+refusal_text (WrongLine k) = codes "refused line " ++ decimal k ++ 10 ∷ []
+refusal_text TooLarge = codes "refused size" ++ 10 ∷ []
+
+-- The bytes that the source gave are refused, and so are those that it had, where it knew them; and it gave all, but for an input that is too large.
+pub record IsRefusalOf (form : Form) (source : SourceRun) (refusal : InputRefusal) : Type 0 where
+  pub given : IsRefusal form source.given refusal
+  pub known : (text : List ℕ) → source.known ≡ Some text → IsRefusal form text refusal
+  pub whole : refusal ≢ TooLarge → IsReadWhole source
 
 -- an input that is refused: it is too large, or has not the form
 abbrev pub IsRefusedInput : Form → List ℕ → Type 0

@@ -1,13 +1,13 @@
-//! The input and the output of a run: a source is read whole, what is told of an input that is judged or refused is written, and what
-//! was read and written is told.
+//! The input and the output of a run: a source is read whole, an answer to it or its refusal is written, and what was read and written
+//! is told.
 #![tactic(auto)]
 
 mod input;
-mod outcomes;
+mod refusals;
 mod telling;
 mod unread;
 
 pub use input::{ReadError, read_whole};
-pub use outcomes::Outcome;
-pub use telling::tell;
+pub use refusals::InputRefusal;
+pub use telling::{tell_refusal, tell_text};
 pub use unread::Unread;

@@ -22,22 +22,25 @@ use Rattle.policy_script.specs.declared.input.ScriptError.{ScriptError}
 use Rattle.policy_script.specs.declared.input.ScriptError.TheVariants.{Wrong, Memory}
 use Rattle.policy_script.specs.Inner.Reading.{IsWrongInput}
 use Rattle.run_streams.specs.Runs.{SinkRun, SourceRun, most_bytes}
-use Rattle.run_streams.proofs.ForCallers.{read_whole, not_refused, refusal_status, refused_by, apart}
-use Rattle.run_streams.specs.declared.outcomes.Outcome.{Outcome}
-use Rattle.run_streams.specs.declared.outcomes.Outcome.TheVariants.{Refused}
-use Rattle.run_streams.specs.Outcomes.{output_of}
-use Rattle.run_streams.specs.Refusals.{IsRefusal, IsRefusalOf, RefusesExactly}
-use Rattle.script_command.specs.Scripts.{EndsScript, answered, cut_off, refused, refusal_cut_off, source_failed, unreached, no_memory, HasAsked, HasMore, IsAnswered, IsCompleteScript, IsIdle, IsScriptOf, PanelRun, RunsScript, panel_run, script_form}
-use Rattle.run_streams.specs.Telling.{Tells, whole, part, nothing}
+use Rattle.run_streams.specs.declared.refusals.InputRefusal.TheVariants.{WrongLine}
+use Rattle.run_streams.specs.Refusals.{IsRefusal, RefusesExactly}
+use Rattle.run_streams.specs.Ends.{IsAnswerOf, cut_off, whole}
+use Rattle.run_streams.proofs.ForCallers.{answer_complete, answer_refuses, apart, not_refused, read_whole, unanswered_refuses}
+use Rattle.script_command.specs.Scripts.{EndsScript, answered, unanswered, unreached, no_memory, HasAsked, HasMore, IsAnswered, IsCompleteScript, IsScriptOf, PanelRun, RunsScript, panel_run, script_command, script_form}
 use Rattle.script_command.specs.Inner.ScriptEnds.{script_of, AreAnswered, EndsReached, replied, replied_in_part, not_replied, EndsReplies, reached_and_replied, reached_and_replied_in_part, not_reached, reached_and_not_replied, EndsAnswers, answered as was_answered, cut_off as was_cut_off, unreached as was_unreached, no_memory as had_no_memory}
+
+-- what was answered is the answer to the input
+script_answer : {source : SourceRun} {panel : PanelRun} {journal : Option History} {text : List ℕ} (script : ScriptTree) → IsScriptOf source script → IsAnswered script panel journal text
+    → IsAnswerOf (script_command panel journal) source text
+script_answer script of_source a = record { small = of_source.form.0; formed = (script, of_source.form); told = (script, of_source.form, a); whole = of_source.whole }
 
 -- an input in its form that was read whole ends as its answers do
 pub answers_end : (source : SourceRun) (sink : SinkRun) (panel : PanelRun) (journal : Option History) (status : ℕ) (script : ScriptTree) → IsScriptOf source script
     → source.faults_now ≡ source.faults → EndsAnswers script sink panel journal status → EndsScript source sink panel journal status
-answers_end source sink panel journal status script of_source still (was_answered e a f) = answered script e of_source a still f
-answers_end source sink panel journal status script of_source still (was_cut_off text e a p f) = cut_off script text e of_source a p still f
+answers_end source sink panel journal status script of_source still (was_answered e a f) = answered (whole sink.sent e (script_answer script of_source a) refl still f)
+answers_end source sink panel journal status script of_source still (was_cut_off text e a p f) = answered (cut_off text e (script_answer script of_source a) p still f)
 answers_end source sink panel journal status script of_source still (was_unreached e u j s f) = unreached script e of_source u j s still f
-answers_end source sink panel journal status script of_source still (had_no_memory said e a for j s f) = no_memory e (inr (script, said, of_source, a, for)) j s still f
+answers_end source sink panel journal status script of_source still (had_no_memory said e a for j s f) = no_memory script said e of_source a for j s still f
 
 -- what was answered, and its text
 pub are_answered : (journal last : History) (askings : List Asking) (first : ℕ) (before now : PanelHistory) (replies : List Reply) (text : List ℕ)
@@ -111,39 +114,24 @@ script_given source left_now script bytes taken same over end form =
 
 -- a text in which a line is wrong is refused
 pub wrong_refusal : {text : List ℕ} {error : ScriptError} {k : ℕ} → error ≡ Wrong k → length text ≤ most_bytes → IsWrongInput text error
-    → (error ≢ Memory → (script : ScriptTree) → ¬ IsScript text script) → IsRefusal script_form text (Refused k)
+    → (error ≢ Memory → (script : ScriptTree) → ¬ IsScript text script) → IsRefusal script_form text (WrongLine k)
 wrong_refusal {text = text} {k = k} e small w no_form = (small, subst (IsWrongInput text) e w, λ has. no_form (λ m. cc (sym e ∙ m)) has.0 has.1)
-
--- a refusal that was told ends the run
-pub refusal_ends : (source : SourceRun) (panel : PanelRun) (journal : Option History) (status : ℕ) (outcome : Outcome) (before now : List ℕ) (u v : ℕ)
-    → IsRefusalOf script_form source outcome → source.faults_now ≡ source.faults → IsIdle panel → journal ≡ None → Tells outcome before now u v status
-    → EndsScript source (record { sent = gained before now; faults = u; faults_now = v }) panel journal status
-refusal_ends source panel journal status outcome before now u v r still i j (whole e w f) =
-    refused outcome (e ∙ refusal_status script_form source.given outcome r.refusal) r i j (gained-by before now (output_of outcome) w) still f
-refusal_ends source panel journal status outcome before now u v r still i j (part e w f) = refusal_cut_off outcome e r i j (w.0, w.1, gained-by before now _ w.2) still f
-refusal_ends source panel journal status outcome before now u v r still i j (nothing e w f) = no_memory e (inl i) j (rw w (gained-nothing before)) still f
 
 complete : (source : SourceRun) (sink : SinkRun) (panel : PanelRun) (journal : Option History) (status : ℕ) → EndsScript source sink panel journal status
     → IsCompleteScript source sink panel journal status
-complete source sink panel journal status (answered script e s a f g) = λ p q r form. inr (e, script, s, a)
-complete source sink panel journal status (cut_off script text e s a cut f g) = λ p q r form. absurd (q (rw g (omega arith)))
-complete source sink panel journal status (refused outcome e r i j s f g) = λ p q t form. absurd (form (refused_by script_form source.given outcome r.refusal))
-complete source sink panel journal status (refusal_cut_off outcome e r i j s f g) = λ p q t form. absurd (q (rw g (omega arith)))
-complete source sink panel journal status (source_failed e i j s f g) = λ p q r form. absurd (p (rw f (omega arith)))
-complete source sink panel journal status (unreached script e s u j n f g) = λ p q r form. absurd (r (script, u))
-complete source sink panel journal status (no_memory e b j s f g) = λ p q r form. inl e
+complete source sink panel journal status (answered ends) = λ reached. answer_complete (script_command panel journal) source sink status (inl ends)
+complete source sink panel journal status (unanswered ends i j) = λ reached. answer_complete (script_command panel journal) source sink status (inr ends)
+complete source sink panel journal status (unreached script e s u j n f g) = λ reached. absurd (reached (script, u))
+complete source sink panel journal status (no_memory script said e s a for j n f g) = λ reached p q formed. inl e
 
 refuses : (source : SourceRun) (sink : SinkRun) (panel : PanelRun) (journal : Option History) (status : ℕ) → EndsScript source sink panel journal status
     → RefusesExactly script_form source status
-refuses source sink panel journal status (answered script e s a f g) = λ x y z.
-    ((λ h. absurd (apart status 0 3 e h refl)), λ r. absurd (not_refused script_form source.given s.form.0 (script, s.form) r))
-refuses source sink panel journal status (cut_off script text e s a cut f g) = λ x y z. absurd (y e)
-refuses source sink panel journal status (refused outcome e r i j s f g) = λ x y z. ((λ h. refused_by script_form source.given outcome r.refusal), λ h. e)
-refuses source sink panel journal status (refusal_cut_off outcome e r i j s f g) = λ x y z. absurd (y e)
-refuses source sink panel journal status (source_failed e i j s f g) = λ x y z. absurd (x e)
+refuses source sink panel journal status (answered ends) =
+    answer_refuses (script_command panel journal) source sink status (λ text is e three. apart status 0 3 e three refl) (inl ends)
+refuses source sink panel journal status (unanswered ends i j) = unanswered_refuses script_form source sink status ends
 refuses source sink panel journal status (unreached script e s u j n f g) = λ x y z.
     ((λ h. absurd (apart status 8 3 e h refl)), λ r. absurd (not_refused script_form source.given s.form.0 (script, s.form) r))
-refuses source sink panel journal status (no_memory e b j s f g) = λ x y z. absurd (z e)
+refuses source sink panel journal status (no_memory script said e s a for j n f g) = λ x y z. absurd (z e)
 
 -- what ends a run of `script` is a run of `script`
 pub runs_script : {source : SourceRun} {sink : SinkRun} {panel : PanelRun} {journal : Option History} {status : ℕ} → EndsScript source sink panel journal status
@@ -160,11 +148,8 @@ pub more_nothing : {before now : PanelHistory} → now ≡ before → HasMore be
 more_nothing {before = before} same = ([], same ∙ ap (λ calls. record before { calls = calls }) (sym (append-nil before.calls)))
 
 pub has_more : {source : SourceRun} {sink : SinkRun} {panel : PanelRun} {journal : Option History} {status : ℕ} → EndsScript source sink panel journal status → HasMore panel.before panel.now
-has_more (answered script e s a f g) = (_, a.calls)
-has_more (cut_off script text e s a cut f g) = (_, a.calls)
-has_more (refused outcome e r i j s f g) = more_nothing i
-has_more (refusal_cut_off outcome e r i j s f g) = more_nothing i
-has_more (source_failed e i j s f g) = more_nothing i
+has_more (answered (whole text e is s f g)) = (_, is.told.2.calls)
+has_more (answered (cut_off text e is cut f g)) = (_, is.told.2.calls)
+has_more (unanswered ends i j) = more_nothing i
 has_more (unreached script e s u j n f g) = (_, u.3)
-has_more (no_memory e (inl i) j s f g) = more_nothing i
-has_more (no_memory e (inr a) j s f g) = (_, a.3)
+has_more (no_memory script said e s a for j n f g) = (_, a)

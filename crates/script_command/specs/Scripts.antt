@@ -2,7 +2,6 @@
 -- back, and what was written.
 use Rattle.std.specs.Prelude.{◌≡◌, ◌+◌, ◌++◌, ◌⊎◌, ℕ, List, [], map, Option, Some, None}
 use Rattle.nx_io.specs.declared.streams.Reach.TheVariants.{Failed}
-use Rattle.nx_io.specs.Streams.{Rose, one_more}
 use Rattle.policy_history.specs.declared.heads.Head.{Head}
 use Rattle.policy_history.specs.Events.{EntryTree}
 use Rattle.policy_history.specs.Values.{History, entry_trees, greatest_of}
@@ -14,10 +13,9 @@ use Rattle.session_core.specs.Reaching.{HaveReached, reached_at}
 use Rattle.session_core.specs.Sessions.{Point, Told1, at_start}
 use Rattle.policy_script.specs.ScriptForm.{IsScript, IsWrongScript, ScriptTree}
 use Rattle.policy_script.specs.ScriptText.{script_text}
-use Rattle.run_streams.specs.Runs.{IsProperPart, IsReadWhole, SinkRun, SourceRun}
-use Rattle.run_streams.specs.declared.outcomes.Outcome.{Outcome}
-use Rattle.run_streams.specs.Outcomes.{output_of}
-use Rattle.run_streams.specs.Refusals.{Form, IsRefusalOf, IsRefusedInput, RefusesExactly, form_of}
+use Rattle.run_streams.specs.Ends.{Answering, EndsAnswered, EndsUnanswered, IsCompleteAnswer, answering}
+use Rattle.run_streams.specs.Refusals.{Form, RefusesExactly, form_of}
+use Rattle.run_streams.specs.Runs.{IsReadWhole, SinkRun, SourceRun}
 
 -- a panel in a run: its calls before and after
 pub record PanelRun : Type 0 where
@@ -77,37 +75,28 @@ abbrev pub AreAskedFor : ScriptTree → List Told → Type 0
 AreAskedFor script said =
     (said ≡ []) ⊎ ((replies : List Reply) × (last : Point) × Told1 script.head (greatest_of script.entries + 1) (at_start script.entries) script.askings replies said last)
 
--- There was no memory. No call was made of the panel; or each authority of the script of the input was reached, and then nothing was asked, or
--- what its requests ask.
-abbrev pub IsBrokenOff : SourceRun → PanelRun → Type 0
-IsBrokenOff source panel =
-    IsIdle panel ⊎ ((script : ScriptTree) × (said : List Told) × IsScriptOf source script × HasAsked script said panel × AreAskedFor script said)
+-- The script of the input is answered by this text, by such calls of the panel, and this journal is handed back.
+abbrev pub IsScriptAnswer : PanelRun → Option History → List ℕ → List ℕ → Type 0
+IsScriptAnswer panel journal input text = (script : ScriptTree) × IsScript input script × IsAnswered script panel journal text
 
--- `script` ends with this status: its text is written, or a proper part of it, since the sink failed; a refusal is written, or a
--- proper part of it; the source failed; an authority could not be reached; or there was no memory. A failure of the source or
--- the sink that ends it is the only one of the run.
+-- `script` answers with its text, and then with 0
+abbrev pub script_command : PanelRun → Option History → Answering (List ℕ)
+script_command panel journal = answering script_form (IsScriptAnswer panel journal) (λ text. text) (λ text. 0)
+
+-- `script` ends with this status: the input is answered; or it is not, and then no call was made of the panel; or an authority could not be reached; or
+-- there was no memory once each was reached, and nothing was asked, or what the requests ask.
 pub data EndsScript (source : SourceRun) (sink : SinkRun) (panel : PanelRun) (journal : Option History) (status : ℕ) : Type 0 where
-  answered : (script : ScriptTree) → status ≡ 0 → IsScriptOf source script → IsAnswered script panel journal sink.sent
-      → source.faults_now ≡ source.faults → sink.faults_now ≡ sink.faults → EndsScript source sink panel journal status
-  cut_off : (script : ScriptTree) (text : List ℕ) → status ≡ 5 → IsScriptOf source script → IsAnswered script panel journal text → IsProperPart sink.sent text
-      → source.faults_now ≡ source.faults → sink.faults_now ≡ one_more sink.faults → EndsScript source sink panel journal status
-  refused : (outcome : Outcome) → status ≡ 3 → IsRefusalOf script_form source outcome → IsIdle panel → journal ≡ None → sink.sent ≡ output_of outcome
-      → source.faults_now ≡ source.faults → sink.faults_now ≡ sink.faults → EndsScript source sink panel journal status
-  refusal_cut_off : (outcome : Outcome) → status ≡ 5 → IsRefusalOf script_form source outcome → IsIdle panel → journal ≡ None → IsProperPart sink.sent (output_of outcome)
-      → source.faults_now ≡ source.faults → sink.faults_now ≡ one_more sink.faults → EndsScript source sink panel journal status
-  source_failed : status ≡ 4 → IsIdle panel → journal ≡ None → sink.sent ≡ []
-      → source.faults_now ≡ one_more source.faults → sink.faults_now ≡ sink.faults → EndsScript source sink panel journal status
+  answered : EndsAnswered (script_command panel journal) source sink status → EndsScript source sink panel journal status
+  unanswered : EndsUnanswered script_form source sink status → IsIdle panel → journal ≡ None → EndsScript source sink panel journal status
   unreached : (script : ScriptTree) → status ≡ 8 → IsScriptOf source script → IsUnreached script panel → journal ≡ None → sink.sent ≡ []
       → source.faults_now ≡ source.faults → sink.faults_now ≡ sink.faults → EndsScript source sink panel journal status
-  no_memory : status ≡ 6 → IsBrokenOff source panel → journal ≡ None → sink.sent ≡ [] → source.faults_now ≡ source.faults → sink.faults_now ≡ sink.faults → EndsScript source sink panel journal status
+  no_memory : (script : ScriptTree) (said : List Told) → status ≡ 6 → IsScriptOf source script → HasAsked script said panel → AreAskedFor script said → journal ≡ None → sink.sent ≡ []
+      → source.faults_now ≡ source.faults → sink.faults_now ≡ sink.faults → EndsScript source sink panel journal status
 
 -- Where neither the source nor the sink failed, and no authority failed to be reached, an input that is not refused is answered whole, or
 -- there was no memory.
 abbrev pub IsCompleteScript : SourceRun → SinkRun → PanelRun → Option History → ℕ → Type 0
-IsCompleteScript source sink panel journal status =
-    ¬ Rose source.faults source.faults_now → ¬ Rose sink.faults sink.faults_now → ¬ ((script : ScriptTree) × IsUnreached script panel)
-    → ¬ IsRefusedInput script_form source.given
-    → (status ≡ 6) ⊎ ((status ≡ 0) × (script : ScriptTree) × IsScriptOf source script × IsAnswered script panel journal sink.sent)
+IsCompleteScript source sink panel journal status = ¬ ((script : ScriptTree) × IsUnreached script panel) → IsCompleteAnswer (script_command panel journal) source sink status
 
 -- a run of `script`
 pub record RunsScript (source : SourceRun) (sink : SinkRun) (panel : PanelRun) (journal : Option History) (status : ℕ) : Type 0 where

@@ -16,7 +16,7 @@ use authority_ask::Panel;
 use nx_io::{Reach, Sink, Source, send_all};
 use policy_history::Journal;
 use policy_script::{Script, ScriptError, read_script, script_text};
-use run_streams::{Outcome, ReadError, Unread, read_whole, tell};
+use run_streams::{InputRefusal, ReadError, Unread, read_whole, tell_refusal};
 use session_core::{Asking, answer_all, reach_all};
 use std::alloc::Global;
 use std::net::{Net, TcpListener, TcpStream};
@@ -57,8 +57,8 @@ where
             let Script { journal, askings } = script;
             answers(rt, alloc, journal, askings.as_slice(), output, panel)
         }
-        Err(Unread::Refused(outcome)) => {
-            let status = tell(alloc, output, outcome);
+        Err(Unread::Refused(refusal)) => {
+            let status = tell_refusal(alloc, output, refusal);
             unanswered(status, panel)
         }
         Err(Unread::Failed) => unanswered(4, panel),
@@ -80,10 +80,12 @@ fn read_input<S: Source>(alloc: Global, input: &mut S) -> Result<Script, Unread>
     match read_whole(alloc, input) {
         Ok(text) => match read_script(alloc, text.as_slice()) {
             Ok(script) => Ok(script),
-            Err(ScriptError::Wrong { line }) => Err(Unread::Refused(Outcome::Refused { line })),
+            Err(ScriptError::Wrong { line }) => {
+                Err(Unread::Refused(InputRefusal::WrongLine { line }))
+            }
             Err(ScriptError::Memory) => Err(Unread::Memory),
         },
-        Err(ReadError::TooLarge) => Err(Unread::Refused(Outcome::TooLarge)),
+        Err(ReadError::TooLarge) => Err(Unread::Refused(InputRefusal::TooLarge)),
         Err(ReadError::Failed) => Err(Unread::Failed),
         Err(ReadError::Memory) => Err(Unread::Memory),
     }

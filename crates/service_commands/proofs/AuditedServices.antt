@@ -31,14 +31,8 @@ service_audited {plan = plan} {source = source} few (service.hosted h opening wr
     let greatest = greatest_at_most (most_session plan) (entry_trees opening) front.below in
     hosts_audited (front_is_written (most_session plan) source.given h (entry_trees opening) policy.form.1.0 [] front)
     (room (greatest_of (entry_trees opening)) (plan.workers * plan.sessions) (most_session plan) greatest refl few) hosts
-service_audited {sink = sink} {ended = ended} few (service.refused outcome sink_now status refusal unbegun output sends still still_sink) =
-    (sink_now, output, none_audited sink.faults sink_now.faults (gained sink.sent sink_now.sent) ended.means unbegun.means)
-service_audited {sink = sink} {ended = ended} few (service.refusal_cut_off outcome sink_now status refusal unbegun output sends still rose) =
-    (sink_now, output, none_audited sink.faults sink_now.faults (gained sink.sent sink_now.sent) ended.means unbegun.means)
-service_audited {sink = sink} {ended = ended} few (service.source_failed status unbegun output rose) =
-    (sink, output, none_audited sink.faults sink.faults (gained sink.sent sink.sent) ended.means unbegun.means)
-service_audited {sink = sink} {ended = ended} few (service.no_memory status unbegun output still) =
-    (sink, output, none_audited sink.faults sink.faults (gained sink.sent sink.sent) ended.means unbegun.means)
+service_audited {sink = sink} {ended = ended} few (service.unbegun sink_now idle output grows kept ends) =
+    (sink_now, output, none_audited sink.faults sink_now.faults (gained sink.sent sink_now.sent) ended.means idle.means)
 
 -- the same of what is handed back, by what it tells
 pub handed_audited : {K P C : Type 0} (view : K → SinkView) (sink : SinkView) (means : List (Means P C)) (output : Option K) → IsHandedAudited sink (option_map view output) means

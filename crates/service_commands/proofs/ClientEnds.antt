@@ -2,10 +2,9 @@
 use Rattle.std.specs.Prelude.{IfSome, option_map}
 use Rattle.std.proofs.Common.{◌≡◌, ◌≢◌, ◌≤◌, ◌↔◌, ◌⊎◌, ◌∷◌, inl, inr, Bool, true, ℕ, List, [], length, IsTrue, Option, Some, None, refl, sym, subst, ap, ◌∙◌, arith}
 use Rattle.std.specs.Io.KnownBytes.{IsAtEnd}
-use Rattle.nx_io.specs.Streams.{MayRise, gained, one_more, prepended}
-use Rattle.nx_io.proofs.ForCallers.{gained-by, gained-nothing}
+use Rattle.nx_io.specs.Streams.{MayRise, one_more, prepended}
 use Rattle.run_streams.specs.Runs.{SinkRun, SourceRun, most_bytes}
-use Rattle.run_streams.proofs.ForCallers.{read_whole, apart, not_refused, refusal_status, refused_by}
+use Rattle.run_streams.proofs.ForCallers.{apart, not_refused, read_whole, unanswered_memory, unanswered_refuses}
 use Rattle.nexus_client.specs.declared.ends.TalkEnd.{TalkEnd}
 use Rattle.nexus_client.specs.declared.ends.TalkEnd.TheVariants.{Done, Unreached, Broken, Ended, Unwritten, Memory}
 use Rattle.nexus_client.specs.declared.requests.RequestsError.{RequestsError}
@@ -19,12 +18,9 @@ use Rattle.nexus_client.specs.TalkLaws.{IsInOrder}
 use Rattle.nexus_client.specs.Talks.{link_faults_after, sink_faults_after, talk_call, Talks, done, answered, unsent, untaken, cut_off, no_reply, unwritten, no_memory as no_room}
 use Rattle.nexus_serve.specs.Hosting.{HasCalled}
 use Rattle.nx_io.specs.Views.{DoorView, LinkView}
-use Rattle.run_streams.specs.declared.outcomes.Outcome.{Outcome}
-use Rattle.run_streams.specs.declared.outcomes.Outcome.TheVariants.{Refused}
-use Rattle.run_streams.specs.Outcomes.{output_of}
-use Rattle.run_streams.specs.Refusals.{IsRefusal, IsRefusalOf, RefusesExactly}
-use Rattle.run_streams.specs.Telling.{Tells, whole, part, nothing}
-use Rattle.service_commands.specs.Clients.{AreRequestsOf, EndsClient, IsCompleteClient, RunsClient, client_status, no_memory, refusal_cut_off, refused, requests_form, source_failed, talked, unreached}
+use Rattle.run_streams.specs.declared.refusals.InputRefusal.TheVariants.{WrongLine}
+use Rattle.run_streams.specs.Refusals.{IsRefusal, RefusesExactly}
+use Rattle.service_commands.specs.Clients.{AreRequestsOf, EndsClient, IsCompleteClient, RunsClient, client_status, requests_form, talked, undialed, unreached}
 
 -- an input in its form, as the source gave it
 pub requests_given : (input : TalkInput) (source : SourceRun) (left_now : Option (List ℕ)) (frames : List (List ℕ)) (bytes : List ℕ) → source.known ≡ prepended source.given left_now → source.given ≡ bytes
@@ -37,17 +33,8 @@ requests_given input source left_now frames bytes taken same over end few form =
 
 -- a text in which a line is wrong is refused
 pub wrong_requests : (input : TalkInput) (text : List ℕ) (error : RequestsError) (k : ℕ) → error ≡ Wrong k → length text ≤ most_bytes → IsWrongInputOf input text error
-    → (error ≢ NoRoom → (frames : List (List ℕ)) → ¬ AreFramesOf input text frames) → IsRefusal (requests_form input) text (Refused k)
+    → (error ≢ NoRoom → (frames : List (List ℕ)) → ¬ AreFramesOf input text frames) → IsRefusal (requests_form input) text (WrongLine k)
 wrong_requests input text error k e small w no_form = (small, subst (IsWrongInputOf input text) e w, λ has. no_form (λ m. cc (sym e ∙ m)) has.0 has.1)
-
-module _ {input : TalkInput} {address : List ℕ} {source : SourceRun} {door : DoorView} {status : ℕ} where
-  -- a refusal that was told ends the run
-  pub refusal_ends : (outcome : Outcome) (before now : List ℕ) (u v : ℕ) → IsRefusalOf (requests_form input) source outcome → source.faults_now ≡ source.faults → Tells outcome before now u v status
-      → EndsClient input address source (record { sent = gained before now; faults = u; faults_now = v }) door door None status
-  refusal_ends outcome before now u v r still (whole e w f) =
-      refused outcome refl (e ∙ refusal_status (requests_form input) source.given outcome r.refusal) r refl (gained-by before now (output_of outcome) w) still f
-  refusal_ends outcome before now u v r still (part e w f) = refusal_cut_off outcome refl e r refl (w.0, w.1, gained-by before now _ w.2) still f
-  refusal_ends outcome before now u v r still (nothing e w f) = no_memory refl e refl (rw w (gained-nothing before)) still f
 
 -- ---- The talk
 
@@ -109,20 +96,14 @@ module _ {input : TalkInput} {address : List ℕ} {source : SourceRun} {sink : S
   complete_client (talked frames link Broken d s are talk kept still) = λ p q r t form. absurd (has_failed link.faults talk.link_count (t link d))
   complete_client (talked frames link Unreached d s are talk kept still) = λ p q r t form. absurd (never_unreached talk.talks refl)
   complete_client (unreached frames d s are refused_it sent f g) = λ p q r t form. absurd (r (let risen = ap (λ (d : DoorView). faults_in d.calls) refused_it ∙ faults_more door.calls (not_dialed address) in omega (arith, risen)))
-  complete_client (refused outcome d s is kept sent f g) = λ p q r t form. absurd (form (refused_by (requests_form input) source.given outcome is.refusal))
-  complete_client (refusal_cut_off outcome d s is kept cut f g) = λ p q r t form. absurd (q (rw g (omega arith)))
-  complete_client (source_failed d s kept sent f g) = λ p q r t form. absurd (p (rw f (omega arith)))
-  complete_client (no_memory d s kept sent f g) = λ p q r t form. inl s
+  complete_client (undialed d kept ends) = λ p q r t form. inl (unanswered_memory (requests_form input) source sink status ends p q form)
 
   refuses_client : EndsClient input address source sink door door_now dialed status → RefusesExactly (requests_form input) source status
   refuses_client (talked frames link end d s are talk kept still) = λ x y z.
       ((λ h. absurd (never_three end (sym s ∙ h))), λ r. absurd (not_refused (requests_form input) source.given are.small (frames, are.form) r))
   refuses_client (unreached frames d s are refused_it sent f g) = λ x y z.
       ((λ h. absurd (apart status 7 3 s h refl)), λ r. absurd (not_refused (requests_form input) source.given are.small (frames, are.form) r))
-  refuses_client (refused outcome d s is kept sent f g) = λ x y z. ((λ h. refused_by (requests_form input) source.given outcome is.refusal), λ h. s)
-  refuses_client (refusal_cut_off outcome d s is kept cut f g) = λ x y z. absurd (y s)
-  refuses_client (source_failed d s kept sent f g) = λ x y z. absurd (x s)
-  refuses_client (no_memory d s kept sent f g) = λ x y z. absurd (z s)
+  refuses_client (undialed d kept ends) = unanswered_refuses (requests_form input) source sink status ends
 
   -- what ends a run of `client` is a run of `client`
   pub runs_client : EndsClient input address source sink door door_now dialed status → RunsClient input address source sink door door_now dialed status

@@ -25,15 +25,13 @@ use Rattle.nx_io.specs.Views.{DoorView, RecorderView, SinkView}
 use Rattle.nexus_serve.specs.Services.{IsTextSent, Serves, whole as text_whole, line_cut, end_cut, done, unopened, no_memory as nothing_served}
 use Rattle.nexus_serve.specs.Hosting.{AreReady, HasFailed, HasFailedPanel, HasFailedToLend, HasLent, HasNoneToLend, Hosts, IsHeld, Plan, no_door, no_lists, no_panel, no_recorder, not_heard, not_made, not_reached, panel_calls, ready_calls, served, some_cut_off, status_of, unheard, unlent, unreached, unready, unshared}
 use Rattle.run_streams.specs.Runs.{SourceRun, most_bytes}
-use Rattle.run_streams.proofs.ForCallers.{read_whole, not_refused, refusal_status, refused_by, apart}
-use Rattle.run_streams.specs.declared.outcomes.Outcome.{Outcome}
-use Rattle.run_streams.specs.declared.outcomes.Outcome.TheVariants.{Refused}
+use Rattle.run_streams.proofs.ForCallers.{apart, not_refused, read_whole, unanswered_memory, unanswered_refuses}
+use Rattle.run_streams.specs.declared.refusals.InputRefusal.TheVariants.{WrongLine}
 use Rattle.service_commands.specs.declared.service.PolicyTextError.{PolicyTextError}
 use Rattle.service_commands.specs.declared.service.PolicyTextError.TheVariants.{Wrong as WrongText, Memory as TextMemory}
-use Rattle.run_streams.specs.Refusals.{IsRefusal, IsRefusalOf, RefusesExactly}
-use Rattle.run_streams.specs.Telling.{Tells, whole, part, nothing}
+use Rattle.run_streams.specs.Refusals.{IsRefusal, RefusesExactly}
 use Rattle.service_commands.specs.Inner.ServiceEnds.{IsWrongText}
-use Rattle.service_commands.specs.Services.{EndedView, EndsService, HandsBack, HasFailedToRecord, IsCompleteService, IsPolicy, IsPolicyOf, IsServedWhole, IsUnbegun, IsUnserved, IsWrongPolicy, RunsService, hosted, hosted_of, in_policy, most_session, no_memory, policy_form, refusal_cut_off, refused, source_failed}
+use Rattle.service_commands.specs.Services.{EndedView, EndsService, HandsBack, HasFailedToRecord, IsCompleteService, IsPolicy, IsPolicyOf, IsServedWhole, IsUnbegun, IsUnserved, IsWrongPolicy, RunsService, hosted, hosted_of, in_policy, most_session, policy_form, sink_between, unbegun}
 
 -- a count over more calls rose where one of these failed
 more_faults : {Call : Type 0} (fails : Call → Bool) (calls more : List Call) (last : Call) → fails last ≡ true
@@ -94,7 +92,7 @@ policy_given source left_now most h es bytes taken same over end form =
     record { form = subst (λ (b : List ℕ). IsPolicy most b h es) (sym same) form; whole = read_whole source left_now taken over end }
 
 pub wrong_policy : {most : ℕ} {text : List ℕ} {error : PolicyTextError} {k : ℕ} → error ≡ WrongText k → length text ≤ most_bytes → IsWrongText most text error
-    → (error ≢ TextMemory → (h : Head) (es : List EntryTree) → ¬ IsPolicy most text h es) → IsRefusal (policy_form most) text (Refused k)
+    → (error ≢ TextMemory → (h : Head) (es : List EntryTree) → ¬ IsPolicy most text h es) → IsRefusal (policy_form most) text (WrongLine k)
 wrong_policy {most = most} {text = text} {k = k} e small w no_form = (small, subst (IsWrongText most text) e w, λ has. no_form (λ m. cc (sym e ∙ m)) has.0 has.1 has.2)
 
 -- ---- The statuses of a service
@@ -147,14 +145,6 @@ unsent_held recorder recorder_now (no_door few all all_lent called_door called l
 -- ---- The run
 
 module _ {P C : Type 0} (panel : P → PanelHistory) (plan : Plan) (source : SourceRun) (sink : SinkView) (door : DoorView) (asked : P) (recorder : Option RecorderView) (ended : EndedView P C) where
-  -- a refusal that was told
-  pub policy_refusal_ends : (outcome : Outcome) (sink_now : SinkView) → IsRefusalOf (policy_form (most_session plan)) source outcome → source.faults_now ≡ source.faults → IsUnbegun door asked recorder ended
-      → ended.output ≡ Some sink_now → (ended.status ≡ 6 → sink_now ≡ sink) → Tells outcome sink.sent sink_now.sent sink.faults sink_now.faults ended.status → EndsService panel plan source sink door asked recorder ended
-  policy_refusal_ends outcome sink_now r still idle output kept (whole e w f) =
-      refused outcome sink_now (e ∙ refusal_status (policy_form (most_session plan)) source.given outcome r.refusal) r idle output w still f
-  policy_refusal_ends outcome sink_now r still idle output kept (part e w f) = refusal_cut_off outcome sink_now e r idle output w still f
-  policy_refusal_ends outcome sink_now r still idle output kept (nothing e w f) = no_memory e idle (output ∙ ap Some (kept e)) still
-
   module _ (unfailed : (sink_now : SinkView) → ended.output ≡ Some sink_now → Rose sink.faults sink_now.faults → ⊥) (head : Head) (opening : List Entry) (written : Bool) (end : ServeEnd)
       (policy : IsPolicyOf source (most_session plan) head (entry_trees opening)) (doors : List DoorView) (means : List (Means P C))
       (ready : AreReady panel plan head door ended.door (panel asked) (panel ended.panel) recorder ended.recorder doors means) (status : ended.status ≡ status_of written end (some_cut_off ended.means)) where
@@ -196,10 +186,9 @@ module _ {P C : Type 0} (panel : P → PanelHistory) (plan : Plan) (source : Sou
 
   complete : EndsService panel plan source sink door asked recorder ended → IsCompleteService panel plan source sink door asked recorder ended
   complete (hosted h es written end policy still hosts) = λ p q r s t form. complete_hosts q r s t h es written end policy hosts
-  complete (refused outcome sink_now e r idle output sent f g) = λ p q u v t form. absurd (form (refused_by (policy_form (most_session plan)) source.given outcome r.refusal))
-  complete (refusal_cut_off outcome sink_now e r idle output sent f g) = λ p q u v t form. absurd (q sink_now output (rw g (omega arith)))
-  complete (source_failed e idle output f) = λ p q u v t form. absurd (p (rw f (omega arith)))
-  complete (no_memory e idle output f) = λ p q u v t form. inl (record { status = e; reports = idle.reports; output = output })
+  complete (unbegun sink_now idle output grows kept ends) = λ p q u v t form.
+      let six = unanswered_memory (policy_form (most_session plan)) source (sink_between sink sink_now) ended.status ends p (q sink_now output) form in
+      inl (record { status = six; reports = idle.reports; output = output ∙ ap Some (kept (inr six)) })
 
   not_three : (h : Head) (opening : List Entry) (written : Bool) (end : ServeEnd) → Hosts panel plan h opening sink door asked recorder (hosted_of ended written end) → ended.status ≡ 3 → ⊥
   not_three h opening written end (served ds own ready serves status) e = never_three written end (some_cut_off ended.means) (sym status ∙ e)
@@ -211,10 +200,7 @@ module _ {P C : Type 0} (panel : P → PanelHistory) (plan : Plan) (source : Sou
   refuses : EndsService panel plan source sink door asked recorder ended → RefusesExactly (policy_form (most_session plan)) source ended.status
   refuses (hosted h opening written end policy still hosts) = λ x y z.
       ((λ three. absurd (not_three h opening written end hosts three)), λ r. absurd (not_refused (policy_form (most_session plan)) source.given policy.form.0 (h, entry_trees opening, policy.form) r))
-  refuses (refused outcome sink_now e r idle output sent f g) = λ x y z. ((λ three. refused_by (policy_form (most_session plan)) source.given outcome r.refusal), λ is. e)
-  refuses (refusal_cut_off outcome sink_now e r idle output sent f g) = λ x y z. absurd (y e)
-  refuses (source_failed e idle output f) = λ x y z. absurd (x e)
-  refuses (no_memory e idle output f) = λ x y z. absurd (z e)
+  refuses (unbegun sink_now idle output grows kept ends) = unanswered_refuses (policy_form (most_session plan)) source (sink_between sink sink_now) ended.status ends
 
   -- what ends a run of `serve` is a run of `serve`
   pub runs_service : EndsService panel plan source sink door asked recorder ended → RunsService panel plan source sink door asked recorder ended
@@ -231,7 +217,4 @@ module _ {P C : Type 0} (panel : P → PanelHistory) (plan : Plan) (source : Sou
   -- a recorder is handed back, and was sent no more itself
   pub still_unsent : EndsService panel plan source sink door asked recorder ended → IsStillUnsent recorder ended.recorder
   still_unsent (hosted h opening written end policy still hosts) = unsent_hosts h opening written end hosts
-  still_unsent (refused outcome sink_now e r idle output sent f g) = unsent_same recorder ended.recorder idle.recorder_is
-  still_unsent (refusal_cut_off outcome sink_now e r idle output sent f g) = unsent_same recorder ended.recorder idle.recorder_is
-  still_unsent (source_failed e idle output f) = unsent_same recorder ended.recorder idle.recorder_is
-  still_unsent (no_memory e idle output f) = unsent_same recorder ended.recorder idle.recorder_is
+  still_unsent (unbegun sink_now idle output grows kept ends) = unsent_same recorder ended.recorder idle.recorder_is

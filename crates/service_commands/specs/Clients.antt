@@ -1,7 +1,7 @@
 -- How a run of `client` or `import` ends: the status, what the source gave, the link that was dialed, and what was written.
 use Rattle.std.specs.Prelude.{◌≡◌, ◌⊎◌, ◌≤◌, ◌∷◌, ℕ, List, [], length, true, Option, Some, None}
 use Rattle.nx_io.specs.DoorCalls.{dialed as dialed_to, faults_in, not_dialed}
-use Rattle.nx_io.specs.Streams.{MayRise, Rose, one_more}
+use Rattle.nx_io.specs.Streams.{MayRise, Rose}
 use Rattle.nexus_client.specs.declared.ends.TalkEnd.{TalkEnd}
 use Rattle.nexus_client.specs.declared.ends.TalkEnd.TheVariants.{Done, Unreached, Broken, Ended, Unwritten, Memory}
 use Rattle.nexus_client.specs.declared.inputs.TalkInput.{TalkInput}
@@ -10,10 +10,9 @@ use Rattle.nexus_client.specs.TalkLaws.{IsInOrder}
 use Rattle.nexus_client.specs.Talks.{Talks, link_faults_after, sink_faults_after}
 use Rattle.nexus_serve.specs.Hosting.{HasCalled}
 use Rattle.nx_io.specs.Views.{DoorView, LinkView}
-use Rattle.run_streams.specs.Runs.{IsProperPart, IsReadWhole, SinkRun, SourceRun, most_bytes}
-use Rattle.run_streams.specs.declared.outcomes.Outcome.{Outcome}
-use Rattle.run_streams.specs.Outcomes.{output_of}
-use Rattle.run_streams.specs.Refusals.{Form, IsRefusalOf, IsRefusedInput, RefusesExactly, form_of}
+use Rattle.run_streams.specs.Ends.{EndsUnanswered}
+use Rattle.run_streams.specs.Refusals.{Form, IsRefusedInput, RefusesExactly, form_of}
+use Rattle.run_streams.specs.Runs.{IsReadWhole, SinkRun, SourceRun, most_bytes}
 
 -- the form of the inputs of a talk: lines of requests, or a peer and a bundle
 abbrev pub requests_form : TalkInput → Form
@@ -45,21 +44,14 @@ pub record HasTalked (address : List ℕ) (frames : List (List ℕ)) (sink : Sin
   pub link_count : MayRise (link_faults_after end 0) link.faults
   pub sink_count : sink.faults_now ≡ sink_faults_after end sink.faults
 
--- A talk that is asked for by such an input ends with this status: the requests were read, and a talk over a link to the address ended; or no link could be dialed; or a refusal is written, or a
--- proper part of it; or the source failed; or there was no memory for the input. Where no link was dialed nothing else is written.
+-- A talk that is asked for by such an input ends with this status: the requests were read, and a talk over a link to the address ended; or no link could be dialed, and
+-- nothing was written; or the input asks for no talk, and the door is as it was.
 pub data EndsClient (input : TalkInput) (address : List ℕ) (source : SourceRun) (sink : SinkRun) (door door_now : DoorView) (dialed : Option LinkView) (status : ℕ) : Type 0 where
   talked : (frames : List (List ℕ)) (link : LinkView) (end : TalkEnd) → dialed ≡ Some link → status ≡ client_status end → AreRequestsOf input source frames
       → HasTalked address frames sink link end → HasCalled (dialed_to address ∷ []) door door_now → source.faults_now ≡ source.faults → EndsClient input address source sink door door_now dialed status
   unreached : (frames : List (List ℕ)) → dialed ≡ None → status ≡ 7 → AreRequestsOf input source frames → HasCalled (not_dialed address ∷ []) door door_now → sink.sent ≡ []
       → source.faults_now ≡ source.faults → sink.faults_now ≡ sink.faults → EndsClient input address source sink door door_now dialed status
-  refused : (outcome : Outcome) → dialed ≡ None → status ≡ 3 → IsRefusalOf (requests_form input) source outcome → door_now ≡ door → sink.sent ≡ output_of outcome
-      → source.faults_now ≡ source.faults → sink.faults_now ≡ sink.faults → EndsClient input address source sink door door_now dialed status
-  refusal_cut_off : (outcome : Outcome) → dialed ≡ None → status ≡ 5 → IsRefusalOf (requests_form input) source outcome → door_now ≡ door → IsProperPart sink.sent (output_of outcome)
-      → source.faults_now ≡ source.faults → sink.faults_now ≡ one_more sink.faults → EndsClient input address source sink door door_now dialed status
-  source_failed : dialed ≡ None → status ≡ 4 → door_now ≡ door → sink.sent ≡ [] → source.faults_now ≡ one_more source.faults → sink.faults_now ≡ sink.faults
-      → EndsClient input address source sink door door_now dialed status
-  no_memory : dialed ≡ None → status ≡ 6 → door_now ≡ door → sink.sent ≡ [] → source.faults_now ≡ source.faults → sink.faults_now ≡ sink.faults
-      → EndsClient input address source sink door door_now dialed status
+  undialed : dialed ≡ None → door_now ≡ door → EndsUnanswered (requests_form input) source sink status → EndsClient input address source sink door door_now dialed status
 
 -- a talk was had to this end
 abbrev pub HasEnded : TalkInput → List ℕ → SourceRun → SinkRun → Option LinkView → ℕ → TalkEnd → Type 0

@@ -7,7 +7,7 @@ use Rattle.nx_io.specs.declared.recorders.Recorder.{Ghosts as RecorderGhosts}
 use Rattle.nx_io.specs.declared.streams.Sink.{Ghosts as SinkGhosts}
 use Rattle.nal_term.specs.Secrets.{IsSecret}
 use Rattle.nx_io.specs.DoorCalls.{faults_in}
-use Rattle.nx_io.specs.Streams.{Rose, Sends, SendsPart, one_more}
+use Rattle.nx_io.specs.Streams.{Grows, Rose, gained}
 use Rattle.policy_history.specs.declared.events.Entry.{Entry}
 use Rattle.policy_history.specs.declared.heads.Head.{Head}
 use Rattle.policy_history.specs.Events.{EntryTree}
@@ -22,10 +22,9 @@ use Rattle.authority_ask.specs.PanelCalls as panels
 use Rattle.nexus_serve.specs.Views.{ReportView}
 use Rattle.nexus_serve.specs.Services.{Serves}
 use Rattle.nexus_serve.specs.Hosting.{AreReady, HostedView, Hosts, Plan, some_cut_off, status_of}
-use Rattle.run_streams.specs.Runs.{IsReadWhole, SourceRun, most_bytes}
-use Rattle.run_streams.specs.declared.outcomes.Outcome.{Outcome}
-use Rattle.run_streams.specs.Outcomes.{output_of}
-use Rattle.run_streams.specs.Refusals.{Form, IsRefusalOf, IsRefusedInput, RefusesExactly, form_of}
+use Rattle.run_streams.specs.Ends.{EndsUnanswered}
+use Rattle.run_streams.specs.Refusals.{Form, IsRefusedInput, RefusesExactly, form_of}
+use Rattle.run_streams.specs.Runs.{IsReadWhole, SinkRun, SourceRun, most_bytes}
 
 -- an address: 1 to 64 visible bytes that are not `help` and do not begin with `-`
 pub record IsAddress (address : List ℕ) : Type 0 where
@@ -149,21 +148,17 @@ pub record IsUnbegun {P C : Type 0} (door : DoorView) (panel : P) (recorder : Op
   pub recorder_is : ended.recorder ≡ recorder
   pub means : ended.means ≡ []
 
--- `serve` ends so: a policy was read, and hosted by the plan; or the input was refused, and that is written, or a proper part of it; or the source
--- failed; or there was no memory for the input. A failure of the source or the sink that ends it before it is hosted is the only one.
+-- what a sink was sent between two views of it, and how often it failed
+abbrev pub sink_between : SinkView → SinkView → SinkRun
+sink_between before now = record { sent = gained before.sent now.sent; faults = before.faults; faults_now = now.faults }
+
+-- `serve` ends so: a policy was read, and hosted by the plan; or nobody is served for the input, nothing was begun, and the sink is handed back, as it was where the source failed or
+-- memory ran out. A failure of the source or the sink that ends it before it is hosted is the only one.
 pub data EndsService {P C : Type 0} (panel : P → PanelHistory) (plan : Plan) (source : SourceRun) (sink : SinkView) (door : DoorView) (asked : P) (recorder : Option RecorderView) (ended : EndedView P C) : Type 0 where
   hosted : (h : Head) (opening : List Entry) (written : Bool) (end : ServeEnd) → IsPolicyOf source (most_session plan) h (entry_trees opening) → source.faults_now ≡ source.faults
       → Hosts panel plan h opening sink door asked recorder (hosted_of ended written end) → EndsService panel plan source sink door asked recorder ended
-  refused : (outcome : Outcome) (sink_now : SinkView) → ended.status ≡ 3 → IsRefusalOf (policy_form (most_session plan)) source outcome → IsUnbegun door asked recorder ended
-      → ended.output ≡ Some sink_now → Sends sink.sent sink_now.sent (output_of outcome) → source.faults_now ≡ source.faults → sink_now.faults ≡ sink.faults
-      → EndsService panel plan source sink door asked recorder ended
-  refusal_cut_off : (outcome : Outcome) (sink_now : SinkView) → ended.status ≡ 5 → IsRefusalOf (policy_form (most_session plan)) source outcome → IsUnbegun door asked recorder ended
-      → ended.output ≡ Some sink_now → SendsPart sink.sent sink_now.sent (output_of outcome) → source.faults_now ≡ source.faults → sink_now.faults ≡ one_more sink.faults
-      → EndsService panel plan source sink door asked recorder ended
-  source_failed : ended.status ≡ 4 → IsUnbegun door asked recorder ended → ended.output ≡ Some sink → source.faults_now ≡ one_more source.faults
-      → EndsService panel plan source sink door asked recorder ended
-  no_memory : ended.status ≡ 6 → IsUnbegun door asked recorder ended → ended.output ≡ Some sink → source.faults_now ≡ source.faults
-      → EndsService panel plan source sink door asked recorder ended
+  unbegun : (sink_now : SinkView) → IsUnbegun door asked recorder ended → ended.output ≡ Some sink_now → Grows sink.sent sink_now.sent → ((ended.status ≡ 4) ⊎ (ended.status ≡ 6) → sink_now ≡ sink)
+      → EndsUnanswered (policy_form (most_session plan)) source (sink_between sink sink_now) ended.status → EndsService panel plan source sink door asked recorder ended
 
 -- There was no memory to begin with: nobody was served, and nothing was written
 pub record IsUnserved {P C : Type 0} (sink : SinkView) (ended : EndedView P C) : Type 0 where

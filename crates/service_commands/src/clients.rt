@@ -8,7 +8,7 @@ ghost use Rattle.run_streams.specs.Inner.Unread.{IsUnread, faults_after_input};
 
 use nexus_client::{Requests, RequestsError, Talk, TalkEnd, TalkInput, read_input, talk};
 use nx_io::{Door, Sink, Source};
-use run_streams::{Outcome, ReadError, Unread, read_whole, tell};
+use run_streams::{InputRefusal, ReadError, Unread, read_whole, tell_refusal};
 use std::alloc::Global;
 use std::net::{Net, TcpListener, TcpStream};
 use std::rt::Clock;
@@ -63,8 +63,8 @@ where
                 dialed,
             }
         }
-        Err(Unread::Refused(outcome)) => ClientEnd {
-            status: tell(alloc, output, outcome),
+        Err(Unread::Refused(refusal)) => ClientEnd {
+            status: tell_refusal(alloc, output, refusal),
             dialed: None,
         },
         Err(Unread::Failed) => ClientEnd {
@@ -94,10 +94,12 @@ fn read_requests<S: Source>(
     match read_whole(alloc, input) {
         Ok(text) => match read_input(alloc, form, text.as_slice()) {
             Ok(requests) => Ok(requests),
-            Err(RequestsError::Wrong { line }) => Err(Unread::Refused(Outcome::Refused { line })),
+            Err(RequestsError::Wrong { line }) => {
+                Err(Unread::Refused(InputRefusal::WrongLine { line }))
+            }
             Err(RequestsError::Memory) => Err(Unread::Memory),
         },
-        Err(ReadError::TooLarge) => Err(Unread::Refused(Outcome::TooLarge)),
+        Err(ReadError::TooLarge) => Err(Unread::Refused(InputRefusal::TooLarge)),
         Err(ReadError::Failed) => Err(Unread::Failed),
         Err(ReadError::Memory) => Err(Unread::Memory),
     }

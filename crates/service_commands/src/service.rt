@@ -16,7 +16,7 @@ use journal_text::{PolicyError, PolicyFront, read_front};
 use nexus_serve::{Hosted, Outside, Served, host};
 use nx_io::{Door, Gate, Link, Recorder, Sink, Source};
 use policy_history::Journal;
-use run_streams::{Outcome, ReadError, Unread, read_whole, tell};
+use run_streams::{InputRefusal, ReadError, Unread, read_whole, tell_refusal};
 use std::alloc::Global;
 use std::fs::Files;
 use std::net::{Net, TcpListener, TcpStream};
@@ -116,9 +116,9 @@ where
             service.sessions,
             service.seconds(),
         )),
-        Err(Unread::Refused(outcome)) => {
+        Err(Unread::Refused(refusal)) => {
             let mut output = output;
-            let status = tell(alloc, &mut output, outcome);
+            let status = tell_refusal(alloc, &mut output, refusal);
             unserved(alloc, status, output, outside)
         }
         Err(Unread::Failed) => unserved(alloc, 4, output, outside),
@@ -139,10 +139,12 @@ fn read_policy_input<S: Source>(alloc: Global, input: &mut S, most: u64) -> Resu
     match read_whole(alloc, input) {
         Ok(text) => match read_policy_text(alloc, text.as_slice(), most) {
             Ok(journal) => Ok(journal),
-            Err(PolicyTextError::Wrong { line }) => Err(Unread::Refused(Outcome::Refused { line })),
+            Err(PolicyTextError::Wrong { line }) => {
+                Err(Unread::Refused(InputRefusal::WrongLine { line }))
+            }
             Err(PolicyTextError::Memory) => Err(Unread::Memory),
         },
-        Err(ReadError::TooLarge) => Err(Unread::Refused(Outcome::TooLarge)),
+        Err(ReadError::TooLarge) => Err(Unread::Refused(InputRefusal::TooLarge)),
         Err(ReadError::Failed) => Err(Unread::Failed),
         Err(ReadError::Memory) => Err(Unread::Memory),
     }

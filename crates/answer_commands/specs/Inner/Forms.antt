@@ -6,8 +6,8 @@ use Rattle.proof_lines.specs.Lines.{line_trees}
 use Rattle.proof_text.specs.ProofText.{IsProofText, IsRefused}
 use Rattle.proof_text.specs.declared.read.ProofError.{ProofError}
 use Rattle.answer_commands.specs.declared.check_form.Input.{Input}
-use Rattle.answer_commands.specs.declared.check_form.InputError.{InputError}
-use Rattle.answer_commands.specs.declared.check_form.InputError.TheVariants.{Wrong, Memory}
+use Rattle.answer_commands.specs.declared.answering.AnswerError.{AnswerError}
+use Rattle.answer_commands.specs.declared.answering.AnswerError.TheVariants.{Wrong, Memory}
 use Rattle.answer_commands.specs.declared.stages.Progress.{Progress}
 use Rattle.answer_commands.specs.declared.stages.Progress.TheVariants.{HeaderDue, SubjectDue, LabelsDue, YesDue, ProofDue}
 use Rattle.answer_commands.specs.CheckForm.{CheckForm, Stage, header_due, subject_due, labels_due, yes_due, proof_due, IsWrongAt, IsLineOfError}
@@ -47,11 +47,11 @@ pub record HoldsProof (subject : List ℕ) (labels yes : List FormulaTree) (goal
   pub proof_read : IsProofText rest (line_trees i.proof)
 
 -- the text after the goal is wrong in the line that is told, `lines` standing before it
-abbrev pub IsWrongProof : List ℕ → ℕ → InputError → Type 0
+abbrev pub IsWrongProof : List ℕ → ℕ → AnswerError → Type 0
 IsWrongProof rest lines (Wrong k) = (error : ProofError) × (j : ℕ) × IsRefused rest error × IsLineOfError rest error j × (k ≡ lines + j)
 IsWrongProof rest lines Memory = Unit {0}
 
 -- the line that is told is the lowest that is wrong
-abbrev pub IsWrongLine : List ℕ → InputError → Type 0
+abbrev pub IsWrongLine : List ℕ → AnswerError → Type 0
 IsWrongLine text (Wrong k) = IsWrongAt text k
 IsWrongLine text Memory = Unit {0}

@@ -1,7 +1,7 @@
-use Rattle.std.proofs.Common.{refl}
+use Rattle.std.proofs.Common.{inr, refl}
 use Rattle.nx_io.proofs.ForCallers.{gained-nothing}
-use Rattle.answer_commands.specs.Answers.{no_memory, source_failed}
-use Rattle.answer_commands.proofs.AnswerEnds.{answer_ends, answer_grows, never_both, refusal_ends, runs_answer}
+use Rattle.run_streams.specs.Ends.{no_memory, source_failed}
+use Rattle.run_streams.proofs.ForCallers.{answer_ends, never_both, refusal_ends, runs_answer, told_grows}
 use Rattle.answer_commands.proofs.answering.answer_input.Goals as goal
 
 pub returns-in-Ok-clause-runs : goal.returns-in-Ok-clause-runs
@@ -9,18 +9,21 @@ returns-in-Ok-clause-runs g c =
     runs_answer (λ answer is e three. c.tell_answer.ensures.few three) (answer_ends c.in-Ok.answer _ _ _ _ c.in-Ok.ensures.ok c.in-Ok.ensures.count c.tell_answer.ensures.told)
 
 pub returns-in-Ok-clause-sent : goal.returns-in-Ok-clause-sent
-returns-in-Ok-clause-sent g c = answer_grows _ _ c.tell_answer.ensures.told
+returns-in-Ok-clause-sent g c = told_grows _ _ c.tell_answer.ensures.told
+
+pub returns-in-Err-Refused-clause-sent : goal.returns-in-Err-Refused-clause-sent
+returns-in-Err-Refused-clause-sent g c = told_grows _ _ c.tell_refusal.ensures.told
 
 pub returns-in-Err-Refused-clause-runs : goal.returns-in-Err-Refused-clause-runs
 returns-in-Err-Refused-clause-runs g c =
     let refusal = rw c.in-Err-Refused.field-0-is at c.in-Err-Refused.ensures.err in
     let still = rw c.in-Err-Refused.field-0-is at c.in-Err-Refused.ensures.count in
-    runs_answer (λ answer is e three. never_both c.in-Err-Refused.outcome answer refusal is) (refusal_ends c.in-Err-Refused.outcome _ _ _ _ refusal still c.tell.ensures.told)
+    runs_answer (λ answer is e three. never_both c.in-Err-Refused.refusal answer refusal is) (inr (refusal_ends c.in-Err-Refused.refusal _ _ _ _ refusal still c.tell_refusal.ensures.told))
 
 pub returns-in-Err-Failed-clause-runs : goal.returns-in-Err-Failed-clause-runs
 returns-in-Err-Failed-clause-runs g c =
-    runs_answer (λ answer is e three. cc three) (source_failed refl (gained-nothing (g.K.Sink.sent c.args.output.now)) (rw c.in-Err-Failed.field-0-is at c.in-Err-Failed.ensures.count) refl)
+    runs_answer (λ answer is e three. cc three) (inr (source_failed refl (gained-nothing (g.K.Sink.sent c.args.output.now)) (rw c.in-Err-Failed.field-0-is at c.in-Err-Failed.ensures.count) refl))
 
 pub returns-in-Err-Memory-clause-runs : goal.returns-in-Err-Memory-clause-runs
 returns-in-Err-Memory-clause-runs g c =
-    runs_answer (λ answer is e three. cc three) (no_memory refl (gained-nothing (g.K.Sink.sent c.args.output.now)) (rw c.in-Err-Memory.field-0-is at c.in-Err-Memory.ensures.count) refl)
+    runs_answer (λ answer is e three. cc three) (inr (no_memory refl (gained-nothing (g.K.Sink.sent c.args.output.now)) (rw c.in-Err-Memory.field-0-is at c.in-Err-Memory.ensures.count) refl))

@@ -1,6 +1,6 @@
-use Rattle.std.proofs.Common.{arith}
+use Rattle.std.proofs.Common.{inr, arith}
 use Rattle.answer_commands.specs.Compacts.{compact_command}
-use Rattle.answer_commands.proofs.AnswerEnds.{answer_ends, never_both, refusal_ends, refusal_never_done, runs_answer, runs_with}
+use Rattle.run_streams.proofs.ForCallers.{answer_ends, never_both, refusal_ends, refusal_never_done, runs_answer, runs_with}
 use Rattle.answer_commands.proofs.compacts.compact_text.Goals as goal
 
 pub returns-then-status-eq0-clause-ok : goal.returns-then-status-eq0-clause-ok
@@ -20,7 +20,7 @@ pub returns-in-Err-Refused-clause-err : goal.returns-in-Err-Refused-clause-err
 returns-in-Err-Refused-clause-err g c =
     let refusal = rw c.in-Err-Refused.field-0-is at c.in-Err-Refused.ensures.err in
     let still = rw c.in-Err-Refused.field-0-is at c.in-Err-Refused.ensures.count in (
-      refusal_never_done compact_command.form c.in-Err-Refused.outcome refusal c.tell.ensures.told,
-      runs_answer (λ answer is e three. never_both c.in-Err-Refused.outcome answer refusal is)
-          (refusal_ends {command = compact_command} c.in-Err-Refused.outcome _ _ _ _ refusal still c.tell.ensures.told),
+      refusal_never_done c.tell_refusal.ensures.told,
+      runs_answer (λ answer is e three. never_both {command = compact_command} c.in-Err-Refused.refusal answer refusal is)
+          (inr (refusal_ends c.in-Err-Refused.refusal _ _ _ _ refusal still c.tell_refusal.ensures.told)),
     )

@@ -2,21 +2,21 @@ use Rattle.std.specs.Prelude.{option_map}
 use Rattle.std.proofs.Common.{refl}
 use Rattle.policy_history.specs.Values.{entry_trees}
 use Rattle.proof_lines.specs.Lines.{line_trees}
-use Rattle.answer_commands.proofs.ForCallers.{runs_as, runs_check}
+use Rattle.run_streams.proofs.ForCallers.{runs_as}
 use Rattle.nexus_run.proofs.Commanded.{lasting_runs}
 use Rattle.nexus_run.proofs.LoadEnds.{runs_load}
 use Rattle.script_command.proofs.ForCallers.{has_more, more_nothing, runs_script}
 use Rattle.nexus_run.proofs.plain.run_plain.Goals as goal
 
 pub returns-in-Check-clause-command : goal.returns-in-Check-clause-command
-returns-in-Check-clause-command g c = rw c.in-Check.is (runs_check c.check.ensures.ends)
+returns-in-Check-clause-command g c = rw c.in-Check.is c.answer_input.ensures.runs
 
 pub returns-in-Script-clause-command : goal.returns-in-Script-clause-command
 returns-in-Script-clause-command g c =
     rw c.in-Script.is (lasting_runs _ _ _ _ _ _ _ _ c.lasting.ensures.sent (runs_script c.script-status.ensures.ends) c.lasting.ensures.ends)
 
 pub returns-in-Trust-clause-command : goal.returns-in-Trust-clause-command
-returns-in-Trust-clause-command g c = rw c.in-Trust.is c.answer_input.ensures.runs
+returns-in-Trust-clause-command g c = rw c.in-Trust.is c.answer_input-in-Trust.ensures.runs
 
 pub returns-in-Prove-clause-command : goal.returns-in-Prove-clause-command
 returns-in-Prove-clause-command g c = rw c.in-Prove.is (runs_as (λ found. option_map line_trees found.proof) c.answer_input-in-Prove.ensures.runs)

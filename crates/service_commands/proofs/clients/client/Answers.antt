@@ -1,7 +1,10 @@
 use Rattle.std.proofs.Common.{refl}
 use Rattle.nx_io.proofs.ForCallers.{gained-nothing}
 use Rattle.nx_io.specs.Views.{link_view}
-use Rattle.service_commands.proofs.ClientEnds.{refusal_ends, talk_ends, unreached_failed, unreached_status}
+use Rattle.run_streams.specs.Ends.{no_memory, source_failed}
+use Rattle.run_streams.proofs.ForCallers.{refusal_ends, told_grows}
+use Rattle.service_commands.specs.Clients.{undialed}
+use Rattle.service_commands.proofs.ClientEnds.{talk_ends, unreached_failed, unreached_status}
 use Rattle.service_commands.proofs.clients.client.Goals as goal
 
 pub returns-in-Ok-clause-ends : goal.returns-in-Ok-clause-ends
@@ -15,7 +18,18 @@ pub returns-in-Err-Refused-clause-ends : goal.returns-in-Err-Refused-clause-ends
 returns-in-Err-Refused-clause-ends g c =
     let refusal = rw c.in-Err-Refused.field-0-is at c.in-Err-Refused.ensures.err in
     let still = rw c.in-Err-Refused.field-0-is at c.in-Err-Refused.ensures.count in
-    refusal_ends c.in-Err-Refused.outcome (g.K.Sink.sent c.args.output.now) (g.K.Sink.sent c.tell.new.output) _ _ refusal still c.tell.ensures.told
+    undialed refl refl (refusal_ends c.in-Err-Refused.refusal (g.K.Sink.sent c.args.output.now) (g.K.Sink.sent c.tell_refusal.new.output) _ _ refusal still c.tell_refusal.ensures.told)
+
+pub returns-in-Err-Refused-clause-sent : goal.returns-in-Err-Refused-clause-sent
+returns-in-Err-Refused-clause-sent g c = told_grows _ _ c.tell_refusal.ensures.told
+
+pub returns-in-Err-Failed-clause-ends : goal.returns-in-Err-Failed-clause-ends
+returns-in-Err-Failed-clause-ends g c =
+    undialed refl refl (source_failed refl (gained-nothing (g.K.Sink.sent c.args.output.now)) (rw c.in-Err-Failed.field-0-is at c.in-Err-Failed.ensures.count) refl)
+
+pub returns-in-Err-Memory-clause-ends : goal.returns-in-Err-Memory-clause-ends
+returns-in-Err-Memory-clause-ends g c =
+    undialed refl refl (no_memory refl (gained-nothing (g.K.Sink.sent c.args.output.now)) (rw c.in-Err-Memory.field-0-is at c.in-Err-Memory.ensures.count) refl)
 
 pub returns-in-Ok-clause-undialed : goal.returns-in-Ok-clause-undialed
 returns-in-Ok-clause-undialed g c = λ none other. absurd (other (unreached_status c.status_of.ensures (c.talk-dialed.ensures.unreached.0 none)))

@@ -1,13 +1,14 @@
-use Rattle.std.proofs.Common.{◌≤◌, ◌*◌, ◌∙◌, ap, inr, sym, subst, arith}
+use Rattle.std.proofs.Common.{◌≡◌, ◌≤◌, ◌*◌, ◌⊎◌, ℕ, ap, refl, sym, subst, arith}
 use Rattle.std.proofs.lemmas.Nat.{mul-le}
 use Rattle.std.specs.Prelude.{option_map}
 use Rattle.policy_history.specs.Values.{entry_trees}
 use Rattle.journal_text.proofs.ForCallers.{greatest_at_most}
+use Rattle.nx_io.proofs.ForCallers.{gained-nothing, grows-nothing}
 use Rattle.nx_io.specs.Views.{SinkView, door_view, recorder_view, sink_view}
 use Rattle.nexus_serve.specs.Hosting.{Hosts, Plan}
-use Rattle.run_streams.specs.Telling.{Tells}
-use Rattle.service_commands.specs.Services.{hosted, no_memory, patience_in, source_failed}
-use Rattle.service_commands.proofs.ServiceEnds.{policy_refusal_ends}
+use Rattle.run_streams.specs.Ends.{no_memory, source_failed}
+use Rattle.run_streams.proofs.ForCallers.{refusal_ends, told_grows}
+use Rattle.service_commands.specs.Services.{hosted, patience_in, unbegun}
 use Rattle.service_commands.proofs.service.run_service.Goals as goal
 
 pub host-requires-clause-numbers : goal.host-requires-clause-numbers
@@ -26,21 +27,28 @@ returns-in-Ok-clause-ends g c =
 pub returns-in-Err-Refused-clause-ends : goal.returns-in-Err-Refused-clause-ends
 returns-in-Err-Refused-clause-ends g c =
     let view : g.row.K.Denot → SinkView = sink_view g.K.Sink in
+    let e = c.unserved.ensures in
+    let before = g.K.Sink.sent c.args.output in
+    let now = g.K.Sink.sent c.tell_refusal-status.new.output in
     let refusal = rw c.in-Err-Refused.field-0-is at c.in-Err-Refused.ensures.err in
     let still = rw c.in-Err-Refused.field-0-is at c.in-Err-Refused.ensures.count in
-    let told = rw c.in-Err-Refused.field-0-is at c.tell-status.ensures.told in
-    policy_refusal_ends g.P.Panel.history _ _ (view c.args.output) (door_view g.D.Door g.D.Link.Link c.args.outside.door) c.args.outside.panel _ _ c.in-Err-Refused.outcome (view c.tell-status.new.output) refusal still c.unserved.ensures.unbegun (ap (option_map view) c.unserved.ensures.output)
-    (λ six. ap view (c.tell-status.ensures.untouched (inr (sym c.unserved.ensures.status ∙ six))))
-    (subst (λ s. Tells c.in-Err-Refused.outcome (g.K.Sink.sent c.args.output) (g.K.Sink.sent c.tell-status.new.output) (g.K.Sink.faults c.args.output) (g.K.Sink.faults c.tell-status.new.output) s) (sym c.unserved.ensures.status) told)
+    let told = rw c.in-Err-Refused.field-0-is at c.tell_refusal-status.ensures.told in
+    unbegun (view c.tell_refusal-status.new.output) e.unbegun (ap (option_map view) e.output) (told_grows before now told)
+    (λ failed. ap view (c.tell_refusal-status.ensures.untouched (subst (λ (status : ℕ). (status ≡ 4) ⊎ (status ≡ 6)) e.status failed)))
+    (rw e.status (refusal_ends c.in-Err-Refused.refusal before now _ _ refusal still told))
 
 pub returns-in-Err-Failed-clause-ends : goal.returns-in-Err-Failed-clause-ends
 returns-in-Err-Failed-clause-ends g c =
     let view : g.row.K.Denot → SinkView = sink_view g.K.Sink in
+    let sent = g.K.Sink.sent c.args.output in
     let e = c.unserved-in-Err-Failed.ensures in
-    source_failed e.status e.unbegun (ap (option_map view) e.output) (rw c.in-Err-Failed.field-0-is at c.in-Err-Failed.ensures.count)
+    unbegun (view c.args.output) e.unbegun (ap (option_map view) e.output) (grows-nothing sent) (λ failed. refl)
+    (source_failed e.status (gained-nothing sent) (rw c.in-Err-Failed.field-0-is at c.in-Err-Failed.ensures.count) refl)
 
 pub returns-in-Err-Memory-clause-ends : goal.returns-in-Err-Memory-clause-ends
 returns-in-Err-Memory-clause-ends g c =
     let view : g.row.K.Denot → SinkView = sink_view g.K.Sink in
+    let sent = g.K.Sink.sent c.args.output in
     let e = c.unserved-in-Err-Memory.ensures in
-    no_memory e.status e.unbegun (ap (option_map view) e.output) (rw c.in-Err-Memory.field-0-is at c.in-Err-Memory.ensures.count)
+    unbegun (view c.args.output) e.unbegun (ap (option_map view) e.output) (grows-nothing sent) (λ failed. refl)
+    (no_memory e.status (gained-nothing sent) (rw c.in-Err-Memory.field-0-is at c.in-Err-Memory.ensures.count) refl)

@@ -1,5 +1,5 @@
--- What an input of `check` comes to.
-use Rattle.std.specs.Prelude.{◌≡◌, ◌<◌, ◌≤◌, ◌↔◌, ◌∷◌, [], ℕ, List, filter, length, Bool, IsTrue, Contains, Some, codes}
+-- The verdict on what an input of `check` holds.
+use Rattle.std.specs.Prelude.{◌≡◌, ◌↔◌, ◌∷◌, [], ℕ, List, filter, Bool, IsTrue, Contains, Some, codes}
 use Rattle.std.specs.List.{flat_map, All}
 use Rattle.nal_term.specs.Trees.{TermTree, FormulaTree, says}
 use Rattle.nal_term.specs.Trees as tree
@@ -10,10 +10,7 @@ use Rattle.nal_rules.specs.Derivation.{Derives}
 use Rattle.nal_rules.specs.Verdicts.{CaseTree, IsVerdict}
 use Rattle.nal_rules.specs.declared.verdicts.Verdict.{Verdict}
 use Rattle.nal_rules.specs.declared.verdicts.Verdict.TheVariants.{Allowed, Denied}
-use Rattle.run_streams.specs.declared.outcomes.Outcome.{Outcome}
-use Rattle.run_streams.specs.declared.outcomes.Outcome.TheVariants.{Told, Refused, TooLarge}
-use Rattle.run_streams.specs.Runs.{most_bytes}
-use Rattle.answer_commands.specs.CheckForm.{CheckForm, IsCheckForm, IsWrongAt}
+use Rattle.answer_commands.specs.CheckForm.{CheckForm}
 
 -- the principal of a formula `P says S`, bound to some port
 abbrev pub bound_for : FormulaTree → List (TermTree × ℕ)
@@ -53,9 +50,3 @@ pub record IsJustified (form : CheckForm) : Type 0 where
 abbrev pub IsJustifiedIfAllowed : CheckForm → Verdict → Type 0
 IsJustifiedIfAllowed form Allowed = IsJustified form
 IsJustifiedIfAllowed form (Denied cause) = Unit {0}
-
--- the outcome of an input
-abbrev pub IsOutcome : List ℕ → Outcome → Type 0
-IsOutcome text TooLarge = most_bytes < length text
-IsOutcome text (Refused k) = (length text ≤ most_bytes) × IsWrongAt text k × ((form : CheckForm) → ¬ IsCheckForm text form)
-IsOutcome text (Told verdict) = (length text ≤ most_bytes) × ((form : CheckForm) × IsCheckForm text form × IsVerdictOn form verdict × IsJustifiedIfAllowed form verdict)
