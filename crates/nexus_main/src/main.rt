@@ -7,6 +7,7 @@ use authority_ask::{HostClock, HostPanel};
 use nexus_run::{SystemArguments, start};
 use nx_io::{FileSink, OpenGate, SocketDoor, StdSource};
 use standard_error::StandardError;
+use std::mem;
 use std::process::ExitCode;
 
 /// The name of standard output among the open files of the process.
@@ -32,5 +33,8 @@ fn main(rt: HostRuntime) -> ExitCode {
         panel,
         &OpenGate,
     );
-    finished.code
+    let code = finished.code;
+    // The system takes all back at once when the program has ended.
+    mem::forget(finished);
+    code
 }
