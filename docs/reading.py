@@ -3,7 +3,7 @@
 
     docs/reading.py             prints a row for the commands of the program, as they stand in docs/GUARANTEES.md
     docs/reading.py --check     fails where the document has other rows
-    docs/reading.py NAME        prints the files of one command, or of any definition, as CheckRuns or IsTold
+    docs/reading.py NAME        prints the files of one command, or of any definition, as RunsCheck or IsTold
     docs/reading.py CRATE/FILE  prints those of one file, as session_core/Told
 
 A file is taken whole, so the list is an upper bound. Lines without code are left out.
@@ -18,7 +18,7 @@ CRATES = TOP / "crates"
 
 # The files by whose definitions the contract of the program says what each command does.
 COMMANDS = {
-    "check": ["answer_commands/CheckRuns"],
+    "check": ["answer_commands/Checks"],
     "trust": ["answer_commands/Trusts"],
     "prove": ["answer_commands/Proves"],
     "audit": ["answer_commands/Audits"],
