@@ -45,7 +45,7 @@ pub record HasTalked (address : List ℕ) (frames : List (List ℕ)) (sink : Sin
   pub sink_count : sink.faults_now ≡ sink_faults_after end sink.faults
 
 -- A talk that is asked for by such an input ends with this status: the requests were read, and a talk over a link to the address ended; or no link could be dialed, and
--- nothing was written; or the input asks for no talk, and the door is as it was.
+-- nothing was written; or nothing is answered to the input, and the door is as it was.
 pub data EndsClient (input : TalkInput) (address : List ℕ) (source : SourceRun) (sink : SinkRun) (door door_now : DoorView) (dialed : Option LinkView) (status : ℕ) : Type 0 where
   talked : (frames : List (List ℕ)) (link : LinkView) (end : TalkEnd) → dialed ≡ Some link → status ≡ client_status end → AreRequestsOf input source frames
       → HasTalked address frames sink link end → HasCalled (dialed_to address ∷ []) door door_now → source.faults_now ≡ source.faults → EndsClient input address source sink door door_now dialed status

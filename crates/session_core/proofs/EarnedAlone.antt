@@ -2,6 +2,7 @@
 use Rattle.std.proofs.Common.{◌≡◌, ◌≤◌, ◌+◌, ◌⊎◌, inl, inr, ℕ, zero, suc, List, [], ◌∷◌, ◌++◌, length, take, true, false, Option, Some, None, Result, Ok, Err, refl, sym, ap, subst, arith, ◌∙◌, append_assoc, length-append, slice_set}
 use Rattle.std.proofs.lemmas.List.{append-nil}
 use Rattle.std.proofs.Math.Seq.{take-append_seam}
+use Rattle.std.specs.List.{flat_map}
 use Rattle.std.specs.Prelude.{slice_get, unwrap_or}
 use Rattle.nal_rules.specs.Asking.{IsAsked}
 use Rattle.nal_rules.specs.Verdicts.{IsVerdict}
@@ -28,7 +29,7 @@ use Rattle.session_core.specs.Sessions.{Point, Told1, admitted_in, behind}
 use Rattle.session_core.specs.Told.{state_at}
 use Rattle.session_core.specs.declared.lines.Asking.{Asking}
 use Rattle.session_core.proofs.EarnedCalls.{IsFound, earned_of, refuted_of}
-use Rattle.session_core.proofs.EarnedReplies.{greeted_who, parts_of, refuted_as}
+use Rattle.session_core.proofs.EarnedReplies.{greeted_who, refuted_as}
 use Rattle.session_core.proofs.RisingAlone.{points_rise_alone, seen_lasts_alone}
 use Rattle.session_core.proofs.ToldRefusals.{greeting_no_verdict, is_verdict_reply}
 
@@ -166,20 +167,33 @@ found_in h es p op object at n asked finding st then object_is judged = record {
   is_verdict = subst (λ (s : State). IsVerdict (case_at h s p op n) (answers_in asked) (verdict_of finding)) then judged.verdict;
 }
 
-record CalledAlone (h : Head) (first : ℕ) (point : Point) (es : List EntryTree) (askings : List Asking) (replies : List Reply) (asks : List Told) (i : ℕ) (reply : Reply) : Type 0 where
+-- what was asked for each request
+abbrev asked_in : (h : Head) (first : ℕ) (point last : Point) (askings : List Asking) (replies : List Reply) (asks : List Told) → Told1 h first point askings replies asks last → List (List Told)
+asked_in h first point last [] [] asks told = []
+asked_in h first point last [] (r ∷ rs) asks told = absurd told
+asked_in h first point last (q ∷ qs) [] asks told = absurd told
+asked_in h first point last (q ∷ qs) (r ∷ rs) asks told = told.0.asks ∷ asked_in h first (behind point q.place told.0) last qs rs told.1 told.5
+
+asked_all : (h : Head) (first : ℕ) (point last : Point) (askings : List Asking) (replies : List Reply) (asks : List Told) (told : Told1 h first point askings replies asks last)
+    → asks ≡ flat_map (λ (mine : List Told). mine) (asked_in h first point last askings replies asks told)
+asked_all h first point last [] [] asks told = told.0
+asked_all h first point last [] (r ∷ rs) asks told = absurd told
+asked_all h first point last (q ∷ qs) [] asks told = absurd told
+asked_all h first point last (q ∷ qs) (r ∷ rs) asks told =
+    told.4 ∙ ap (λ (later : List Told). told.0.asks ++ later) (asked_all h first (behind point q.place told.0) last qs rs told.1 told.5)
+
+record CalledAlone (h : Head) (first : ℕ) (point : Point) (es : List EntryTree) (askings : List Asking) (replies : List Reply) (asked_for : List (List Told)) (i : ℕ) (reply : Reply) : Type 0 where
   principal : ℕ
   place : ℕ
   op : List ℕ
   object : List ℕ
   arg : ℕ
-  earlier : List Told
   asked : List Told
-  later : List Told
   at : ℕ
   finding : Finding
   call : slice_get askings i ≡ Some (record { place = place; request = Call op object arg })
   who : (admitted_in point place ≡ Some principal) ⊎ IsWelcomedIn h first askings replies i place principal
-  asks_are : asks ≡ earlier ++ (asked ++ later)
+  asked_is : slice_get asked_for i ≡ Some asked
   reply_is : reply ≡ found_reply at finding
   within : at ≤ length es
   told : IsFound h es principal op object at asked (verdict_of finding)
@@ -208,8 +222,9 @@ admitted_later h first point q outcome r qs rs i place p has same after = elim (
   | inr there ↦ inl there
 ]
 
-called_alone : (h : Head) (first : ℕ) (point last : Point) (askings : List Asking) (replies : List Reply) (asks : List Told) → Told1 h first point askings replies asks last
-    → (i : ℕ) (reply : Reply) → slice_get replies i ≡ Some reply → is_verdict_reply reply ≡ true → CalledAlone h first point last.entries askings replies asks i reply
+called_alone : (h : Head) (first : ℕ) (point last : Point) (askings : List Asking) (replies : List Reply) (asks : List Told) (told : Told1 h first point askings replies asks last)
+    (i : ℕ) (reply : Reply) → slice_get replies i ≡ Some reply → is_verdict_reply reply ≡ true
+    → CalledAlone h first point last.entries askings replies (asked_in h first point last askings replies asks told) i reply
 called_alone h first point last [] [] asks told i reply here tells = absurd (cc here)
 called_alone h first point last [] (r ∷ rs) asks told i reply here tells = absurd told
 called_alone h first point last (q ∷ qs) [] asks told i reply here tells = absurd (cc here)
@@ -226,14 +241,12 @@ called_alone h first point last (q ∷ qs) (r ∷ rs) asks told zero reply here 
       op = j.op;
       object = j.object;
       arg = j.arg;
-      earlier = [];
       asked = outcome.asks;
-      later = told.1;
       at = length point.entries;
       finding = j.finding;
       call = ap (λ (x : Request). Some (record { place = q.place; request = x })) j.call;
       who = inl j.who_is;
-      asks_are = told.4;
+      asked_is = refl;
       reply_is = sym same ∙ j.reply_is;
       within = omega (arith, ap length grows.1, length-append point.entries grows.0);
       told = found_in h last.entries j.principal j.op j.object (length point.entries) j.number outcome.asks j.finding (replay h point.entries) then j.object_is j.judged;
@@ -247,9 +260,7 @@ called_alone h first point last (q ∷ qs) (r ∷ rs) asks told (suc i) reply he
       op = c.op;
       object = c.object;
       arg = c.arg;
-      earlier = outcome.asks ++ c.earlier;
       asked = c.asked;
-      later = c.later;
       at = c.at;
       finding = c.finding;
       call = c.call;
@@ -257,18 +268,18 @@ called_alone h first point last (q ∷ qs) (r ∷ rs) asks told (suc i) reply he
         | inl who ↦ admitted_later h first point q outcome r qs rs i c.place c.principal told.2 told.3 who
         | inr w ↦ inr (welcomed_in_later w)
       ];
-      asks_are = parts_of asks outcome.asks told.1 c.earlier c.asked c.later told.4 c.asks_are;
+      asked_is = c.asked_is;
       reply_is = c.reply_is;
       within = c.within;
       told = c.told;
     }
 
-module _ {h : Head} {first : ℕ} {point : Point} {es : List EntryTree} {askings : List Asking} {replies : List Reply} {asks : List Told} (nobody : (place : ℕ) → admitted_in point place ≡ None) where
-  welcomed_alone : {i : ℕ} {reply : Reply} (c : CalledAlone h first point es askings replies asks i reply) → IsWelcomedIn h first askings replies i c.place c.principal
+module _ {h : Head} {first : ℕ} {point : Point} {es : List EntryTree} {askings : List Asking} {replies : List Reply} {asked_for : List (List Told)} (nobody : (place : ℕ) → admitted_in point place ≡ None) where
+  welcomed_alone : {i : ℕ} {reply : Reply} (c : CalledAlone h first point es askings replies asked_for i reply) → IsWelcomedIn h first askings replies i c.place c.principal
   welcomed_alone c = elim c.who [ inl who ↦ absurd (cc (who, nobody c.place)) | inr w ↦ w ]
 
-  allowed_alone : {i at hit value : ℕ} (c : CalledAlone h first point es askings replies asks i (Allowed at hit value)) (finding : Finding) → Allowed at hit value ≡ found_reply c.at finding
-      → IsFound h es c.principal c.op c.object c.at c.asked (verdict_of finding) → IsAskingOf h first es askings replies asks i at (λ p op object asked. IsEarned h es p op object at asked)
+  allowed_alone : {i at hit value : ℕ} (c : CalledAlone h first point es askings replies asked_for i (Allowed at hit value)) (finding : Finding) → Allowed at hit value ≡ found_reply c.at finding
+      → IsFound h es c.principal c.op c.object c.at c.asked (verdict_of finding) → IsAskingOf h first es askings replies asked_for i at (λ p op object asked. IsEarned h es p op object at asked)
   allowed_alone c (DeniedFinding reason) is told = absurd (cc is)
   allowed_alone {i} {at} c (AllowedFinding count) is told =
       let same : c.at ≡ at = cc is in
@@ -278,18 +289,16 @@ module _ {h : Head} {first : ℕ} {point : Point} {es : List EntryTree} {askings
         op = c.op;
         object = c.object;
         arg = c.arg;
-        earlier = c.earlier;
         asked = c.asked;
-        later = c.later;
         call = c.call;
         welcomed = welcomed_alone c;
-        asks_are = c.asks_are;
+        asked_is = c.asked_is;
         within = omega (arith, c.within, same);
         truth = subst (λ (n : ℕ). IsEarned h es c.principal c.op c.object n c.asked) same (earned_of told);
       }
 
-  denied_alone : {i at cause line fault : ℕ} (c : CalledAlone h first point es askings replies asks i (Denied at cause line fault)) (finding : Finding) → Denied at cause line fault ≡ found_reply c.at finding
-      → IsFound h es c.principal c.op c.object c.at c.asked (verdict_of finding) → IsAskingOf h first es askings replies asks i at (λ p op object asked. IsRefuted h es p op object at asked cause line fault)
+  denied_alone : {i at cause line fault : ℕ} (c : CalledAlone h first point es askings replies asked_for i (Denied at cause line fault)) (finding : Finding) → Denied at cause line fault ≡ found_reply c.at finding
+      → IsFound h es c.principal c.op c.object c.at c.asked (verdict_of finding) → IsAskingOf h first es askings replies asked_for i at (λ p op object asked. IsRefuted h es p op object at asked cause line fault)
   denied_alone c (AllowedFinding count) is told = absurd (cc is)
   denied_alone {i} {at} c (DeniedFinding reason) is told =
       let same : c.at ≡ at = cc is in
@@ -299,18 +308,18 @@ module _ {h : Head} {first : ℕ} {point : Point} {es : List EntryTree} {askings
         op = c.op;
         object = c.object;
         arg = c.arg;
-        earlier = c.earlier;
         asked = c.asked;
-        later = c.later;
         call = c.call;
         welcomed = welcomed_alone c;
-        asks_are = c.asks_are;
+        asked_is = c.asked_is;
         within = omega (arith, c.within, same);
         truth = refuted_as (sym same) (cc is) (cc is) (cc is) (refuted_of reason told);
       }
 
 pub tells_what_is_true_alone : TellsWhatIsTrueAlone
 tells_what_is_true_alone h first point last askings replies asks nobody told = record {
+  asked_for = asked_in h first point last askings replies asks told;
+  asks_are = asked_all h first point last askings replies asks told;
   allowed = λ i at hit value here. let c = called_alone h first point last askings replies asks told i (Allowed at hit value) here refl in allowed_alone nobody c c.finding c.reply_is c.told;
   denied = λ i at cause line fault here. let c = called_alone h first point last askings replies asks told i (Denied at cause line fault) here refl in denied_alone nobody c c.finding c.reply_is c.told;
   points = points_rise_alone h first point last askings replies asks told;

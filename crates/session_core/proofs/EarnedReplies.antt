@@ -1,5 +1,6 @@
 -- What all calls of a session make true.
 use Rattle.std.proofs.Common.{◌≡◌, ◌≤◌, ◌⊎◌, inl, inr, ℕ, zero, suc, List, [], ◌∷◌, ◌++◌, length, true, false, Option, Some, None, refl, sym, ap, subst, arith, ◌∙◌, append_assoc}
+use Rattle.std.specs.List.{flat_map}
 use Rattle.std.specs.Prelude.{slice_get}
 use Rattle.nal_rules.specs.declared.verdicts.Verdict.{Verdict}
 use Rattle.nal_rules.specs.declared.verdicts.Verdict.TheVariants.{Allowed as AllowedVerdict, Denied as DeniedVerdict}
@@ -169,22 +170,36 @@ turn_of tells (told.see p k who is (told.not_yet m seen far turn_is)) = no_verdi
 
 -- ---- A whole session
 
+-- what was asked for each request
+abbrev asked_in : (h : Head) (es : List EntryTree) (s : ℕ) (requests : List Request) (replies : List Reply) (before : Standing) (asks : List Ask) (steps : List Item) (added : List EntryTree) (last : Standing)
+    → Leads h es s before requests replies asks steps added last → List (List Ask)
+asked_in h es s [] [] before asks steps added last leads = []
+asked_in h es s [] (r ∷ rs) before asks steps added last leads = absurd leads
+asked_in h es s (q ∷ qs) [] before asks steps added last leads = absurd leads
+asked_in h es s (q ∷ qs) (r ∷ rs) before asks steps added last leads = leads.0.asks ∷ asked_in h es s qs rs leads.0.after leads.1 leads.2 leads.3 last leads.9
+
+asked_all : (h : Head) (es : List EntryTree) (s : ℕ) (requests : List Request) (replies : List Reply) (before : Standing) (asks : List Ask) (steps : List Item) (added : List EntryTree) (last : Standing)
+    (leads : Leads h es s before requests replies asks steps added last) → asks ≡ flat_map (λ (mine : List Ask). mine) (asked_in h es s requests replies before asks steps added last leads)
+asked_all h es s [] [] before asks steps added last leads = leads.0
+asked_all h es s [] (r ∷ rs) before asks steps added last leads = absurd leads
+asked_all h es s (q ∷ qs) [] before asks steps added last leads = absurd leads
+asked_all h es s (q ∷ qs) (r ∷ rs) before asks steps added last leads =
+    leads.6 ∙ ap (λ (later : List Ask). leads.0.asks ++ later) (asked_all h es s qs rs leads.0.after leads.1 leads.2 leads.3 last leads.9)
+
 -- the reply to request i tells a verdict: on the call of a principal who was admitted as the session came here, or was welcomed since
-record Called (h : Head) (es : List EntryTree) (s : ℕ) (before : Standing) (requests : List Request) (replies : List Reply) (asks : List Ask) (i : ℕ) (reply : Reply) : Type 0 where
+record Called (h : Head) (es : List EntryTree) (s : ℕ) (before : Standing) (requests : List Request) (replies : List Reply) (asked_for : List (List Ask)) (i : ℕ) (reply : Reply) : Type 0 where
   principal : ℕ
   op : List ℕ
   object : List ℕ
   arg : ℕ
-  earlier : List Ask
   asked : List Ask
-  later : List Ask
   at : ℕ
   hit : ℕ
   value : ℕ
   verdict : Verdict
   call : slice_get requests i ≡ Some (Call op object arg)
   who : (before.who ≡ Some principal) ⊎ IsWelcomed h s requests replies i principal
-  asks_are : asks ≡ earlier ++ (asked ++ later)
+  asked_is : slice_get asked_for i ≡ Some asked
   reply_is : reply ≡ verdict_reply at hit value verdict
   late : before.low ≤ at
   within : at ≤ length es
@@ -210,11 +225,9 @@ welcomed_later : {h : Head} {s : ℕ} {request : Request} {reply : Reply} {reque
     → IsWelcomed h s (request ∷ requests) (reply ∷ replies) (suc i) p
 welcomed_later w = record { place = suc w.place; at = w.at; name = w.name; secret = w.secret; before = omega (arith, w.before); hello = w.hello; welcome = w.welcome; admitted_is = w.admitted_is }
 
-pub parts_of : (asks first rest earlier asked later : List Ask) → asks ≡ first ++ rest → rest ≡ earlier ++ (asked ++ later) → asks ≡ (first ++ earlier) ++ (asked ++ later)
-parts_of asks first rest earlier asked later e f = e ∙ ap (λ xs. first ++ xs) f ∙ sym (append_assoc first earlier (asked ++ later))
-
 called : {h : Head} {es : List EntryTree} {s : ℕ} (requests : List Request) (replies : List Reply) (before : Standing) (asks : List Ask) (steps : List Item) (added : List EntryTree) (last : Standing)
-    → Leads h es s before requests replies asks steps added last → (i : ℕ) (reply : Reply) → slice_get replies i ≡ Some reply → is_verdict_reply reply ≡ true → Called h es s before requests replies asks i reply
+    (leads : Leads h es s before requests replies asks steps added last) (i : ℕ) (reply : Reply) → slice_get replies i ≡ Some reply → is_verdict_reply reply ≡ true
+    → Called h es s before requests replies (asked_in h es s requests replies before asks steps added last leads) i reply
 called [] [] before asks steps added last leads i reply none tells = absurd (cc none)
 called [] (r ∷ rs) before asks steps added last leads i reply none tells = absurd leads
 called (q ∷ qs) [] before asks steps added last leads i reply none tells = absurd (cc none)
@@ -228,16 +241,14 @@ called {h} {es} {s} (q ∷ qs) (r ∷ rs) before asks steps added last leads zer
       op = t.op;
       object = t.object;
       arg = t.arg;
-      earlier = [];
       asked = turn.asks;
-      later = leads.1;
       at = v.n;
       hit = v.hit;
       value = v.value;
       verdict = v.verdict;
       call = ap Some t.call;
       who = inl t.who;
-      asks_are = leads.6;
+      asked_is = refl;
       reply_is = sym reply_is ∙ v.reply_is;
       late = v.late;
       within = v.within;
@@ -253,9 +264,7 @@ called {h} {es} {s} (q ∷ qs) (r ∷ rs) before asks steps added last leads (su
       op = c.op;
       object = c.object;
       arg = c.arg;
-      earlier = turn.asks ++ c.earlier;
       asked = c.asked;
-      later = c.later;
       at = c.at;
       hit = c.hit;
       value = c.value;
@@ -265,7 +274,7 @@ called {h} {es} {s} (q ∷ qs) (r ∷ rs) before asks steps added last leads (su
         | inl who ↦ welcomed_before before leads.5 (came_in h es s before q turn c.principal who leads.4)
         | inr w ↦ inr (welcomed_later w)
       ];
-      asks_are = parts_of asks turn.asks leads.1 c.earlier c.asked c.later leads.6 c.asks_are;
+      asked_is = c.asked_is;
       reply_is = c.reply_is;
       late = omega (arith, least, c.late);
       within = c.within;
@@ -283,12 +292,15 @@ refuted_as {h} {es} {p} {op} {object} {asked} {at} {at'} {cause} {cause'} {line}
 
 module _ {h : Head} {es : List EntryTree} {s low : ℕ} {requests : List Request} {replies : List Reply} {asks : List Ask} {trail : List Item} {last : Standing}
     (t : IsTold h es s low requests replies asks trail last) where
-  welcomed : {i : ℕ} {reply : Reply} (c : Called h es s (beginning t.first) requests replies asks i reply) → IsWelcomed h s requests replies i c.principal
+  abbrev asked_here : List (List Ask)
+  asked_here = asked_in h es s requests replies (beginning t.first) asks t.steps t.added last t.leads
+
+  welcomed : {i : ℕ} {reply : Reply} (c : Called h es s (beginning t.first) requests replies asked_here i reply) → IsWelcomed h s requests replies i c.principal
   welcomed c = elim c.who [ inl who ↦ absurd (cc who) | inr w ↦ w ]
 
-  allowed_as : {i at hit value : ℕ} (c : Called h es s (beginning t.first) requests replies asks i (Allowed at hit value)) (verdict : Verdict) → Allowed at hit value ≡ verdict_reply c.at c.hit c.value verdict
+  allowed_as : {i at hit value : ℕ} (c : Called h es s (beginning t.first) requests replies asked_here i (Allowed at hit value)) (verdict : Verdict) → Allowed at hit value ≡ verdict_reply c.at c.hit c.value verdict
       → IsFound h es c.principal c.op c.object c.at c.asked verdict
-      → IsCallOf h es s low requests replies asks i at (λ p op object asked. IsEarned h es p op object at asked × (hit ≡ 1 → asked ≡ []))
+      → IsCallOf h es s low requests replies asked_here i at (λ p op object asked. IsEarned h es p op object at asked × (hit ≡ 1 → asked ≡ []))
   allowed_as c (DeniedVerdict reason) is found = absurd (cc is)
   allowed_as {i} {at} {hit} c AllowedVerdict is found =
       let same : c.at ≡ at = cc is in
@@ -299,12 +311,10 @@ module _ {h : Head} {es : List EntryTree} {s low : ℕ} {requests : List Request
         op = c.op;
         object = c.object;
         arg = c.arg;
-        earlier = c.earlier;
         asked = c.asked;
-        later = c.later;
         call = c.call;
         welcomed = welcomed c;
-        asks_are = c.asks_are;
+        asked_is = c.asked_is;
         late = omega (arith, c.late, same, first);
         within = omega (arith, c.within, same);
         truth = (
@@ -313,9 +323,9 @@ module _ {h : Head} {es : List EntryTree} {s low : ℕ} {requests : List Request
         );
       }
 
-  denied_as : {i at cause line fault : ℕ} (c : Called h es s (beginning t.first) requests replies asks i (Denied at cause line fault)) (verdict : Verdict) → Denied at cause line fault ≡ verdict_reply c.at c.hit c.value verdict
+  denied_as : {i at cause line fault : ℕ} (c : Called h es s (beginning t.first) requests replies asked_here i (Denied at cause line fault)) (verdict : Verdict) → Denied at cause line fault ≡ verdict_reply c.at c.hit c.value verdict
       → IsFound h es c.principal c.op c.object c.at c.asked verdict
-      → IsCallOf h es s low requests replies asks i at (λ p op object asked. IsRefuted h es p op object at asked cause line fault)
+      → IsCallOf h es s low requests replies asked_here i at (λ p op object asked. IsRefuted h es p op object at asked cause line fault)
   denied_as c AllowedVerdict is found = absurd (cc is)
   denied_as {i} {at} {cause} {line} {fault} c (DeniedVerdict reason) is found =
       let same : c.at ≡ at = cc is in
@@ -326,12 +336,10 @@ module _ {h : Head} {es : List EntryTree} {s low : ℕ} {requests : List Request
         op = c.op;
         object = c.object;
         arg = c.arg;
-        earlier = c.earlier;
         asked = c.asked;
-        later = c.later;
         call = c.call;
         welcomed = welcomed c;
-        asks_are = c.asks_are;
+        asked_is = c.asked_is;
         late = omega (arith, c.late, same, first);
         within = omega (arith, c.within, same);
         truth = refuted_as (sym same) (cc is) (cc is) (cc is) refuted;
@@ -339,6 +347,8 @@ module _ {h : Head} {es : List EntryTree} {s low : ℕ} {requests : List Request
 
 pub tells_what_is_true : TellsWhatIsTrue
 tells_what_is_true h es s low requests replies asks trail last t = record {
+  asked_for = asked_here t;
+  asks_are = asked_all h es s requests replies (beginning t.first) asks t.steps t.added last t.leads;
   allowed = λ i at hit value here. let c = called requests replies (beginning t.first) asks t.steps t.added last t.leads i (Allowed at hit value) here refl in allowed_as t c c.verdict c.reply_is c.found;
   denied = λ i at cause line fault here. let c = called requests replies (beginning t.first) asks t.steps t.added last t.leads i (Denied at cause line fault) here refl in denied_as t c c.verdict c.reply_is c.found;
 }

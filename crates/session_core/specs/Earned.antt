@@ -1,5 +1,6 @@
 -- What the replies of a session mean: the promise of the whole service, reply by reply.
-use Rattle.std.specs.Prelude.{◌≡◌, ◌≤◌, ◌<◌, ◌+◌, ℕ, List, [], ◌++◌, length, map, Option, Some, None, slice_get}
+use Rattle.std.specs.Prelude.{◌≡◌, ◌≤◌, ◌<◌, ◌+◌, ℕ, List, [], length, map, Option, Some, None, slice_get}
+use Rattle.std.specs.List.{flat_map}
 use Rattle.nal_rules.specs.Numbers.{cause_numbers}
 use Rattle.nal_rules.specs.declared.verdicts.Cause.{Cause}
 use Rattle.object_table.specs.Objects.{number_of}
@@ -50,28 +51,28 @@ pub record IsWelcomed (h : Head) (s : ℕ) (requests : List Request) (replies : 
   pub admitted_is : admitted h.principals name secret ≡ Some p
 
 -- Request i is a call of a principal who was welcomed, and at this length of the history, which is none below `low`, what was asked for it makes this true of it
-pub record IsCallOf (h : Head) (es : List EntryTree) (s low : ℕ) (requests : List Request) (replies : List Reply) (asks : List Told) (i at : ℕ)
+pub record IsCallOf (h : Head) (es : List EntryTree) (s low : ℕ) (requests : List Request) (replies : List Reply) (asked_for : List (List Told)) (i at : ℕ)
     (Truth : ℕ → List ℕ → List ℕ → List Told → Type 0) : Type 0 where
   pub principal : ℕ
   pub op : List ℕ
   pub object : List ℕ
   pub arg : ℕ
-  pub earlier : List Told
   pub asked : List Told
-  pub later : List Told
   pub call : slice_get requests i ≡ Some (Call op object arg)
   pub welcomed : IsWelcomed h s requests replies i principal
-  pub asks_are : asks ≡ earlier ++ (asked ++ later)
+  pub asked_is : slice_get asked_for i ≡ Some asked
   pub late : low ≤ at
   pub within : at ≤ length es
   pub truth : Truth principal op object asked
 
--- What a session was told of its calls is true. Each reply that allows a call is earned at the point that it names, and where its verdict was a kept one nobody was asked. Each that denies a call tells the first cause that is true there
+-- What a session was told of its calls is true. What was asked in it was asked for its requests, one behind the other. Each reply that allows a call is earned at the point that it names, and where its verdict was a kept one nobody was asked. Each that denies a call tells the first cause that is true there
 pub record IsTrue (h : Head) (es : List EntryTree) (s low : ℕ) (requests : List Request) (replies : List Reply) (asks : List Told) : Type 0 where
+  pub asked_for : List (List Told)
+  pub asks_are : asks ≡ flat_map (λ (mine : List Told). mine) asked_for
   pub allowed : (i at hit value : ℕ) → slice_get replies i ≡ Some (Allowed at hit value)
-      → IsCallOf h es s low requests replies asks i at (λ p op object asked. IsEarned h es p op object at asked × (hit ≡ 1 → asked ≡ []))
+      → IsCallOf h es s low requests replies asked_for i at (λ p op object asked. IsEarned h es p op object at asked × (hit ≡ 1 → asked ≡ []))
   pub denied : (i at cause line fault : ℕ) → slice_get replies i ≡ Some (Denied at cause line fault)
-      → IsCallOf h es s low requests replies asks i at (λ p op object asked. IsRefuted h es p op object at asked cause line fault)
+      → IsCallOf h es s low requests replies asked_for i at (λ p op object asked. IsRefuted h es p op object at asked cause line fault)
 
 -- whatever a session over a shared board is told
 abbrev pub TellsWhatIsTrue : Type 0
@@ -135,27 +136,27 @@ pub record IsWelcomedIn (h : Head) (first : ℕ) (askings : List Asking) (replie
   pub admitted_is : admitted h.principals name secret ≡ Some p
 
 -- As of a session over a board: request i is a call of a principal who was welcomed in the session in its place
-pub record IsAskingOf (h : Head) (first : ℕ) (es : List EntryTree) (askings : List Asking) (replies : List Reply) (asks : List Told) (i at : ℕ) (Truth : ℕ → List ℕ → List ℕ → List Told → Type 0) : Type 0 where
+pub record IsAskingOf (h : Head) (first : ℕ) (es : List EntryTree) (askings : List Asking) (replies : List Reply) (asked_for : List (List Told)) (i at : ℕ) (Truth : ℕ → List ℕ → List ℕ → List Told → Type 0) : Type 0 where
   pub principal : ℕ
   pub place : ℕ
   pub op : List ℕ
   pub object : List ℕ
   pub arg : ℕ
-  pub earlier : List Told
   pub asked : List Told
-  pub later : List Told
   pub call : slice_get askings i ≡ Some (record { place = place; request = Call op object arg })
   pub welcomed : IsWelcomedIn h first askings replies i place principal
-  pub asks_are : asks ≡ earlier ++ (asked ++ later)
+  pub asked_is : slice_get asked_for i ≡ Some asked
   pub within : at ≤ length es
   pub truth : Truth principal op object asked
 
--- What sessions over one journal were told of their calls is true of the journal that they left. Their points rise, whichever of them is told one
+-- What sessions over one journal were told of their calls is true of the journal that they left. What was asked in them was asked for their requests, one behind the other. Their points rise, whichever of them is told one
 pub record IsTrueAlone (h : Head) (first : ℕ) (es : List EntryTree) (askings : List Asking) (replies : List Reply) (asks : List Told) : Type 0 where
+  pub asked_for : List (List Told)
+  pub asks_are : asks ≡ flat_map (λ (mine : List Told). mine) asked_for
   pub allowed : (i at hit value : ℕ) → slice_get replies i ≡ Some (Allowed at hit value)
-      → IsAskingOf h first es askings replies asks i at (λ p op object asked. IsEarned h es p op object at asked)
+      → IsAskingOf h first es askings replies asked_for i at (λ p op object asked. IsEarned h es p op object at asked)
   pub denied : (i at cause line fault : ℕ) → slice_get replies i ≡ Some (Denied at cause line fault)
-      → IsAskingOf h first es askings replies asks i at (λ p op object asked. IsRefuted h es p op object at asked cause line fault)
+      → IsAskingOf h first es askings replies asked_for i at (λ p op object asked. IsRefuted h es p op object at asked cause line fault)
   pub points : PointsRise 0 replies
   pub seen : SeenLasts (map (λ (asking : Asking). asking.request) askings) replies
 
