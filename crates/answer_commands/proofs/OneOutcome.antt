@@ -1,11 +1,12 @@
 -- An input has one outcome.
-use Rattle.std.proofs.Common.{◌≡◌, ◌≢◌, ◌↔◌, ◌+◌, ◌++◌, inl, inr, ℕ, List, [], ◌∷◌, Bool, true, false, IsTrue, refl, sym, ap, subst, ◌∙◌, arith}
+use Rattle.std.proofs.Common.{◌≡◌, ◌≢◌, ◌≤◌, ◌↔◌, ◌+◌, ◌++◌, inl, inr, ℕ, List, [], ◌∷◌, length, Bool, true, false, IsTrue, refl, sym, ap, subst, ◌∙◌, arith}
 use Rattle.nal_term.specs.Trees.{FormulaTree}
 use Rattle.proof_lines.specs.Lines.{LineTree}
 use Rattle.nal_rules.specs.declared.verdicts.Verdict.{Verdict}
 use Rattle.run_streams.specs.declared.refusals.InputRefusal.{InputRefusal}
 use Rattle.run_streams.specs.declared.refusals.InputRefusal.TheVariants.{WrongLine, TooLarge}
 use Rattle.run_streams.specs.Refusals.{IsRefusal}
+use Rattle.run_streams.specs.Runs.{most_bytes}
 use Rattle.text_lines.specs.Lines.{first_line, after_line}
 use Rattle.form_lines.specs.Statements.{IsGoal, IsStatement}
 use Rattle.answer_commands.specs.CheckForm.{CheckForm, Stage, labels_due, yes_due, proof_due, Follows, header, subject, label, first_yes, next_yes, goal, goal_after_yes, Reaches, IsCheckForm, IsStuck, IsBeforeProof, IsLineOfError, IsLineOfSegment, IsWrongAt, before_proof, in_proof}
@@ -140,10 +141,14 @@ same_refusal text TooLarge (WrongLine k) o p = absurd (omega (arith, o, p.0))
 same_refusal text (WrongLine k) TooLarge o p = absurd (omega (arith, p, o.0))
 same_refusal text (WrongLine k) (WrongLine j) o p = ap WrongLine (wrong_one o.1 p.1)
 
+never_both : (text : List ℕ) (refusal : InputRefusal) (verdict : Verdict) → length text ≤ most_bytes → IsRefusal check_command.form text refusal → ¬ IsChecked text verdict
+never_both text TooLarge verdict small r is = omega (arith, small, r)
+never_both text (WrongLine k) verdict small r is = r.2 (is.0, is.1)
+
 -- an input has one outcome
 pub one_outcome : OneOutcome
 one_outcome = record {
   one_verdict = same_verdict;
   one_refusal = same_refusal;
-  not_both = λ text k verdict r is. r.2 (is.0, is.1);
+  not_both = never_both;
 }
