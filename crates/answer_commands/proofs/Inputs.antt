@@ -1,5 +1,5 @@
 -- How the lines of an input lead from stage to stage.
-use Rattle.std.proofs.Common.{◌≡◌, ◌≢◌, ◌<◌, ◌≤◌, ◌+◌, ◌==◌, inl, inr, ℕ, List, [], ◌∷◌, length, true, false, Result, Ok, Err, IfErr, refl, sym, subst, ◌∙◌, arith}
+use Rattle.std.proofs.Common.{◌≡◌, ◌≢◌, ◌<◌, ◌+◌, ◌==◌, inl, inr, ℕ, List, [], ◌∷◌, length, true, false, Result, Ok, Err, IfErr, refl, arith}
 use Rattle.std.proofs.lemmas.Bool.Decides.{Decides-eqb}
 use Rattle.nal_term.specs.Trees.{FormulaTree}
 use Rattle.nal_term.specs.declared.formulas.Formula.{Formula}

@@ -20,7 +20,7 @@ pub struct Input {
 }
 
 impl Input {
-    ghost use Rattle.std.specs.Prelude.{◌≡◌, ◌≢◌, ◌<◌, ◌≤◌, ◌+◌, ◌^◌, List, length, IfOk, IfErr};
+    ghost use Rattle.std.specs.Prelude.{◌≡◌, ◌≢◌, ◌<◌, ◌+◌, ◌^◌, List, length, IfOk, IfErr};
     ghost use Rattle.nal_term.specs.Trees.{formula_tree};
     ghost use Rattle.proof_lines.specs.Lines.{LineTree, line_trees};
     ghost use Rattle.proof_text.specs.ProofText.{IsProofText};

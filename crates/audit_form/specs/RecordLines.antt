@@ -11,6 +11,7 @@ use Rattle.audit_check.specs.declared.records.Record.{Record}
 use Rattle.audit_check.specs.declared.records.Recorded.{Recorded}
 use Rattle.audit_check.specs.Audits.{IsWithin}
 use Rattle.audit_form.specs.VerdictTexts.{IsNumbered, verdict_text}
+use Rattle.nal_rules.specs.Faults.{most_asks}
 
 -- a letter for an answer: `y` for Yes, and `n` for No
 abbrev pub answer_letter : Bool → ℕ
@@ -28,7 +29,7 @@ answers_text Unknown = codes "?"
 
 -- at most 16 answers are given
 abbrev pub AreFew : Answers → Type 0
-AreFew (Known given) = length given ≤ 16
+AreFew (Known given) = length given ≤ most_asks
 AreFew Unknown = Unit {0}
 
 -- the line of a record: the point, the principal's name, the operation, the object, the answers, and what was answered

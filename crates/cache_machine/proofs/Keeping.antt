@@ -16,7 +16,7 @@ use Rattle.cache_machine.specs.Inner.Words.{IsCounted, IsSoundIn, Knows}
 
 -- ---- Lists
 
-some_same : {A : Type 0} (p q : A) → Some p ≡ Some q → p ≡ q
+pub some_same : {A : Type 0} (p q : A) → Some p ≡ Some q → p ≡ q
 some_same p q s = cc
 
 -- an element after one was set

@@ -1,5 +1,5 @@
 -- What an actor's stage says of what it did last, and that each step keeps it.
-use Rattle.std.proofs.Common.{◌≡◌, ◌≤◌, ℕ, Bool, true, false, nat_eq, ◌&&◌, List, [], ◌∷◌, ◌++◌, length, take, filter, Option, Some, None, refl, sym, ap, ◌∙◌, subst, arith, append_assoc, append-nil, length-append}
+use Rattle.std.proofs.Common.{◌≡◌, ◌≤◌, inl, inr, ℕ, Bool, true, false, nat_eq, ◌&&◌, List, [], ◌∷◌, ◌++◌, length, take, filter, Option, Some, None, refl, sym, ap, ◌∙◌, subst, arith, append_assoc, append-nil, length-append}
 use Rattle.std.specs.List.{slice_get, AllByRecursion, last_or}
 use Rattle.std.specs.Cmp.{unsigned_Decides}
 use Rattle.std.specs.Prelude.{option_map, option_and_then}
@@ -12,7 +12,7 @@ use Rattle.object_table.specs.Objects.{number_of}
 use Rattle.proof_store.specs.Cases.{number_of as case_number}
 use Rattle.policy_history.specs.declared.heads.Head.{Head}
 use Rattle.policy_history.specs.Events.{EntryTree}
-use Rattle.policy_history.specs.Judged.{case_at, store_region}
+use Rattle.policy_history.specs.Judged.{case_at, object_region, store_region}
 use Rattle.policy_history.specs.Machine.{replay}
 use Rattle.policy_history.specs.States.{State, case_named}
 use Rattle.policy_history.proofs.ForCallers.{case_numbers_stay, objects_stay}
@@ -20,11 +20,10 @@ use Rattle.cache_machine.specs.declared.stages.Kept.{Kept}
 use Rattle.cache_machine.specs.declared.stages.Place.{Place}
 use Rattle.cache_machine.specs.declared.steps.Told.{Told}
 use Rattle.cache_machine.specs.States.{ActorTree, MachineState, StageTree, resting, looked, counted, half, missed, raised, holding, allowed}
-use Rattle.cache_machine.specs.Moves.{ActTree, IsAnswered, MoveTree, Moves, write, look, count, snap, answer, fill, run, raise, object, store, idle, goes, tells, fills, raises, writes, policy, is_idle, place_in, region_at, slot_at, hit_in, found_move, after_verdict, kept_of, looked_at, look_move, count_move, object_move, store_move, snapped_at, snap_free, snap_move, fill_move, run_move, told_in}
+use Rattle.cache_machine.specs.Moves.{ActTree, Acts, MoveTree, Moves, look, count, snap, answer, object, store, idle, goes, tells, fills, raises, writes, looks, counts, loads, hits, snaps, answers, after_verdict, is_idle, kept_of, place_in, policy, region_at, slot_at, told_in}
 use Rattle.cache_machine.specs.Runs.{Happened, told_of}
 use Rattle.cache_machine.specs.Justified.{IsAnswerAfter, IsHitAfter, did, is_count, is_look, is_snap, last_did}
 use Rattle.cache_machine.specs.Inner.Words.{IsWorded, Knows}
-use Rattle.cache_machine.proofs.Acts.{raise_comes, write_comes}
 use Rattle.cache_machine.proofs.Stepping.{hit_is, store_quiet}
 
 -- ---- The last that passes
@@ -262,9 +261,6 @@ module _ (s : MachineState) (w : IsWorded s) (a : ℕ) (y : ActorTree) (at_actor
   NextLink act (raises region event) = Unit {0}
   NextLink act (writes event) = Unit {0}
 
-  at_rest : (act : ActTree) (move : MoveTree) → move ≡ idle → NextLink act move
-  at_rest act move e = subst (NextLink act) (sym e) tt
-
   whole : {A : Type 0} (xs : List A) → take (length xs) xs ≡ xs
   whole [] = refl
   whole (x ∷ xs) = ap (λ ys. x ∷ ys) (whole xs)
@@ -276,61 +272,29 @@ module _ (s : MachineState) (w : IsWorded s) (a : ℕ) (y : ActorTree) (at_actor
   did_now : (kind : ActTree → Bool) (act : ActTree) (stage : StageTree) → kind act ≡ true → did kind a (this_step act (goes stage)) ≡ true
   did_now kind act stage e = rw (e, same_as_itself a) refl
 
-  looked_link : (op name : List ℕ) (o : Option Place) → place_in (policy s) p op name ≡ o → NextLink (look op name) (looked_at s o)
-  looked_link op name None e = tt
-  looked_link op name (Some place) e =
-      let x = this_step (look op name) (looked_at s (Some place)) in
+  after_link : (act : ActTree) (move : MoveTree) (verdict : Verdict) (kept : Option Kept) → LinkedNow act move (after_verdict verdict kept)
+  after_link act move Allowed kept = tt
+  after_link act move (Denied cause) kept = tt
+
+  -- what an act can come to
+  acts_link : {stage : StageTree} {act : ActTree} {move : MoveTree} → Acts s a y.session p stage act move → Linked s.head s.entries a p xs stage → Knows s.head s.entries s.regions s.holder a y.session p stage → NextLink act move
+  acts_link (looks {op = op} {name = name} {place = place} e) l known =
+      let x = this_step (look op name) (goes (looked place (slot_at s place.case))) in
       record { looking = x; last_look = last_new (did is_look a) xs x (did_now is_look (look op name) (looked place (slot_at s place.case)) refl); op = op; name = name; look_is = refl; place_is = e }
-
-  pub look_link : (stage : StageTree) (op name : List ℕ) (move : MoveTree) → move ≡ look_move s p stage op name → NextLink (look op name) move
-  look_link (resting kept) op name move e = subst (NextLink (look op name)) (sym e) (looked_link op name (place_in (policy s) p op name) refl)
-  look_link (looked place slot) op name move e = at_rest (look op name) move e
-  look_link (counted place slot at) op name move e = at_rest (look op name) move e
-  look_link (half place slot at word) op name move e = at_rest (look op name) move e
-  look_link missed op name move e = at_rest (look op name) move e
-  look_link (raised event) op name move e = at_rest (look op name) move e
-  look_link (holding c number at) op name move e = at_rest (look op name) move e
-  look_link (allowed kept) op name move e = at_rest (look op name) move e
-
-  pub count_link : (stage : StageTree) → Linked s.head s.entries a p xs stage → (move : MoveTree) → move ≡ count_move s stage → NextLink count move
-  count_link (looked place slot) l move e =
+  acts_link (counts {place} {slot}) l known =
       let x = this_step count (goes (counted place slot (length s.entries))) in
-      subst (NextLink count) (sym e) (record {
+      record {
         within = omega arith;
         looks = subst (λ (zs : List EntryTree). HasLooked s.head zs a p (xs ++ x ∷ []) place) (sym (whole s.entries)) (looked_still s.head s.entries a p xs x place refl l);
         counting = x;
         last_count = last_new (did is_count a) xs x (did_now is_count count (counted place slot (length s.entries)) refl);
         dated = refl;
         highest = highest_still s.head s.entries a p xs x (length s.entries) tt all_up_to;
-      })
-  count_link (resting kept) l move e = at_rest count move e
-  count_link (counted place slot at) l move e = at_rest count move e
-  count_link (half place slot at word) l move e = at_rest count move e
-  count_link missed l move e = at_rest count move e
-  count_link (raised event) l move e = at_rest count move e
-  count_link (holding c number at) l move e = at_rest count move e
-  count_link (allowed kept) l move e = at_rest count move e
-
-  pub object_link : (stage : StageTree) → Linked s.head s.entries a p xs stage → (move : MoveTree) → move ≡ object_move s stage → NextLink object move
-  object_link (counted place slot at) l move e =
-      subst (NextLink object) (sym e) (linked_still s.head s.entries a p xs (this_step object (object_move s (counted place slot at))) refl refl refl (λ n. tt) (counted place slot at) l)
-  object_link (resting kept) l move e = at_rest object move e
-  object_link (looked place slot) l move e = at_rest object move e
-  object_link (half place slot at word) l move e = at_rest object move e
-  object_link missed l move e = at_rest object move e
-  object_link (raised event) l move e = at_rest object move e
-  object_link (holding c number at) l move e = at_rest object move e
-  object_link (allowed kept) l move e = at_rest object move e
-
-  after_link : (act : ActTree) (move : MoveTree) (verdict : Verdict) (kept : Option Kept) → LinkedNow act move (after_verdict verdict kept)
-  after_link act move Allowed kept = tt
-  after_link act move (Denied cause) kept = tt
-
-  hit_link : (place : Place) (slot : Option Kept) (at word : ℕ) → HasCounted s.head s.entries a p xs place at → Knows s.head s.entries s.regions s.holder a y.session p (half place slot at word) → (o : Option Verdict)
-      → hit_in slot place.case word (region_at s (store_region p)) ≡ o → NextLink store (found_move a at o)
-  hit_link place slot at word l known None e = tt
-  hit_link place slot at word l known (Some verdict) e = (
-    after_link store (found_move a at (Some verdict)) verdict None,
+      }
+  acts_link (loads {place} {slot} {at}) l known =
+      linked_still s.head s.entries a p xs (this_step object (goes (half place slot at (region_at s (object_region place.object))))) refl refl refl (λ n. tt) (counted place slot at) l
+  acts_link (hits {place} {slot} {at} {word} {kept} h) l known = (
+    after_link store _ kept.verdict None,
     record {
       mine = refl;
       within = l.within;
@@ -346,119 +310,52 @@ module _ (s : MachineState) (w : IsWorded s) (a : ℕ) (y : ActorTree) (at_actor
         look_is = l.looks.look_is;
         case = place.case;
         case_is = case_of_place (replay s.head (take at s.entries)) p l.looks.op l.looks.name place l.looks.place_is;
-        right = hit_is s w a y at_actor place slot at word (region_at s (store_region p)) known.0 known.1 (store_quiet s w a y at_actor at) verdict e;
+        right = hit_is s w a y at_actor place slot at word (region_at s (store_region p)) known.0 known.1 (store_quiet s w a y at_actor at) kept h;
       };
       answered = λ no. absurd (cc no);
     },
   )
-
-  pub store_link : (stage : StageTree) → Linked s.head s.entries a p xs stage → Knows s.head s.entries s.regions s.holder a y.session p stage → (move : MoveTree) → move ≡ store_move s a p stage → NextLink store move
-  store_link (half place slot at word) l known move e = subst (NextLink store) (sym e) (hit_link place slot at word l known (hit_in slot place.case word (region_at s (store_region p))) refl)
-  store_link (resting kept) l known move e = at_rest store move e
-  store_link (looked place slot) l known move e = at_rest store move e
-  store_link (counted place slot at) l known move e = at_rest store move e
-  store_link missed l known move e = at_rest store move e
-  store_link (raised event) l known move e = at_rest store move e
-  store_link (holding c number at) l known move e = at_rest store move e
-  store_link (allowed kept) l known move e = at_rest store move e
-
-  snapped_link : (op name : List ℕ) (o : Option ℕ) → number_of (policy s).objects name ≡ o → NextLink (snap op name) (snapped_at s p op o)
-  snapped_link op name None e = tt
-  snapped_link op name (Some n) e =
-      let x = this_step (snap op name) (snapped_at s p op (Some n)) in
+  acts_link (snaps {op = op} {name = name} {n = n} may free n_is) l known =
+      let stage = holding (case_at s.head (policy s) p op n) (case_number (policy s).cases p op n) (length s.entries) in
+      let x = this_step (snap op name) (goes stage) in
       record {
         within = omega arith;
         snapping = x;
-        last_snap = last_new (did is_snap a) xs x (did_now is_snap (snap op name) (holding (case_at s.head (policy s) p op n) (case_number (policy s).cases p op n) (length s.entries)) refl);
+        last_snap = last_new (did is_snap a) xs x (did_now is_snap (snap op name) stage refl);
         dated = refl;
         op = op;
         name = name;
         snap_is = refl;
         object = n;
-        object_is = rw (whole s.entries) e;
+        object_is = rw (whole s.entries) n_is;
         case_is = rw (whole s.entries) refl;
         highest = highest_still s.head s.entries a p xs x (length s.entries) tt all_up_to;
       }
-
-  free_link : (op name : List ℕ) (o : Option ℕ) → NextLink (snap op name) (snap_free s p op name o)
-  free_link op name None = snapped_link op name (number_of (policy s).objects name) refl
-  free_link op name (Some holder) = tt
-
-  pub snap_link : (stage : StageTree) (op name : List ℕ) (move : MoveTree) → move ≡ snap_move s p stage op name → NextLink (snap op name) move
-  snap_link (resting kept) op name move e = subst (NextLink (snap op name)) (sym e) (free_link op name s.holder)
-  snap_link missed op name move e = subst (NextLink (snap op name)) (sym e) (free_link op name s.holder)
-  snap_link (looked place slot) op name move e = at_rest (snap op name) move e
-  snap_link (counted place slot at) op name move e = at_rest (snap op name) move e
-  snap_link (half place slot at word) op name move e = at_rest (snap op name) move e
-  snap_link (raised event) op name move e = at_rest (snap op name) move e
-  snap_link (holding c number at) op name move e = at_rest (snap op name) move e
-  snap_link (allowed kept) op name move e = at_rest (snap op name) move e
-
-  pub answer_link : (stage : StageTree) → Linked s.head s.entries a p xs stage → (answers : List Bool) (move : MoveTree) → IsAnswered a stage answers move → NextLink (answer answers) move
-  answer_link (holding c number at) l answers move (verdict, judged, e) =
-      subst (NextLink (answer answers)) (sym e) (
-        after_link (answer answers) _ verdict (kept_of c number at verdict),
-        record {
-          mine = refl;
-          within = l.within;
-          highest = l.highest;
-          hit = λ no. absurd (cc no);
-          answered = λ _. record {
-            snapping = l.snapping;
-            last_snap = l.last_snap;
-            dated = l.dated;
-            op = l.op;
-            name = l.name;
-            snap_is = l.snap_is;
-            object = l.object;
-            object_is = l.object_is;
-            answers = answers;
-            answered = refl;
-            verdict = subst (λ (z : CaseTree). IsVerdict z answers verdict) l.case_is judged;
-          };
-        },
-      )
-  answer_link (resting kept) l answers move e = at_rest (answer answers) move e
-  answer_link (looked place slot) l answers move e = at_rest (answer answers) move e
-  answer_link (counted place slot at) l answers move e = at_rest (answer answers) move e
-  answer_link (half place slot at word) l answers move e = at_rest (answer answers) move e
-  answer_link missed l answers move e = at_rest (answer answers) move e
-  answer_link (raised event) l answers move e = at_rest (answer answers) move e
-  answer_link (allowed kept) l answers move e = at_rest (answer answers) move e
-
-  filled_link : (o : Option Kept) → NextLink fill (fill_move (allowed o)) × NextLink fill (fill_move (resting o))
-  filled_link None = (tt, tt)
-  filled_link (Some kept) = (tt, tt)
-
-  fill_link : (stage : StageTree) → NextLink fill (fill_move stage)
-  fill_link (allowed kept) = (filled_link kept).0
-  fill_link (resting kept) = (filled_link kept).1
-  fill_link (looked place slot) = tt
-  fill_link (counted place slot at) = tt
-  fill_link (half place slot at word) = tt
-  fill_link missed = tt
-  fill_link (raised event) = tt
-  fill_link (holding c number at) = tt
-
-  run_link : (stage : StageTree) → NextLink run (run_move stage)
-  run_link (allowed kept) = tt
-  run_link (resting kept) = tt
-  run_link (looked place slot) = tt
-  run_link (counted place slot at) = tt
-  run_link (half place slot at word) = tt
-  run_link missed = tt
-  run_link (raised event) = tt
-  run_link (holding c number at) = tt
+  acts_link (answers {c} {number} {at} {given} {verdict} told) l known = (
+    after_link (answer given) _ verdict (kept_of c number at verdict),
+    record {
+      mine = refl;
+      within = l.within;
+      highest = l.highest;
+      hit = λ no. absurd (cc no);
+      answered = λ _. record {
+        snapping = l.snapping;
+        last_snap = l.last_snap;
+        dated = l.dated;
+        op = l.op;
+        name = l.name;
+        snap_is = l.snap_is;
+        object = l.object;
+        object_is = l.object_is;
+        answers = given;
+        answered = refl;
+        verdict = subst (λ (z : CaseTree). IsVerdict z given verdict) l.case_is told;
+      };
+    },
+  )
+  acts_link _ l known = tt
 
   -- whatever the act
   pub move_link : Linked s.head s.entries a p xs y.stage → (act : ActTree) (move : MoveTree) → Moves s a y act move → NextLink act move
-  move_link l (look op name) move m = look_link y.stage op name move m
-  move_link l count move m = count_link y.stage l move m
-  move_link l object move m = object_link y.stage l move m
-  move_link l store move m = store_link y.stage l (w.knows a y at_actor) move m
-  move_link l (snap op name) move m = snap_link y.stage op name move m
-  move_link l (answer answers) move m = answer_link y.stage l answers move m
-  move_link l (write event) move m = write_comes (NextLink (write event)) tt event tt s y y.stage move m
-  move_link l (raise event) move m = subst (NextLink (raise event)) (sym m) (raise_comes (NextLink (raise event)) tt (λ region own. tt) s y y.stage event)
-  move_link l fill move m = subst (NextLink fill) (sym m) (fill_link y.stage)
-  move_link l run move m = subst (NextLink run) (sym m) (run_link y.stage)
+  move_link l act move (inl h) = acts_link h l (w.knows a y at_actor)
+  move_link l act move (inr (is, none)) = subst (NextLink act) (sym is) tt

@@ -1,6 +1,8 @@
 -- What the code reads of the journal and of the actors, as facts of the state.
 use Rattle.std.proofs.Common.{◌≡◌, ◌<◌, ℕ, List, [], ◌∷◌, length, map, Option, Some, None, Ok, Err, refl, sym, ap, ◌∙◌, get_or}
 use Rattle.std.specs.List.{slice_get, list_any}
+use Rattle.std.specs.Prelude.{IfOk, Result}
+use Rattle.std.specs.declared.alloc.AllocError.{AllocError}
 use Rattle.std.proofs.Math.ListN.{set}
 use Rattle.std.proofs.lemmas.List.{map-set}
 use Rattle.std.proofs.lemmas.Option.{slice_get-map, slice_get-get_or}
@@ -16,10 +18,13 @@ use Rattle.policy_history.specs.Machine.{refusal_of}
 use Rattle.policy_history.specs.States.{State}
 use Rattle.policy_history.specs.Values.{decision}
 use Rattle.cache_machine.specs.declared.stages.Actor.{Actor}
+use Rattle.cache_machine.specs.declared.stages.Move.{Move}
 use Rattle.cache_machine.specs.declared.stages.Stage.{Stage}
 use Rattle.cache_machine.specs.States.{ActorTree, MachineState, StageTree}
-use Rattle.cache_machine.specs.Moves.{gone_on, idle, policy, raise_free, raised_move, write_free, written_move}
-use Rattle.cache_machine.specs.Views.{actor_tree, stage_tree}
+use Rattle.cache_machine.specs.Moves.{ActTree, MovesAt, gone_on, idle, policy}
+use Rattle.cache_machine.specs.Inner.MoveFunctions.{ComesTo, raise_free, raised_move, write_free, written_move}
+use Rattle.cache_machine.specs.Views.{actor_tree, move_tree, stage_tree}
+use Rattle.cache_machine.proofs.Acts.{comes_to_acts}
 
 -- what decides is refused, or accepted
 pub decided_err : (h : Head) (s : State) (n p : ℕ) (e : EventTree) (refusal : Refusal) → Err refusal ≡ decision h s n p e → refusal_of h s n p e ≡ Some refusal
@@ -44,6 +49,12 @@ any_ask (l ∷ ls) = rw (any_ask ls) refl
 -- an actor by its number
 pub actor_at : (xs : List Actor) (i : ℕ) (d : Actor) → i < length xs → slice_get (map actor_tree xs) i ≡ Some (actor_tree (get_or xs i d))
 actor_at xs i d within = slice_get-map actor_tree xs i ∙ rw (slice_get-get_or xs i d within) refl
+
+-- what the functions give of an actor's act is what its step comes to
+pub planned : (s : MachineState) (a : ℕ) (x : ActorTree) (act : ActTree) (r : Result Move AllocError) → slice_get s.actors a ≡ Some x → IfOk r (λ (m : Move). ComesTo s a x x.stage act (move_tree m))
+    → IfOk r (λ (m : Move). MovesAt s a (slice_get s.actors a) act (move_tree m))
+planned s a x act (Ok m) at comes = rw at (comes_to_acts s a x x.stage act (move_tree m) comes)
+planned s a x act (Err e) at comes = tt
 
 -- what an event comes to where the lock is free
 module _ (s : MachineState) (x : ActorTree) (e : EventTree) (free : s.holder ≡ None) where

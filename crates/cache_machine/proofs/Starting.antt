@@ -13,6 +13,7 @@ use Rattle.cache_machine.specs.declared.stages.Actor.{Actor}
 use Rattle.cache_machine.specs.declared.stages.Kept.{Kept}
 use Rattle.cache_machine.specs.Inner.Words.{IsWorded, Knows}
 use Rattle.cache_machine.specs.Machines.{first_actors, first_state}
+use Rattle.cache_machine.specs.Moves.{all_regions, slot_count}
 use Rattle.cache_machine.specs.States.{ActorTree, StageTree, resting}
 use Rattle.cache_machine.specs.Views.{actor_tree}
 
@@ -76,12 +77,12 @@ first_at P session (p ∷ ps) all (suc a) x e = first_at P (session + 1) ps all.
 
 pub first_worded : (h : Head) (es : List EntryTree) (ps : List ℕ) → All (λ p. p < length h.principals) ps → IsWorded (first_state h es ps)
 first_worded h es ps all = record {
-  slots = length-replicate {A = Option Kept} 4096 None;
-  regions = length-replicate 512 (length es);
+  slots = length-replicate {A = Option Kept} slot_count None;
+  regions = length-replicate all_regions (length es);
   sound = λ i kept e. absurd (none_kept i kept e);
-  words = λ region word e. word_at region word (get_replicate 512 (length es) region word e);
+  words = λ region word e. word_at region word (get_replicate all_regions (length es) region word e);
   principals = λ a x e. (first_at Below (greatest_of es + 1) ps each a x e).0;
-  knows = λ a x e. subst (λ (stage : StageTree). Knows h es (replicate 512 (length es)) None a x.session x.principal stage) (sym (first_at Below (greatest_of es + 1) ps each a x e).1) tt;
+  knows = λ a x e. subst (λ (stage : StageTree). Knows h es (replicate all_regions (length es)) None a x.session x.principal stage) (sym (first_at Below (greatest_of es + 1) ps each a x e).1) tt;
 }
   where
     Below : ℕ → Type 0
@@ -90,14 +91,14 @@ first_worded h es ps all = record {
     each : AllByRecursion Below ps
     each = recursion_from_All Below ps all
 
-    none_kept : (i : ℕ) (kept : Kept) → slice_get (replicate 4096 None) i ≡ Some (Some kept) → ⊥
-    none_kept i kept e = let none = get_replicate 4096 None i (Some kept) e in cc none
+    none_kept : (i : ℕ) (kept : Kept) → slice_get (replicate slot_count None) i ≡ Some (Some kept) → ⊥
+    none_kept i kept e = let none = get_replicate slot_count None i (Some kept) e in cc none
 
     word_at : (region word : ℕ) → word ≡ length es → IsUntouched h es word region × (word ≤ length es + 1)
     word_at region word is = ((λ before e later split from touch. let long = ap length split in let both = length-append before (e ∷ later) in absurd (omega (arith, from, is, long, both))), omega (arith, is))
 
 -- so is a state that is made of the same parts
-pub made_first : (h : Head) (es : List EntryTree) (ps : List ℕ) (slots : List (Option Kept)) (regions : List ℕ) (actors : List ActorTree) (n : ℕ) → slots ≡ replicate 4096 None → regions ≡ replicate 512 n → n ≡ length es → actors ≡ first_actors (greatest_of es + 1) ps
+pub made_first : (h : Head) (es : List EntryTree) (ps : List ℕ) (slots : List (Option Kept)) (regions : List ℕ) (actors : List ActorTree) (n : ℕ) → slots ≡ replicate slot_count None → regions ≡ replicate all_regions n → n ≡ length es → actors ≡ first_actors (greatest_of es + 1) ps
     → first_state h es ps ≡ record { head = h; entries = es; slots = slots; regions = regions; holder = None; actors = actors }
 made_first h es ps slots regions actors n slots_are regions_are long actors_are = rw (slots_are, regions_are, long, actors_are) refl
 

@@ -7,7 +7,7 @@ use Rattle.cache_machine.specs.declared.steps.Outcome.{Outcome}
 use Rattle.cache_machine.specs.declared.steps.Told.{Told}
 use Rattle.cache_machine.specs.declared.stages.World.{World}
 use Rattle.cache_machine.specs.States.{ActorTree, MachineState, resting}
-use Rattle.cache_machine.specs.Moves.{IsStep, MoveTree, StepTree, idle_after, told_in}
+use Rattle.cache_machine.specs.Moves.{IsStep, MoveTree, StepTree, all_regions, idle_after, slot_count, told_in}
 use Rattle.cache_machine.specs.Runs.{Happened, IsRightMove, IsRun, entries_of, idle_over, own, told_of, writes_of}
 use Rattle.cache_machine.specs.Justified.{IsJustified}
 use Rattle.cache_machine.specs.Views.{state_of}
@@ -32,8 +32,8 @@ abbrev pub first_state : Head → List EntryTree → List ℕ → MachineState
 first_state h es principals = record {
   head = h;
   entries = es;
-  slots = replicate 4096 None;
-  regions = replicate 512 (length es);
+  slots = replicate slot_count None;
+  regions = replicate all_regions (length es);
   holder = None;
   actors = first_actors (greatest_of es + 1) principals;
 }

@@ -1,5 +1,5 @@
 -- The steps of the machine: what each act of an actor comes to, and the state after it.
-use Rattle.std.specs.Prelude.{◌≡◌, ◌≢◌, ◌⊎◌, ◌+◌, ◌%◌, ℕ, List, [], ◌∷◌, ◌++◌, length, Bool, true, false, not, ◌&&◌, nat_eq, nat_le, Option, Some, None, cond, option_map, option_and_then, unwrap_or, slice_get, slice_set, if◌then◌else◌}
+use Rattle.std.specs.Prelude.{◌≡◌, ◌⊎◌, ◌≤◌, ◌+◌, ◌%◌, ℕ, List, [], ◌∷◌, ◌++◌, length, Bool, true, false, not, Option, Some, None, cond, option_map, option_and_then, unwrap_or, slice_get, slice_set, if◌then◌else◌}
 use Rattle.std.specs.List.{list_any}
 use Rattle.nx_io.specs.Streams.{one_more}
 use Rattle.nal_rules.specs.Asking.{lines_of}
@@ -10,9 +10,8 @@ use Rattle.nal_rules.specs.declared.verdicts.Verdict.{Verdict}
 use Rattle.nal_rules.specs.declared.verdicts.Verdict.TheVariants.{Allowed, Denied}
 use Rattle.object_table.specs.Objects.{number_of}
 use Rattle.proof_store.specs.Cases.{number_of as case_number}
-use Rattle.policy_history.specs.declared.events.Refusal.{Refusal}
 use Rattle.policy_history.specs.Events.{EntryTree, EventTree}
-use Rattle.policy_history.specs.Judged.{case_at, object_region, region_in, store_region}
+use Rattle.policy_history.specs.Judged.{case_at, object_region, region_count, region_in, store_region}
 use Rattle.policy_history.specs.Machine.{refusal_of, replay}
 use Rattle.policy_history.specs.States.{State}
 use Rattle.cache_machine.specs.declared.stages.Kept.{Kept}
@@ -52,13 +51,21 @@ pub data MoveTree : Type 0 where
   -- the event is the journal's next entry; the lock is free, and the actor rests
   writes : EventTree → MoveTree
 
+-- how many slots there are
+abbrev pub slot_count : ℕ
+slot_count = 4096
+
+-- how many regions there are: those of objects, and then as many of stores
+abbrev pub all_regions : ℕ
+all_regions = region_count + region_count
+
 -- the policy at the end of the journal
 abbrev pub policy : MachineState → State
 policy s = replay s.head s.entries
 
 -- the number of the slot of a case
 abbrev pub slot_of : ℕ → ℕ
-slot_of case = case % 4096
+slot_of case = case % slot_count
 
 -- the word of a slot, and that of a region
 abbrev pub slot_at : MachineState → ℕ → Option Kept
@@ -67,101 +74,21 @@ slot_at s case = unwrap_or (slice_get s.slots (slot_of case)) None
 abbrev pub region_at : MachineState → ℕ → ℕ
 region_at s region = unwrap_or (slice_get s.regions region) 0
 
--- ---- Look
-
 -- the place of a subject's operation on the object with this name, where the three have a case number
 abbrev pub place_in : State → ℕ → List ℕ → List ℕ → Option Place
 place_in s p op name = option_and_then (λ (n : ℕ). option_map (λ (k : ℕ). record { case = k; object = n }) (case_number s.cases p op n)) (number_of s.objects name)
 
--- the word of the place's slot is copied
-abbrev pub looked_at : MachineState → Option Place → MoveTree
-looked_at s None = idle
-looked_at s (Some place) = goes (looked place (slot_at s place.case))
-
-abbrev pub look_move : MachineState → ℕ → StageTree → List ℕ → List ℕ → MoveTree
-look_move s p (resting kept) op name = looked_at s (place_in (policy s) p op name)
-look_move s p _ op name = idle
-
--- ---- Count and Object
-
-abbrev pub count_move : MachineState → StageTree → MoveTree
-count_move s (looked place slot) = goes (counted place slot (length s.entries))
-count_move s _ = idle
-
-abbrev pub object_move : MachineState → StageTree → MoveTree
-object_move s (counted place slot at) = goes (half place slot at (region_at s (object_region place.object)))
-object_move s _ = idle
-
--- ---- Store
-
--- the verdict that a slot's word gives for a case, where it keeps one of this very case, at a point to which both regions' words are at most equal
-abbrev pub hit_in : Option Kept → ℕ → ℕ → ℕ → Option Verdict
-hit_in None case first second = None
-hit_in (Some kept) case first second = if nat_eq kept.case case && (nat_le first kept.point && nat_le second kept.point) then Some kept.verdict else None
+-- the slot's word keeps a verdict of this very case, at a point to which the words of both regions are at most equal
+pub record IsHit (slot : Option Kept) (case object_word store_word : ℕ) (kept : Kept) : Type 0 where
+  pub keeps : slot ≡ Some kept
+  pub same_case : kept.case ≡ case
+  pub object_low : object_word ≤ kept.point
+  pub store_low : store_word ≤ kept.point
 
 -- how far an actor is that was told a verdict, with what it may keep of it
 abbrev pub after_verdict : Verdict → Option Kept → StageTree
 after_verdict Allowed kept = allowed kept
 after_verdict (Denied cause) kept = resting kept
-
-abbrev pub found_move : ℕ → ℕ → Option Verdict → MoveTree
-found_move a at None = goes missed
-found_move a at (Some verdict) = tells (record { actor = a; at = at; hit = true; verdict = verdict }) (after_verdict verdict None)
-
-abbrev pub store_move : MachineState → ℕ → ℕ → StageTree → MoveTree
-store_move s a p (half place slot at word) = found_move a at (hit_in slot place.case word (region_at s (store_region p)))
-store_move s a p _ = idle
-
--- ---- Raise and Write
-
--- an event that is accepted and touches a region raises it
-abbrev pub raised_move : EventTree → Option Refusal → Option ℕ → MoveTree
-raised_move e None (Some region) = raises region e
-raised_move e None None = idle
-raised_move e (Some refusal) region = idle
-
--- an event that is accepted and touches no region is written at once
-abbrev pub written_move : EventTree → Option Refusal → Option ℕ → MoveTree
-written_move e None None = writes e
-written_move e None (Some region) = idle
-written_move e (Some refusal) region = idle
-
-abbrev pub raise_free : MachineState → ActorTree → EventTree → Option ℕ → MoveTree
-raise_free s x e None = raised_move e (refusal_of s.head (policy s) x.session x.principal e) (region_in (policy s) x.principal e)
-raise_free s x e (Some holder) = idle
-
-abbrev pub raise_move : MachineState → ActorTree → StageTree → EventTree → MoveTree
-raise_move s x (resting kept) e = raise_free s x e s.holder
-raise_move s x _ e = idle
-
-abbrev pub write_free : MachineState → ActorTree → EventTree → Option ℕ → MoveTree
-write_free s x e None = written_move e (refusal_of s.head (policy s) x.session x.principal e) (region_in (policy s) x.principal e)
-write_free s x e (Some holder) = idle
-
--- a raised actor writes the event that it raised a region for, and no other
-abbrev pub IsRaisedWritten : EventTree → EventTree → MoveTree → Type 0
-IsRaisedWritten e own move = ((e ≡ own) × (move ≡ writes e)) ⊎ ((e ≢ own) × (move ≡ idle))
-
-abbrev pub IsWritten : MachineState → ActorTree → StageTree → EventTree → MoveTree → Type 0
-IsWritten s x (raised own) e move = IsRaisedWritten e own move
-IsWritten s x (resting kept) e move = move ≡ write_free s x e s.holder
-IsWritten s x _ e move = move ≡ idle
-
--- ---- Snap, Answer, Fill and Run
-
-abbrev pub snapped_at : MachineState → ℕ → List ℕ → Option ℕ → MoveTree
-snapped_at s p op None = idle
-snapped_at s p op (Some n) = goes (holding (case_at s.head (policy s) p op n) (case_number (policy s).cases p op n) (length s.entries))
-
--- the case is copied where nobody holds the lock and an object has the name
-abbrev pub snap_free : MachineState → ℕ → List ℕ → List ℕ → Option ℕ → MoveTree
-snap_free s p op name None = snapped_at s p op (number_of (policy s).objects name)
-snap_free s p op name (Some holder) = idle
-
-abbrev pub snap_move : MachineState → ℕ → StageTree → List ℕ → List ℕ → MoveTree
-snap_move s p (resting kept) op name = snap_free s p op name s.holder
-snap_move s p missed op name = snap_free s p op name s.holder
-snap_move s p _ op name = idle
 
 -- whether a verdict may be kept: one by goal, proof and labels alone, and no denial for a label
 abbrev pub may_be_kept : CaseTree → Verdict → Bool
@@ -175,35 +102,64 @@ may_be_kept c (Denied _) = false
 abbrev pub kept_of : CaseTree → Option ℕ → ℕ → Verdict → Option Kept
 kept_of c number at verdict = if may_be_kept c verdict then option_map (λ (k : ℕ). record { case = k; point = at; verdict = verdict }) number else None
 
--- the verdict of the case that is held, with these answers, is told
-abbrev pub IsAnswered : ℕ → StageTree → List Bool → MoveTree → Type 0
-IsAnswered a (holding c number at) answers move =
-    (verdict : Verdict) × IsVerdict c answers verdict × (move ≡ tells (record { actor = a; at = at; hit = false; verdict = verdict }) (after_verdict verdict (kept_of c number at verdict)))
-IsAnswered a _ answers move = move ≡ idle
+-- an actor may copy a case: it rests, or found no verdict in the slot
+abbrev pub MaySnap : StageTree → Type 0
+MaySnap (resting kept) = Unit {0}
+MaySnap missed = Unit {0}
+MaySnap _ = ⊥
 
-abbrev pub fill_move : StageTree → MoveTree
-fill_move (allowed (Some kept)) = fills kept (allowed None)
-fill_move (resting (Some kept)) = fills kept (resting None)
-fill_move _ = idle
+-- ---- What an act comes to
 
-abbrev pub run_move : StageTree → MoveTree
-run_move (allowed kept) = goes (resting None)
-run_move _ = idle
+-- What stays the same in a step: the state, and the actor's number, session and principal.
+module _ (s : MachineState) (a session p : ℕ) where
+  -- the lock is free, and the actor's event is accepted and touches this region, or none
+  pub record IsChange (e : EventTree) (region : Option ℕ) : Type 0 where
+    pub free : s.holder ≡ None
+    pub accepted : refusal_of s.head (policy s) session p e ≡ None
+    pub touches : region_in (policy s) p e ≡ region
+
+  -- `Acts stage act move`: for an actor in this stage the act comes to this move. Each constructor is a row of the table in
+  -- `docs/LOGIC.md`, "The machine of the cache", or one of a row's two ways
+  pub data Acts : StageTree → ActTree → MoveTree → Type 0 where
+    -- the word of the slot of its case is copied
+    looks : {kept : Option Kept} {op name : List ℕ} {place : Place} → place_in (policy s) p op name ≡ Some place
+        → Acts (resting kept) (look op name) (goes (looked place (slot_at s place.case)))
+    -- the length of the journal is copied
+    counts : {place : Place} {slot : Option Kept} → Acts (looked place slot) count (goes (counted place slot (length s.entries)))
+    -- the word of the object's region is copied
+    loads : {place : Place} {slot : Option Kept} {at : ℕ}
+        → Acts (counted place slot at) object (goes (half place slot at (region_at s (object_region place.object))))
+    -- the verdict of the slot's word is told as a hit at the copied length, or there is no hit
+    hits : {place : Place} {slot : Option Kept} {at word : ℕ} {kept : Kept} → IsHit slot place.case word (region_at s (store_region p)) kept
+        → Acts (half place slot at word) store (tells (record { actor = a; at = at; hit = true; verdict = kept.verdict }) (after_verdict kept.verdict None))
+    misses : {place : Place} {slot : Option Kept} {at word : ℕ} → ((kept : Kept) → ¬ IsHit slot place.case word (region_at s (store_region p)) kept)
+        → Acts (half place slot at word) store (goes missed)
+    -- the lock is taken, and the region that the event touches is raised
+    lifts : {kept : Option Kept} {e : EventTree} {region : ℕ} → IsChange e (Some region) → Acts (resting kept) (raise e) (raises region e)
+    -- the event for which a region was raised is the next entry, and so is one that touches no region
+    writes_raised : {e : EventTree} → Acts (raised e) (write e) (writes e)
+    writes_free : {kept : Option Kept} {e : EventTree} → IsChange e None → Acts (resting kept) (write e) (writes e)
+    -- the case at the end of the journal is copied
+    snaps : {stage : StageTree} {op name : List ℕ} {n : ℕ} → MaySnap stage → s.holder ≡ None → number_of (policy s).objects name ≡ Some n
+        → Acts stage (snap op name) (goes (holding (case_at s.head (policy s) p op n) (case_number (policy s).cases p op n) (length s.entries)))
+    -- the verdict on the copied case, with these answers, is told at the length at which it was copied
+    answers : {c : CaseTree} {number : Option ℕ} {at : ℕ} {given : List Bool} {verdict : Verdict} → IsVerdict c given verdict
+        → Acts (holding c number at) (answer given) (tells (record { actor = a; at = at; hit = false; verdict = verdict }) (after_verdict verdict (kept_of c number at verdict)))
+    -- what may be kept is put into its slot, once
+    fills_allowed : {kept : Kept} → Acts (allowed (Some kept)) fill (fills kept (allowed None))
+    fills_denied : {kept : Kept} → Acts (resting (Some kept)) fill (fills kept (resting None))
+    -- an allowed call ends
+    runs : {kept : Option Kept} → Acts (allowed kept) run (goes (resting None))
+
+  -- an act comes to what it can come to, and is idle where it can come to nothing
+  abbrev pub Comes : StageTree → ActTree → MoveTree → Type 0
+  Comes stage act move = Acts stage act move ⊎ ((move ≡ idle) × ((other : MoveTree) → ¬ Acts stage act other))
 
 -- ---- Steps
 
 -- an act of this actor comes to this
 abbrev pub Moves : MachineState → ℕ → ActorTree → ActTree → MoveTree → Type 0
-Moves s a x (write e) move = IsWritten s x x.stage e move
-Moves s a x (look op name) move = move ≡ look_move s x.principal x.stage op name
-Moves s a x count move = move ≡ count_move s x.stage
-Moves s a x (snap op name) move = move ≡ snap_move s x.principal x.stage op name
-Moves s a x (answer answers) move = IsAnswered a x.stage answers move
-Moves s a x fill move = move ≡ fill_move x.stage
-Moves s a x run move = move ≡ run_move x.stage
-Moves s a x (raise e) move = move ≡ raise_move s x x.stage e
-Moves s a x object move = move ≡ object_move s x.stage
-Moves s a x store move = move ≡ store_move s a x.principal x.stage
+Moves s a x act move = Comes s a x.session x.principal x.stage act move
 
 -- the same of a number that may name no actor: its steps are idle
 abbrev pub MovesAt : MachineState → ℕ → Option ActorTree → ActTree → MoveTree → Type 0

@@ -5,7 +5,8 @@ ghost use Rattle.proof_lines.specs.Lines.{line_tree};
 ghost use Rattle.nal_rules.specs.Asking.{case_tree, lines_of};
 ghost use Rattle.nal_rules.specs.Faults.{is_ask};
 ghost use Rattle.policy_history.specs.Events.{event_tree};
-ghost use Rattle.cache_machine.specs.Moves.{IsAnswered, IsWritten, IsRaisedWritten, fill_move, kept_of, may_be_kept, raise_free, raise_move, run_move, snap_free, snap_move, write_free};
+ghost use Rattle.cache_machine.specs.Moves.{kept_of, may_be_kept};
+ghost use Rattle.cache_machine.specs.Inner.MoveFunctions.{IsAnswered, IsRaisedWritten, IsWritten, fill_move, raise_free, raise_move, run_move, snap_free, snap_move, write_free};
 ghost use Rattle.cache_machine.specs.Views.{actor_tree, move_tree, stage_tree, state_of};
 
 use crate::looks::after_verdict;
@@ -21,7 +22,7 @@ use std::alloc::AllocError;
 
 impl World {
     /// Raise finds the region that an accepted event touches.
-    pub fn raise(&self, actor: &Actor, event: &Event) -> Result<Move, AllocError>
+    pub(crate) fn raise(&self, actor: &Actor, event: &Event) -> Result<Move, AllocError>
         requires principal { actor.now.principal < length self.now.journal.head.principals }
         ensures { IfOk result
             (λ m. move_tree m
@@ -53,7 +54,7 @@ impl World {
     }
 
     /// Write adds the event for which the actor raised a region, or one that touches none.
-    pub fn write(&self, actor: &Actor, event: &Event) -> Result<Move, AllocError>
+    pub(crate) fn write(&self, actor: &Actor, event: &Event) -> Result<Move, AllocError>
         requires principal { actor.now.principal < length self.now.journal.head.principals }
         ensures { IfOk result
             (λ m. IsWritten (state_of self.now) (actor_tree actor.now) (stage_tree actor.now.stage)
@@ -95,7 +96,7 @@ impl World {
     }
 
     /// Snap copies the case at the end of the journal.
-    pub fn snap(&self, actor: &Actor, op: &Name, object: &Name) -> Result<Move, AllocError>
+    pub(crate) fn snap(&self, actor: &Actor, op: &Name, object: &Name) -> Result<Move, AllocError>
         requires principal { actor.now.principal < length self.now.journal.head.principals }
         ensures { IfOk result
             (λ m. move_tree m
@@ -127,7 +128,7 @@ impl World {
     }
 
     /// Answer tells the verdict on the case that the actor holds.
-    pub fn answer(&self, number: u64, actor: &Actor, answers: &[bool]) -> Move
+    pub(crate) fn answer(&self, number: u64, actor: &Actor, answers: &[bool]) -> Move
         ensures { IsAnswered number (stage_tree actor.now.stage) answers.now (move_tree result) }
     {
         match &actor.stage {
@@ -153,7 +154,7 @@ impl World {
     }
 
     /// Fill puts what an actor may keep into the slot of its case.
-    pub fn fill(&self, actor: &Actor) -> Move
+    pub(crate) fn fill(&self, actor: &Actor) -> Move
         ensures { move_tree result ≡ fill_move (stage_tree actor.now.stage) }
     {
         match &actor.stage {
@@ -168,7 +169,7 @@ impl World {
     }
 
     /// Run ends an allowed call.
-    pub fn run(&self, actor: &Actor) -> Move
+    pub(crate) fn run(&self, actor: &Actor) -> Move
         ensures { move_tree result ≡ run_move (stage_tree actor.now.stage) }
     {
         match &actor.stage {

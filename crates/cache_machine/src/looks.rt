@@ -1,6 +1,7 @@
 // What an actor reads of the words that it shares with the others.
 ghost use Rattle.std.specs.Prelude.{◌≡◌, ◌<◌, ℕ, length, IfOk, option_map};
-ghost use Rattle.cache_machine.specs.Moves.{after_verdict, count_move, found_move, hit_in, look_move, looked_at, object_move, place_in, policy, slot_at, store_move};
+ghost use Rattle.cache_machine.specs.Moves.{after_verdict, all_regions, place_in, policy, slot_at, slot_count};
+ghost use Rattle.cache_machine.specs.Inner.MoveFunctions.{count_move, found_move, hit_in, look_move, looked_at, object_move, store_move};
 ghost use Rattle.cache_machine.specs.Views.{move_tree, stage_tree, state_of};
 
 use crate::stages::{Actor, Kept, Move, Place, SLOTS, Stage, World};
@@ -12,9 +13,9 @@ use std::alloc::AllocError;
 
 impl World {
     /// Look copies the word of the slot of the case.
-    pub fn look(&self, actor: &Actor, op: &Name, object: &Name) -> Result<Move, AllocError>
+    pub(crate) fn look(&self, actor: &Actor, op: &Name, object: &Name) -> Result<Move, AllocError>
         requires principal { actor.now.principal < length self.now.journal.head.principals }
-        requires slots { length self.now.slots.items ≡ 4096 }
+        requires slots { length self.now.slots.items ≡ slot_count }
         ensures { IfOk result
             (λ m. move_tree m
             ≡ look_move (state_of self.now) actor.now.principal (stage_tree actor.now.stage) op.now object.now) }
@@ -37,7 +38,7 @@ impl World {
     }
 
     fn looked(&self, place: Option<Place>) -> Move
-        requires slots { length self.now.slots.items ≡ 4096 }
+        requires slots { length self.now.slots.items ≡ slot_count }
         ensures { move_tree result ≡ looked_at (state_of self.now) place }
     {
         match place {
@@ -51,14 +52,14 @@ impl World {
 
     /// The word of the slot of a case.
     fn slot(&self, case: u64) -> Option<Kept>
-        requires slots { length self.now.slots.items ≡ 4096 }
+        requires slots { length self.now.slots.items ≡ slot_count }
         ensures { result ≡ slot_at (state_of self.now) case }
     {
         self.slots[(case % SLOTS) as usize]
     }
 
     /// Count copies the length of the journal.
-    pub fn count(&self, actor: &Actor) -> Move
+    pub(crate) fn count(&self, actor: &Actor) -> Move
         ensures { move_tree result ≡ count_move (state_of self.now) (stage_tree actor.now.stage) }
     {
         match &actor.stage {
@@ -72,8 +73,8 @@ impl World {
     }
 
     /// Object copies the word of the object's region.
-    pub fn object(&self, actor: &Actor) -> Move
-        requires regions { length self.now.regions.items ≡ 512 }
+    pub(crate) fn object(&self, actor: &Actor) -> Move
+        requires regions { length self.now.regions.items ≡ all_regions }
         ensures { move_tree result ≡ object_move (state_of self.now) (stage_tree actor.now.stage) }
     {
         match &actor.stage {
@@ -88,9 +89,9 @@ impl World {
     }
 
     /// Store loads the word of the subject's region, and tells a hit.
-    pub fn store(&self, number: u64, actor: &Actor) -> Move
+    pub(crate) fn store(&self, number: u64, actor: &Actor) -> Move
         requires principal { actor.now.principal < length self.now.journal.head.principals }
-        requires regions { length self.now.regions.items ≡ 512 }
+        requires regions { length self.now.regions.items ≡ all_regions }
         ensures { move_tree result
             ≡ store_move (state_of self.now) number actor.now.principal (stage_tree actor.now.stage) }
     {

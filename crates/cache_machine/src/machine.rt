@@ -1,6 +1,7 @@
 //! The machine, and lists of steps on it.
 ghost use Rattle.std.specs.Prelude.{◌≡◌, ◌<◌, ◌≤◌, ◌+◌, ◌^◌, [], length, replicate, None, map, All, IfOk, OnErr, OnOk};
 ghost use Rattle.policy_history.specs.Values.{entry_trees, greatest_of};
+ghost use Rattle.cache_machine.specs.Moves.{all_regions, slot_count};
 ghost use Rattle.cache_machine.specs.Machines.{IsAsBefore, IsStepped, first_actors, first_state, state_in};
 ghost use Rattle.cache_machine.specs.Views.{actor_tree, step_tree};
 
@@ -120,8 +121,8 @@ struct Beginning {
 impl Beginning {
     fn of(alloc: Global, journal: &Journal, actors: &Vec<u32>) -> Result<Beginning, AllocError>
         requires sessions { greatest_of (entry_trees journal.now.entries) + length actors.now.items < 2 ^ 64 }
-        ensures slots { IfOk result (λ made. made.slots.items ≡ replicate 4096 None) }
-        ensures regions { IfOk result (λ made. made.regions.items ≡ replicate 512 (length journal.now.entries)) }
+        ensures slots { IfOk result (λ made. made.slots.items ≡ replicate slot_count None) }
+        ensures regions { IfOk result (λ made. made.regions.items ≡ replicate all_regions (length journal.now.entries)) }
         ensures actors { IfOk result
             (λ made. map actor_tree made.actors.items
             ≡ first_actors (greatest_of (entry_trees journal.now.entries) + 1) actors.now.items) }
@@ -136,7 +137,7 @@ impl Beginning {
 
 // Slots that keep nothing.
 fn empty_slots(alloc: Global) -> Result<Vec<Option<Kept>>, AllocError>
-    ensures { IfOk result (λ slots. slots.items ≡ replicate 4096 None) }
+    ensures { IfOk result (λ slots. slots.items ≡ replicate slot_count None) }
 {
     let mut slots = Vec::new(alloc);
     for _place in 0..SLOTS {

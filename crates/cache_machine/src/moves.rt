@@ -1,7 +1,8 @@
 // The move that a step comes to, and what each changes.
 ghost use Rattle.std.specs.Prelude.{◌≡◌, ◌<◌, ◌++◌, ◌∷◌, [], length, IfOk, OnErr, OnOk, slice_get, Some};
-ghost use Rattle.cache_machine.specs.Moves.{Moves, MovesAt, after_move, fills, idle_after, raises, told_in, with_stage, writes};
+ghost use Rattle.cache_machine.specs.Moves.{MovesAt, after_move, all_regions, fills, idle_after, raises, slot_count, told_in, with_stage, writes};
 ghost use Rattle.cache_machine.specs.Views.{act_tree, actor_tree, move_tree, stage_tree, state_of};
+ghost use Rattle.cache_machine.specs.Inner.MoveFunctions.{ComesTo};
 ghost use Rattle.cache_machine.specs.Inner.Words.{IsDoable, IsNextOf, IsWorded};
 ghost use Rattle.policy_history.specs.Events.{event_tree};
 
@@ -13,7 +14,7 @@ use std::mem;
 
 impl World {
     /// What a step comes to; it changes nothing.
-    pub fn plan(&self, step: &Step) -> Result<Move, AllocError>
+    pub(crate) fn plan(&self, step: &Step) -> Result<Move, AllocError>
         requires { IsWorded (state_of self.now) }
         ensures { IfOk result
             (λ m. MovesAt (state_of self.now) step.now.actor (slice_get (state_of self.now).actors step.now.actor)
@@ -34,10 +35,11 @@ impl World {
 
     fn plan_of(&self, number: u64, actor: &Actor, act: &Act) -> Result<Move, AllocError>
         requires principal { actor.now.principal < length self.now.journal.head.principals }
-        requires slots { length self.now.slots.items ≡ 4096 }
-        requires regions { length self.now.regions.items ≡ 512 }
+        requires slots { length self.now.slots.items ≡ slot_count }
+        requires regions { length self.now.regions.items ≡ all_regions }
         ensures { IfOk result
-            (λ m. Moves (state_of self.now) number (actor_tree actor.now) (act_tree act.now) (move_tree m)) }
+            (λ m. ComesTo (state_of self.now) number (actor_tree actor.now) (stage_tree actor.now.stage)
+            (act_tree act.now) (move_tree m)) }
     {
         match act {
             Act::Write { event } => self.write(actor, event),
@@ -55,15 +57,15 @@ impl World {
 
     /// Takes a move, and adds what it tells, or that nothing was done. An `Err` says that there was no memory, and changes
     /// nothing.
-    pub fn take(
+    pub(crate) fn take(
         &mut self,
         number: u64,
         planned: Move,
         told: &mut ToldList,
         idle: &mut u64,
     ) -> Result<(), AllocError>
-        requires slots { length self.old.slots.items ≡ 4096 }
-        requires regions { length self.old.regions.items ≡ 512 }
+        requires slots { length self.old.slots.items ≡ slot_count }
+        requires regions { length self.old.regions.items ≡ all_regions }
         requires may { IsDoable (state_of self.old) number (move_tree planned) }
         ensures state { OnOk result (state_of self.new ≡ after_move (state_of self.old) number (move_tree planned)) }
         ensures told { OnOk result (told.new ≡ told.old ++ told_in (move_tree planned)) }
@@ -98,7 +100,7 @@ impl World {
 
     /// A verdict is put into the slot of its case.
     fn put(&mut self, number: u64, kept: Kept, stage: Stage)
-        requires slots { length self.old.slots.items ≡ 4096 }
+        requires slots { length self.old.slots.items ≡ slot_count }
         requires number { number < length self.old.actors.items }
         ensures { state_of self.new ≡ after_move (state_of self.old) number (fills kept (stage_tree stage)) }
     {
@@ -108,8 +110,8 @@ impl World {
 
     /// An actor takes the lock, and raises a region for an event.
     fn lift(&mut self, number: u64, region: u64, event: Event)
-        requires regions { length self.old.regions.items ≡ 512 }
-        requires region { region < 512 }
+        requires regions { length self.old.regions.items ≡ all_regions }
+        requires region { region < all_regions }
         requires number { number < length self.old.actors.items }
         ensures { state_of self.new ≡ after_move (state_of self.old) number (raises region (event_tree event)) }
     {

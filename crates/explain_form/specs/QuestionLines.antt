@@ -7,6 +7,7 @@ use Rattle.policy_history.specs.Events.{EntryTree, numbered}
 use Rattle.policy_history.specs.PolicyLines.{spaced}
 use Rattle.audit_form.specs.RecordLines.{given_text}
 use Rattle.explain_form.specs.declared.question_lines.Question.{Question}
+use Rattle.nal_rules.specs.Faults.{most_asks}
 
 -- the line of a question: the point, the principal's name, the operation, the object and the answers
 abbrev pub question_text : List ℕ → Question → List ℕ
@@ -22,4 +23,4 @@ pub record IsQuestionLine (h : Head) (es : List EntryTree) (line : List ℕ) (q 
   pub named : IsName name
   pub op : IsName q.op
   pub object : IsName q.object
-  pub few : length q.answers ≤ 16
+  pub few : length q.answers ≤ most_asks

@@ -6,6 +6,20 @@ use Rattle.nal_term.specs.declared.formulas.Compare.TheVariants.{Equal, Less, At
 use Rattle.nal_term.specs.Names.{IsName, IsText}
 use Rattle.nal_term.specs.Trees.{TermTree, number, name, text, variable, subprincipal, FormulaTree, verum, falsum, atom, test, and, or, implies, forall, exists, says, speaks_for, speaks_for_on}
 
+-- how many bytes the text of a formula or a term may have, and how many levels may be open at once in a formula
+abbrev pub most_text_bytes : ℕ
+most_text_bytes = 1024
+
+abbrev pub most_levels : ℕ
+most_levels = 64
+
+-- how many arguments an atom may have, and how many names a scope
+abbrev pub most_arguments : ℕ
+most_arguments = 8
+
+abbrev pub most_scope_names : ℕ
+most_scope_names = 8
+
 -- items with a comma and a space between them
 abbrev pub joined : List (List ℕ) → List ℕ
 joined [] = []
@@ -96,12 +110,12 @@ formula_levels _ = 0
 
 -- the canonical text keeps the limits: 1,024 bytes, and 64 levels open at once
 pub record FormulaFits (f : FormulaTree) : Type 0 where
-  pub length_limit : length (formula_text f) ≤ 1024
-  pub level_limit : formula_levels f ≤ 64
+  pub length_limit : length (formula_text f) ≤ most_text_bytes
+  pub level_limit : formula_levels f ≤ most_levels
 
 -- the same of a term, which opens no levels
 abbrev pub TermFits : TermTree → Type 0
-TermFits t = length (term_text t) ≤ 1024
+TermFits t = length (term_text t) ≤ most_text_bytes
 
 -- what the parts of a term are made of keeps the limits of its kind
 abbrev pub IsSpellableTerm : TermTree → Type 0
@@ -113,7 +127,7 @@ IsSpellableTerm (subprincipal t x) = IsSpellableTerm t × IsName x
 
 -- the same of a formula, with at most 8 arguments of an atom and 1 to 8 names of a scope
 abbrev pub IsSpellable : FormulaTree → Type 0
-IsSpellable (atom p ts) = IsName p × All IsSpellableTerm ts × (length ts ≤ 8)
+IsSpellable (atom p ts) = IsName p × All IsSpellableTerm ts × (length ts ≤ most_arguments)
 IsSpellable (test c t u) = IsSpellableTerm t × IsSpellableTerm u
 IsSpellable (and a b) = IsSpellable a × IsSpellable b
 IsSpellable (or a b) = IsSpellable a × IsSpellable b
@@ -122,5 +136,5 @@ IsSpellable (forall x a) = IsName x × IsSpellable a
 IsSpellable (exists x a) = IsName x × IsSpellable a
 IsSpellable (says t a) = IsSpellableTerm t × IsSpellable a
 IsSpellable (speaks_for t u) = IsSpellableTerm t × IsSpellableTerm u
-IsSpellable (speaks_for_on t u s) = IsSpellableTerm t × IsSpellableTerm u × All IsName s × (0 < length s) × (length s ≤ 8)
+IsSpellable (speaks_for_on t u s) = IsSpellableTerm t × IsSpellableTerm u × All IsName s × (0 < length s) × (length s ≤ most_scope_names)
 IsSpellable _ = Unit {0}

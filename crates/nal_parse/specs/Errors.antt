@@ -4,7 +4,7 @@ use Rattle.nal_term.specs.Trees.{FormulaTree, TermTree}
 use Rattle.nal_parse.specs.declared.parse.ParseError.{ParseError}
 use Rattle.nal_parse.specs.declared.parse.ParseError.TheVariants.{Unexpected, TooLong, TooDeep, BadNumber, BadName, BadText}
 use Rattle.nal_parse.specs.Tokens.{Lexeme, bad_name, bad_number, bad_text, next_cut, after_blanks}
-use Rattle.nal_parse.specs.Canonical.{formula_text, formula_levels, term_text}
+use Rattle.nal_parse.specs.Canonical.{formula_text, formula_levels, term_text, most_levels, most_text_bytes}
 use Rattle.nal_parse.specs.Grammar.{SpellsFormula, SpellsTerm}
 
 -- the text begins with these tokens, which `rest` follows; its end counts as a token
@@ -40,22 +40,22 @@ pub record IsErrorAtToken (Spelling : ℕ → List ℕ → Type 0) (text : List 
   pub begins : BeginsWith text before stop
   pub first : (next_cut stop).0 ≡ token
   pub stands : place + length (after_blanks stop) ≡ length text
-  pub viable : IsViable (Spelling 64) before
-  pub stuck : ¬ IsViable (Spelling 64) (before ++ token ∷ [])
+  pub viable : IsViable (Spelling most_levels) before
+  pub stuck : ¬ IsViable (Spelling most_levels) (before ++ token ∷ [])
   pub kind : IsErrorOf token ((n : ℕ) × IsViable (Spelling n) (before ++ token ∷ [])) place error
 
 -- the text is refused with this error: it is too long, or a token of it is wrong, or it spells a formula whose
 -- canonical text is too long, or else opens too many levels
 abbrev pub IsFormulaError : List ℕ → ParseError → Type 0
 IsFormulaError text error =
-    ((1024 < length text) × (error ≡ TooLong))
-    ⊎ ((length text ≤ 1024) × (IsErrorAtToken SpellsSome text error
-    ⊎ ((f : FormulaTree) × SpellsFormula 64 text f × (((1024 < length (formula_text f)) × (error ≡ TooLong))
-    ⊎ ((length (formula_text f) ≤ 1024) × (64 < formula_levels f) × (error ≡ TooDeep (length text)))))))
+    ((most_text_bytes < length text) × (error ≡ TooLong))
+    ⊎ ((length text ≤ most_text_bytes) × (IsErrorAtToken SpellsSome text error
+    ⊎ ((f : FormulaTree) × SpellsFormula most_levels text f × (((most_text_bytes < length (formula_text f)) × (error ≡ TooLong))
+    ⊎ ((length (formula_text f) ≤ most_text_bytes) × (most_levels < formula_levels f) × (error ≡ TooDeep (length text)))))))
 
 -- the same of a term, which opens no levels
 abbrev pub IsTermError : List ℕ → ParseError → Type 0
 IsTermError text error =
-    ((1024 < length text) × (error ≡ TooLong))
-    ⊎ ((length text ≤ 1024) × (IsErrorAtToken SpellsSomeTerm text error
-    ⊎ ((t : TermTree) × SpellsTerm text t × (1024 < length (term_text t)) × (error ≡ TooLong))))
+    ((most_text_bytes < length text) × (error ≡ TooLong))
+    ⊎ ((length text ≤ most_text_bytes) × (IsErrorAtToken SpellsSomeTerm text error
+    ⊎ ((t : TermTree) × SpellsTerm text t × (most_text_bytes < length (term_text t)) × (error ≡ TooLong))))

@@ -11,7 +11,7 @@ use Rattle.nal_parse.specs.declared.tokens.Quantifier.{Quantifier}
 use Rattle.nal_parse.specs.declared.tokens.Quantifier.TheVariants as every
 use Rattle.nal_parse.specs.Tokens.{Lexeme, next_cut}
 use Rattle.nal_parse.specs.Tokens as lexeme
-use Rattle.nal_parse.specs.Canonical.{FormulaFits, TermFits}
+use Rattle.nal_parse.specs.Canonical.{FormulaFits, TermFits, most_arguments, most_levels, most_scope_names, most_text_bytes}
 
 -- { "." name } after the term `t`: the subprincipals of the term so far
 pub data ReadsParts : TermTree → List ℕ → TermTree → List ℕ → Type 0 where
@@ -41,7 +41,7 @@ ReadsName bytes x rest = next_cut bytes ≡ (lexeme.name x, rest)
 -- scope = name | "(" name { "," name } ")"
 pub data ReadsScope : ℕ → List ℕ → List (List ℕ) → List ℕ → Type 0 where
   one : {n : ℕ} {x : List ℕ} {bytes rest : List ℕ} → next_cut bytes ≡ (lexeme.name x, rest) → ReadsScope n bytes (x ∷ []) rest
-  several : {n : ℕ} {xs : List (List ℕ)} {bytes a rest : List ℕ} → 0 < n → next_cut bytes ≡ (lexeme.opens, a) → ReadsList ReadsName 8 a xs rest → ReadsScope n bytes xs rest
+  several : {n : ℕ} {xs : List (List ℕ)} {bytes a rest : List ℕ} → 0 < n → next_cut bytes ≡ (lexeme.opens, a) → ReadsList ReadsName most_scope_names a xs rest → ReadsScope n bytes xs rest
 
 -- the comparison that a sign stands for
 abbrev pub comparison_of : Lexeme → Option Compare
@@ -104,7 +104,7 @@ mutual
     group : {n : ℕ} {f : FormulaTree} {bytes a b rest : List ℕ} → 0 < n → next_cut bytes ≡ (lexeme.opens, a) → ReadsFormula (n - 1) a f b
         → next_cut b ≡ (lexeme.closes, rest) → ReadsUnary n bytes f rest
     atom_of : {n : ℕ} {p : List ℕ} {ts : List TermTree} {bytes a b rest : List ℕ} → 0 < n → next_cut bytes ≡ (lexeme.name p, a) → next_cut a ≡ (lexeme.opens, b)
-        → ReadsList ReadsTerm 8 b ts rest → ReadsUnary n bytes (tree.atom p ts) rest
+        → ReadsList ReadsTerm most_arguments b ts rest → ReadsUnary n bytes (tree.atom p ts) rest
     statement : {n : ℕ} {f : FormulaTree} {bytes rest : List ℕ} → ReadsStatement n bytes f rest → ReadsUnary n bytes f rest
 
   -- statement = term predicate | name
@@ -134,12 +134,12 @@ SpellsTerm bytes t = (rest : List ℕ) × ReadsTerm bytes t rest × ((next_cut r
 -- the text is read as the formula: it spells it, in at most 1,024 bytes, with at most 64 levels open at once,
 -- and the formula's canonical text keeps the same limits
 pub record IsFormulaText (bytes : List ℕ) (f : FormulaTree) : Type 0 where
-  pub length_limit : length bytes ≤ 1024
-  pub spelled : SpellsFormula 64 bytes f
+  pub length_limit : length bytes ≤ most_text_bytes
+  pub spelled : SpellsFormula most_levels bytes f
   pub fits : FormulaFits f
 
 -- the text is read as the term: it spells it, in at most 1,024 bytes, and so does the term's canonical text
 pub record IsTermText (bytes : List ℕ) (t : TermTree) : Type 0 where
-  pub length_limit : length bytes ≤ 1024
+  pub length_limit : length bytes ≤ most_text_bytes
   pub spelled : SpellsTerm bytes t
   pub fits : TermFits t

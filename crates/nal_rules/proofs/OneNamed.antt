@@ -4,7 +4,7 @@ use Rattle.std.specs.List.{All, Contains, slice_get}
 use Rattle.std.proofs.lemmas.List.Elements.{All-head, All-tail}
 use Rattle.nal_term.specs.Trees.{TermTree, FormulaTree, atom, test, speaks_for_on, says, verum, falsum, and, or, implies, forall, exists, speaks_for}
 use Rattle.nal_rules.specs.Scope.{IsInScope, IsNameOf}
-use Rattle.nal_rules.specs.Derivation.{DerivationBy, Derivation, label, ask, hyp, true_i, and_i, and_l, and_r, or_l, or_r, or_e, imp_i, imp_e, false_e, forall_i, forall_e, exists_i, exists_e, eq_refl, eq_sym, eq_trans, arith, lt_trans, lt_le_trans, says_i, deduce, says_join, sf_refl, sf_trans, sf_sub, sf_e, sf_on_e, sf_weak, handoff, handoff_on}
+use Rattle.nal_rules.specs.Derivation.{◌⊢◌, Derivation, label, ask, hyp, true_i, and_i, and_l, and_r, or_l, or_r, or_e, imp_i, imp_e, false_e, forall_i, forall_e, exists_i, exists_e, eq_refl, eq_sym, eq_trans, arith, lt_trans, lt_le_trans, says_i, deduce, says_join, sf_refl, sf_trans, sf_sub, sf_e, sf_on_e, sf_weak, handoff, handoff_on}
 use Rattle.proof_lines.specs.declared.rules.Rule.{Rule}
 use Rattle.proof_lines.specs.declared.rules.Rule.TheVariants.{Label, Ask, Hyp, TrueI, AndI, AndL, AndR, OrL, OrR, OrE, ImpI, ImpE, FalseE, ForallI, ForallE, ExistsI, ExistsE, EqRefl, EqSym, EqTrans, Arith, LtTrans, SaysI, Deduce, SaysJoin, SfRefl, SfTrans, SfSub, SfE, SfOnE, SfWeak, Handoff, HandoffOn}
 use Rattle.proof_lines.specs.Lines.{LineTree}
@@ -37,7 +37,7 @@ in_scope n (speaks_for_on p q s) e = elim e [ ]
 covered : (s : List (List ℕ)) (f : FormulaTree) → CoversByName s f → IsInScope s f
 covered s f (n, e, h) = subst (λ s. IsInScope s f) (sym e) (in_scope n f h)
 
-pub derived : {labels answers xs : List FormulaTree} {f : FormulaTree} → DerivationBy CoversByName labels answers xs f → Derivation labels answers xs f
+pub derived : {labels answers xs : List FormulaTree} {f : FormulaTree} → ◌⊢◌ CoversByName labels answers xs f → Derivation labels answers xs f
 derived (label h c) = label h c
 derived (ask h c) = ask h c
 derived hyp = hyp

@@ -24,52 +24,58 @@ pub data TakesOut : FormulaTree → List FormulaTree → List FormulaTree → Ty
 abbrev pub IsFresh : List ℕ → List FormulaTree → Type 0
 IsFresh x open_list = All (λ f. is_free_in x f ≡ false) open_list
 
--- `DerivationBy Covers labels answers open_list f`: a tree of rules with the conclusion `f`, whose label leaves are
--- among the labels, whose ask leaves are among the answers, and whose open hypotheses are `open_list`. A restricted
--- delegation hands on what its scope covers, which the first parameter says
-pub data DerivationBy (Covers : List (List ℕ) → FormulaTree → Type 0) (labels answers : List FormulaTree) : List FormulaTree → FormulaTree → Type 0 where
-  label : {f : FormulaTree} → Contains labels f → IsClosed f → DerivationBy Covers labels answers [] f
-  ask : {p : TermTree} {f : FormulaTree} → Contains answers (says p f) → IsClosed (says p f) → DerivationBy Covers labels answers [] (says p f)
-  hyp : {f : FormulaTree} → DerivationBy Covers labels answers (f ∷ []) f
-  true_i : DerivationBy Covers labels answers [] verum
-  and_i : {xs ys : List FormulaTree} {a b : FormulaTree} → DerivationBy Covers labels answers xs a → DerivationBy Covers labels answers ys b → DerivationBy Covers labels answers (xs ++ ys) (and a b)
-  and_l : {xs : List FormulaTree} {a b : FormulaTree} → DerivationBy Covers labels answers xs (and a b) → DerivationBy Covers labels answers xs a
-  and_r : {xs : List FormulaTree} {a b : FormulaTree} → DerivationBy Covers labels answers xs (and a b) → DerivationBy Covers labels answers xs b
-  or_l : {xs : List FormulaTree} {a b : FormulaTree} → DerivationBy Covers labels answers xs a → DerivationBy Covers labels answers xs (or a b)
-  or_r : {xs : List FormulaTree} {a b : FormulaTree} → DerivationBy Covers labels answers xs b → DerivationBy Covers labels answers xs (or a b)
-  or_e : {xs ys ys' zs zs' : List FormulaTree} {a b c : FormulaTree} → DerivationBy Covers labels answers xs (or a b)
-      → DerivationBy Covers labels answers ys c → TakesOut a ys ys' → DerivationBy Covers labels answers zs c → TakesOut b zs zs'
-      → DerivationBy Covers labels answers (xs ++ ys' ++ zs') c
-  imp_i : {xs xs' : List FormulaTree} {a b : FormulaTree} → DerivationBy Covers labels answers xs b → TakesOut a xs xs' → DerivationBy Covers labels answers xs' (implies a b)
-  imp_e : {xs ys : List FormulaTree} {a b : FormulaTree} → DerivationBy Covers labels answers xs (implies a b) → DerivationBy Covers labels answers ys a → DerivationBy Covers labels answers (xs ++ ys) b
-  false_e : {xs : List FormulaTree} {c : FormulaTree} → DerivationBy Covers labels answers xs falsum → DerivationBy Covers labels answers xs c
-  forall_i : {xs : List FormulaTree} {x : List ℕ} {a : FormulaTree} → DerivationBy Covers labels answers xs a → IsFresh x xs → DerivationBy Covers labels answers xs (forall x a)
-  forall_e : {xs : List FormulaTree} {x : List ℕ} (t : TermTree) {a b : FormulaTree} → DerivationBy Covers labels answers xs (forall x a) → formula_with x t a ≡ Some b → DerivationBy Covers labels answers xs b
-  exists_i : {xs : List FormulaTree} {x : List ℕ} (t : TermTree) {a b : FormulaTree} → DerivationBy Covers labels answers xs b → formula_with x t a ≡ Some b → DerivationBy Covers labels answers xs (exists x a)
-  exists_e : {xs ys ys' : List FormulaTree} {x : List ℕ} {a c : FormulaTree} → DerivationBy Covers labels answers xs (exists x a)
-      → DerivationBy Covers labels answers ys c → TakesOut a ys ys' → is_free_in x c ≡ false → IsFresh x ys'
-      → DerivationBy Covers labels answers (xs ++ ys') c
-  eq_refl : {t : TermTree} → DerivationBy Covers labels answers [] (test Equal t t)
-  eq_sym : {xs : List FormulaTree} {t u : TermTree} → DerivationBy Covers labels answers xs (test Equal t u) → DerivationBy Covers labels answers xs (test Equal u t)
-  eq_trans : {xs ys : List FormulaTree} {t u v : TermTree} → DerivationBy Covers labels answers xs (test Equal t u) → DerivationBy Covers labels answers ys (test Equal u v) → DerivationBy Covers labels answers (xs ++ ys) (test Equal t v)
-  arith : {c : Compare} {m n : ℕ} → ComparisonHolds c m n → DerivationBy Covers labels answers [] (test c (number m) (number n))
-  lt_trans : {xs ys : List FormulaTree} {a b c : TermTree} → DerivationBy Covers labels answers xs (test Less a b) → DerivationBy Covers labels answers ys (test Less b c) → DerivationBy Covers labels answers (xs ++ ys) (test Less a c)
-  lt_le_trans : {xs ys : List FormulaTree} {a b c : TermTree} → DerivationBy Covers labels answers xs (test Less a b) → DerivationBy Covers labels answers ys (test AtMost b c) → DerivationBy Covers labels answers (xs ++ ys) (test Less a c)
-  says_i : {xs : List FormulaTree} {p : TermTree} {f : FormulaTree} → DerivationBy Covers labels answers xs f → DerivationBy Covers labels answers xs (says p f)
-  deduce : {xs ys : List FormulaTree} {p : TermTree} {f g : FormulaTree} → DerivationBy Covers labels answers xs (says p (implies f g)) → DerivationBy Covers labels answers ys (says p f) → DerivationBy Covers labels answers (xs ++ ys) (says p g)
-  says_join : {xs : List FormulaTree} {p : TermTree} {f : FormulaTree} → DerivationBy Covers labels answers xs (says p (says p f)) → DerivationBy Covers labels answers xs (says p f)
-  sf_refl : {p : TermTree} → DerivationBy Covers labels answers [] (speaks_for p p)
-  sf_trans : {xs ys : List FormulaTree} {p q r : TermTree} → DerivationBy Covers labels answers xs (speaks_for p q) → DerivationBy Covers labels answers ys (speaks_for q r) → DerivationBy Covers labels answers (xs ++ ys) (speaks_for p r)
-  sf_sub : {p : TermTree} {n : List ℕ} → DerivationBy Covers labels answers [] (speaks_for p (subprincipal p n))
-  sf_e : {xs ys : List FormulaTree} {p q : TermTree} {f : FormulaTree} → DerivationBy Covers labels answers xs (speaks_for p q) → DerivationBy Covers labels answers ys (says p f) → DerivationBy Covers labels answers (xs ++ ys) (says q f)
-  sf_on_e : {xs ys : List FormulaTree} {p q : TermTree} {s : List (List ℕ)} {f : FormulaTree} → DerivationBy Covers labels answers xs (speaks_for_on p q s) → DerivationBy Covers labels answers ys (says p f) → Covers s f → DerivationBy Covers labels answers (xs ++ ys) (says q f)
-  sf_weak : {xs : List FormulaTree} {p q : TermTree} {s : List (List ℕ)} → DerivationBy Covers labels answers xs (speaks_for p q) → DerivationBy Covers labels answers xs (speaks_for_on p q s)
-  handoff : {xs : List FormulaTree} {p q : TermTree} → DerivationBy Covers labels answers xs (says q (speaks_for p q)) → DerivationBy Covers labels answers xs (speaks_for p q)
-  handoff_on : {xs : List FormulaTree} {p q : TermTree} {s : List (List ℕ)} → DerivationBy Covers labels answers xs (says q (speaks_for_on p q s)) → DerivationBy Covers labels answers xs (speaks_for_on p q s)
+-- the formulas of the open hypotheses on which a conclusion rests
+abbrev pub Hypotheses : Type 0
+Hypotheses = List FormulaTree
+
+-- What stays the same in a derivation: what a scope covers, so that a restricted delegation hands it on, the labels that are held,
+-- and the statements to which authorities answered Yes.
+module _ (Covers : List (List ℕ) → FormulaTree → Type 0) (labels answers : List FormulaTree) where
+  infix 3 ◌⊢◌
+  -- `xs ⊢ f`: a tree of rules has the conclusion `f` and the open hypotheses `xs`. Its label leaves are among the labels, and its ask
+  -- leaves among the answers
+  pub data ◌⊢◌ : Hypotheses → FormulaTree → Type 0 where
+    label : {f : FormulaTree} → Contains labels f → IsClosed f → [] ⊢ f
+    ask : {p : TermTree} {f : FormulaTree} → Contains answers (says p f) → IsClosed (says p f) → [] ⊢ says p f
+    hyp : {f : FormulaTree} → f ∷ [] ⊢ f
+    true_i : [] ⊢ verum
+    and_i : {xs ys : Hypotheses} {a b : FormulaTree} → xs ⊢ a → ys ⊢ b → xs ++ ys ⊢ and a b
+    and_l : {xs : Hypotheses} {a b : FormulaTree} → xs ⊢ and a b → xs ⊢ a
+    and_r : {xs : Hypotheses} {a b : FormulaTree} → xs ⊢ and a b → xs ⊢ b
+    or_l : {xs : Hypotheses} {a b : FormulaTree} → xs ⊢ a → xs ⊢ or a b
+    or_r : {xs : Hypotheses} {a b : FormulaTree} → xs ⊢ b → xs ⊢ or a b
+    or_e : {xs ys ys' zs zs' : Hypotheses} {a b c : FormulaTree} → xs ⊢ or a b → ys ⊢ c → TakesOut a ys ys' → zs ⊢ c → TakesOut b zs zs'
+        → xs ++ ys' ++ zs' ⊢ c
+    imp_i : {xs xs' : Hypotheses} {a b : FormulaTree} → xs ⊢ b → TakesOut a xs xs' → xs' ⊢ implies a b
+    imp_e : {xs ys : Hypotheses} {a b : FormulaTree} → xs ⊢ implies a b → ys ⊢ a → xs ++ ys ⊢ b
+    false_e : {xs : Hypotheses} {c : FormulaTree} → xs ⊢ falsum → xs ⊢ c
+    forall_i : {xs : Hypotheses} {x : List ℕ} {a : FormulaTree} → xs ⊢ a → IsFresh x xs → xs ⊢ forall x a
+    forall_e : {xs : Hypotheses} {x : List ℕ} (t : TermTree) {a b : FormulaTree} → xs ⊢ forall x a → formula_with x t a ≡ Some b → xs ⊢ b
+    exists_i : {xs : Hypotheses} {x : List ℕ} (t : TermTree) {a b : FormulaTree} → xs ⊢ b → formula_with x t a ≡ Some b → xs ⊢ exists x a
+    exists_e : {xs ys ys' : Hypotheses} {x : List ℕ} {a c : FormulaTree} → xs ⊢ exists x a → ys ⊢ c → TakesOut a ys ys'
+        → is_free_in x c ≡ false → IsFresh x ys' → xs ++ ys' ⊢ c
+    eq_refl : {t : TermTree} → [] ⊢ test Equal t t
+    eq_sym : {xs : Hypotheses} {t u : TermTree} → xs ⊢ test Equal t u → xs ⊢ test Equal u t
+    eq_trans : {xs ys : Hypotheses} {t u v : TermTree} → xs ⊢ test Equal t u → ys ⊢ test Equal u v → xs ++ ys ⊢ test Equal t v
+    arith : {c : Compare} {m n : ℕ} → ComparisonHolds c m n → [] ⊢ test c (number m) (number n)
+    lt_trans : {xs ys : Hypotheses} {a b c : TermTree} → xs ⊢ test Less a b → ys ⊢ test Less b c → xs ++ ys ⊢ test Less a c
+    lt_le_trans : {xs ys : Hypotheses} {a b c : TermTree} → xs ⊢ test Less a b → ys ⊢ test AtMost b c → xs ++ ys ⊢ test Less a c
+    says_i : {xs : Hypotheses} {p : TermTree} {f : FormulaTree} → xs ⊢ f → xs ⊢ says p f
+    deduce : {xs ys : Hypotheses} {p : TermTree} {f g : FormulaTree} → xs ⊢ says p (implies f g) → ys ⊢ says p f → xs ++ ys ⊢ says p g
+    says_join : {xs : Hypotheses} {p : TermTree} {f : FormulaTree} → xs ⊢ says p (says p f) → xs ⊢ says p f
+    sf_refl : {p : TermTree} → [] ⊢ speaks_for p p
+    sf_trans : {xs ys : Hypotheses} {p q r : TermTree} → xs ⊢ speaks_for p q → ys ⊢ speaks_for q r → xs ++ ys ⊢ speaks_for p r
+    sf_sub : {p : TermTree} {n : List ℕ} → [] ⊢ speaks_for p (subprincipal p n)
+    sf_e : {xs ys : Hypotheses} {p q : TermTree} {f : FormulaTree} → xs ⊢ speaks_for p q → ys ⊢ says p f → xs ++ ys ⊢ says q f
+    sf_on_e : {xs ys : Hypotheses} {p q : TermTree} {s : List (List ℕ)} {f : FormulaTree} → xs ⊢ speaks_for_on p q s → ys ⊢ says p f
+        → Covers s f → xs ++ ys ⊢ says q f
+    sf_weak : {xs : Hypotheses} {p q : TermTree} {s : List (List ℕ)} → xs ⊢ speaks_for p q → xs ⊢ speaks_for_on p q s
+    handoff : {xs : Hypotheses} {p q : TermTree} → xs ⊢ says q (speaks_for p q) → xs ⊢ speaks_for p q
+    handoff_on : {xs : Hypotheses} {p q : TermTree} {s : List (List ℕ)} → xs ⊢ says q (speaks_for_on p q s) → xs ⊢ speaks_for_on p q s
 
 -- a derivation by the rules of the logic: a scope covers what is in it
 abbrev pub Derivation : List FormulaTree → List FormulaTree → List FormulaTree → FormulaTree → Type 0
-Derivation labels answers open_list f = DerivationBy IsInScope labels answers open_list f
+Derivation labels answers xs f = ◌⊢◌ IsInScope labels answers xs f
 
 -- the formula follows: a derivation of it has no open hypothesis
 abbrev pub Derives : List FormulaTree → List FormulaTree → FormulaTree → Type 0

@@ -15,6 +15,10 @@ use Rattle.nal_rules.specs.Derivation.{ComparisonHolds}
 use Rattle.nal_rules.specs.declared.verdicts.Fault.{Fault}
 use Rattle.nal_rules.specs.declared.verdicts.Fault.TheVariants.{NoSuchRef, NotHyp, WrongShape, Capture, NotFresh, OutOfScope, NotTrue, TooManyAsks, NotAsk, NotClosed, StillOpen, NotGoal}
 
+-- how many ask lines a proof may have
+abbrev pub most_asks : ℕ
+most_asks = 16
+
 -- the line with this number, counted from 1
 abbrev pub line_at : List LineTree → ℕ → Option LineTree
 line_at proof zero = None
@@ -155,7 +159,7 @@ Applies proof goal k l Capture = (premises : List FormulaTree) × (formulas_at p
 Applies proof goal k l NotFresh = IsNotFresh proof l.rule l.refs l.formula
 Applies proof goal k l OutOfScope = (premises : List FormulaTree) × (formulas_at proof l.refs ≡ Some premises) × IsOutOfScope l.rule premises
 Applies proof goal k l NotTrue = (l.rule ≡ Arith) × ¬ IsTrueComparison l.formula
-Applies proof goal k l TooManyAsks = (l.rule ≡ Ask) × (16 < length (filter is_ask (take k proof)))
+Applies proof goal k l TooManyAsks = (l.rule ≡ Ask) × (most_asks < length (filter is_ask (take k proof)))
 Applies proof goal k l NotAsk = (l.rule ≡ Ask) × ¬ IsSays l.formula
 Applies proof goal k l NotClosed = ((l.rule ≡ Label) ⊎ (l.rule ≡ Ask)) × ¬ IsClosed l.formula
 Applies proof goal k l StillOpen = (k ≡ length proof) × ((h : ℕ) × RestsOn proof k h)

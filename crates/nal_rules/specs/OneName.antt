@@ -6,7 +6,7 @@ use Rattle.nal_term.specs.Trees.{TermTree, name, FormulaTree, atom, test, and, o
 use Rattle.proof_lines.specs.declared.rules.Rule.{Rule}
 use Rattle.proof_lines.specs.declared.rules.Rule.TheVariants.{SfOnE}
 use Rattle.proof_lines.specs.Lines.{LineTree}
-use Rattle.nal_rules.specs.Derivation.{DerivationBy}
+use Rattle.nal_rules.specs.Derivation.{◌⊢◌}
 use Rattle.nal_rules.specs.Faults.{Applies, formulas_at, line_at}
 use Rattle.nal_rules.specs.declared.verdicts.Fault.{Fault}
 use Rattle.nal_rules.specs.declared.verdicts.Fault.TheVariants.{OutOfScope}
@@ -23,7 +23,7 @@ CoversByName s f = (n : List ℕ) × (s ≡ n ∷ []) × IsInScopeOfName n f
 
 -- the formula follows by the older rules
 abbrev pub OneNameDerives : List FormulaTree → List FormulaTree → FormulaTree → Type 0
-OneNameDerives labels answers f = DerivationBy CoversByName labels answers [] f
+OneNameDerives labels answers f = ◌⊢◌ CoversByName labels answers [] f
 
 -- each scope in the formula is of one name
 abbrev pub HasOneNameScopes : FormulaTree → Type 0

@@ -76,12 +76,16 @@ pub record IsRightIn (h : Head) (s : State) (k : ℕ) (verdict : Verdict) : Type
 abbrev pub IsRight : Head → List EntryTree → ℕ → Verdict → Type 0
 IsRight h es k verdict = IsRightIn h (replay h es) k verdict
 
+-- how many regions all objects share, and how many all principals
+abbrev pub region_count : ℕ
+region_count = 256
+
 -- the region of an object, and of what a principal holds, which is also that of others
 abbrev pub object_region : ℕ → ℕ
-object_region n = n % 256
+object_region n = n % region_count
 
 abbrev pub store_region : ℕ → ℕ
-store_region p = 256 + p % 256
+store_region p = region_count + p % region_count
 
 -- the region that an event of principal p touches: a change of a goal or a proof that of the object, a label that is
 -- given away or deleted that of its holder, and nothing else any

@@ -5,9 +5,9 @@ use Rattle.std.specs.List.{find, list_all, list_any}
 use Rattle.nal_term.specs.Trees.{TermTree, FormulaTree, name, subprincipal, says}
 use Rattle.nal_term.specs.TreeKeys.{same_bytes}
 use Rattle.nal_term.specs.Closed.{covers, covers_term}
-use Rattle.nal_parse.specs.Canonical.{formula_text, formula_levels, term_text}
+use Rattle.nal_parse.specs.Canonical.{formula_text, formula_levels, term_text, most_levels, most_text_bytes}
 use Rattle.proof_lines.specs.Lines.{LineTree}
-use Rattle.proof_text.specs.CanonicalProof.{proof_text}
+use Rattle.proof_text.specs.CanonicalProof.{proof_text, most_proof_bytes}
 use Rattle.object_table.specs.Objects.{number_of}
 use Rattle.goal_store.specs.GoalRows.{is_goal, is_port, port_of}
 use Rattle.proof_store.specs.Cases.{CaseRow, is_case}
@@ -22,13 +22,33 @@ use Rattle.policy_history.specs.PolicyLines.{entry_line}
 use Rattle.policy_history.specs.Rows.{put, alter, take_out}
 use Rattle.policy_history.specs.States.{State, empty_state, tally_of, object_or_0, owner_named, goal_named, case_named, proof_named}
 
+-- ---- How much there may be: of one principal's entries and their lines, of all together, of objects, and of rows of proofs
+
+abbrev pub most_entries_of_one : ℕ
+most_entries_of_one = 4096
+
+abbrev pub most_bytes_of_one : ℕ
+most_bytes_of_one = 524288
+
+abbrev pub most_entries : ℕ
+most_entries = 262144
+
+abbrev pub most_journal_bytes : ℕ
+most_journal_bytes = 33554432
+
+abbrev pub most_objects : ℕ
+most_objects = 65536
+
+abbrev pub most_rows : ℕ
+most_rows = 262144
+
 -- ---- What is spelled: given, and within the limits of its canonical text
 
 abbrev pub term_fits : TermTree → Bool
-term_fits t = nat_le (length (term_text t)) 1024
+term_fits t = nat_le (length (term_text t)) most_text_bytes
 
 abbrev pub formula_fits : FormulaTree → Bool
-formula_fits f = nat_le (length (formula_text f)) 1024 && nat_le (formula_levels f) 64
+formula_fits f = nat_le (length (formula_text f)) most_text_bytes && nat_le (formula_levels f) most_levels
 
 abbrev pub bracket_fits : Option TermTree → Bool
 bracket_fits None = true
@@ -38,7 +58,7 @@ abbrev pub line_fits : LineTree → Bool
 line_fits l = formula_fits l.formula && bracket_fits l.term
 
 abbrev pub proof_fits : List LineTree → Bool
-proof_fits ls = nat_lt 0 (length ls) && (nat_le (length (proof_text ls)) 32768 && list_all line_fits ls)
+proof_fits ls = nat_lt 0 (length ls) && (nat_le (length (proof_text ls)) most_proof_bytes && list_all line_fits ls)
 
 -- a term that is spelled and closed
 abbrev pub is_stated : Option TermTree → Bool
@@ -90,11 +110,11 @@ is_portless s (Some t) = is_stated (Some t) && is_none (port_of s.ports t)
 
 -- one more line of this length is more than a principal may add
 abbrev pub is_spent : Tally → ℕ → Bool
-is_spent tally bytes = nat_le 4096 tally.entries || nat_lt 524288 (tally.bytes + bytes)
+is_spent tally bytes = nat_le most_entries_of_one tally.entries || nat_lt most_bytes_of_one (tally.bytes + bytes)
 
 -- one more line of this length is more than the journal may have
 abbrev pub is_full : State → ℕ → Bool
-is_full s bytes = nat_le 262144 s.entries || nat_lt 33554432 (s.bytes + bytes)
+is_full s bytes = nat_le most_entries s.entries || nat_lt most_journal_bytes (s.bytes + bytes)
 
 -- `applies h s session p e refusal`: in the state s, the event e of principal p in this session has this against it
 abbrev pub applies : Head → State → ℕ → ℕ → EventTree → Refusal → Bool
@@ -124,8 +144,8 @@ applies h s session p (set_goal op object g) BadFormula = not (is_goal_formula g
 applies h s session p (set_proof op object ls) BadProof = not (is_proof ls)
 applies h s session p e Quota = is_spent (tally_of s p) (length (entry_line session (name_of h.principals p) e))
 applies h s session p e JournalFull = is_full s (length (entry_line session (name_of h.principals p) e))
-applies h s session p (new_object x) ObjectsFull = nat_le 65536 (length s.objects)
-applies h s session p (set_proof op object ls) CasesFull = is_none (case_named s p op object) && nat_le 262144 (length s.cases)
+applies h s session p (new_object x) ObjectsFull = nat_le most_objects (length s.objects)
+applies h s session p (set_proof op object ls) CasesFull = is_none (case_named s p op object) && nat_le most_rows (length s.cases)
 applies h s session p _ _ = false
 
 -- the refusals of the machine in their order; `NotRecorded` is none of them

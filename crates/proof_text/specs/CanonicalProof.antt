@@ -6,6 +6,13 @@ use Rattle.nal_parse.specs.Canonical.{formula_text, term_text, FormulaFits, Term
 use Rattle.proof_lines.specs.Lines.{HasRuleForm, LineTree}
 use Rattle.proof_text.specs.RuleNames.{rule_name}
 
+-- how many bytes the text of a proof may have, and how many lines
+abbrev pub most_proof_bytes : ℕ
+most_proof_bytes = 32768
+
+abbrev pub most_lines : ℕ
+most_lines = 256
+
 -- the references, each after a space
 abbrev pub references_text : List ℕ → List ℕ
 references_text [] = []
@@ -43,7 +50,7 @@ pub record LineFits (l : LineTree) : Type 0 where
 -- there is a line, the text has at most 32,768 bytes, and each formula and term keeps its own limits
 pub record ProofFits (ls : List LineTree) : Type 0 where
   pub some : 0 < length ls
-  pub length_limit : length (proof_text ls) ≤ 32768
+  pub length_limit : length (proof_text ls) ≤ most_proof_bytes
   pub lines : All LineFits ls
 
 -- what the term is made of keeps the limits of its kind, where there is one
@@ -59,6 +66,6 @@ pub record IsSpellableLine (l : LineTree) : Type 0 where
 
 -- what a proof is made of: at most 256 lines, each of the form of its rule, whose parts keep the limits of their kinds
 pub record IsSpellableProof (ls : List LineTree) : Type 0 where
-  pub few : length ls ≤ 256
+  pub few : length ls ≤ most_lines
   pub forms : All HasRuleForm ls
   pub parts : All IsSpellableLine ls

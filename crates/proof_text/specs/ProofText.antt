@@ -10,7 +10,7 @@ use Rattle.nal_parse.specs.declared.parse.ParseError.TheVariants as parse
 use Rattle.proof_lines.specs.declared.rules.Rule.{Rule}
 use Rattle.proof_lines.specs.Lines.{LineTree, reference_count, takes_term}
 use Rattle.proof_text.specs.RuleNames.{rule_name}
-use Rattle.proof_text.specs.CanonicalProof.{proof_text}
+use Rattle.proof_text.specs.CanonicalProof.{proof_text, most_lines, most_proof_bytes}
 use Rattle.proof_text.specs.declared.read.ProofError.{ProofError}
 use Rattle.proof_text.specs.declared.read.ProofError.TheVariants.{BadHeader, BadLine, BadNumber, TooManyLines, TooLong, Formula, NoEnd, After}
 
@@ -114,14 +114,14 @@ IsTail after = (after ≡ []) ⊎ (after ≡ [] ∷ [])
 pub data AreLines : ℕ → List (List ℕ) → List LineTree → List (List ℕ) → Type 0 where
   end : {k : ℕ} {after : List (List ℕ)} → 1 < k → AreLines k (codes "end" ∷ after) [] after
   line : {k : ℕ} {segment : List ℕ} {line : LineTree} {others after : List (List ℕ)} {lines : List LineTree}
-      → k ≤ 256 → IsLineText k segment line → AreLines (k + 1) others lines after → AreLines k (segment ∷ others) (line ∷ lines) after
+      → k ≤ most_lines → IsLineText k segment line → AreLines (k + 1) others lines after → AreLines k (segment ∷ others) (line ∷ lines) after
 
 -- the text spells the proof with these lines, in at most 32,768 bytes
 pub record SpellsProof (bytes : List ℕ) (lines : List LineTree) : Type 0 where
   pub header : List ℕ
   pub others : List (List ℕ)
   pub after : List (List ℕ)
-  pub length_limit : length bytes ≤ 32768
+  pub length_limit : length bytes ≤ most_proof_bytes
   pub cut : segments bytes ≡ header ∷ others
   pub header_form : IsHeader header
   pub body : AreLines 1 others lines after
@@ -130,7 +130,7 @@ pub record SpellsProof (bytes : List ℕ) (lines : List LineTree) : Type 0 where
 -- the text is read as the proof with these lines: it spells it, and its canonical text keeps the same limit
 pub record IsProofText (bytes : List ℕ) (lines : List LineTree) : Type 0 where
   pub spelled : SpellsProof bytes lines
-  pub canonical_limit : length (proof_text lines) ≤ 32768
+  pub canonical_limit : length (proof_text lines) ≤ most_proof_bytes
 
 -- `IsWrong k segments error`: the segments from that of line k on are wrong in this way, and the lowest wrong
 -- one decides
@@ -145,9 +145,9 @@ pub data IsWrong : ℕ → List (List ℕ) → ProofError → Type 0 where
       → IsWrong k (segment ∷ others) (BadNumber k)
   too_many : {k : ℕ} {segment rest : List ℕ} {others : List (List ℕ)} {head : Head} → HasHead segment head rest → head.number ≡ k → k ≡ 257
       → IsWrong k (segment ∷ others) TooManyLines
-  formula : {k : ℕ} {segment rest : List ℕ} {others : List (List ℕ)} {head : Head} {error : ParseError} → k ≤ 256 → HasHead segment head rest → head.number ≡ k
+  formula : {k : ℕ} {segment rest : List ℕ} {others : List (List ℕ)} {head : Head} {error : ParseError} → k ≤ most_lines → HasHead segment head rest → head.number ≡ k
       → ((f : FormulaTree) → ¬ IsFormulaText rest f) → error ≢ parse.Memory → IsFormulaError rest error → IsWrong k (segment ∷ others) (Formula k error)
-  further : {k : ℕ} {segment : List ℕ} {line : LineTree} {others : List (List ℕ)} {error : ProofError} → k ≤ 256 → IsLineText k segment line
+  further : {k : ℕ} {segment : List ℕ} {line : LineTree} {others : List (List ℕ)} {error : ProofError} → k ≤ most_lines → IsLineText k segment line
       → IsWrong (k + 1) others error → IsWrong k (segment ∷ others) error
 
 -- the segments after a header are wrong, or the header is
@@ -157,9 +157,9 @@ pub data AreWrong : List (List ℕ) → ProofError → Type 0 where
 
 -- the text spells no proof, and this is why: it is too long, or else its lowest wrong segment decides
 abbrev pub IsMisspelled : List ℕ → ProofError → Type 0
-IsMisspelled bytes error = ((32768 < length bytes) × (error ≡ TooLong)) ⊎ ((length bytes ≤ 32768) × AreWrong (segments bytes) error)
+IsMisspelled bytes error = ((most_proof_bytes < length bytes) × (error ≡ TooLong)) ⊎ ((length bytes ≤ most_proof_bytes) × AreWrong (segments bytes) error)
 
 -- the text is refused with this error: it spells no proof, or one whose canonical text is too long
 abbrev pub IsRefused : List ℕ → ProofError → Type 0
 IsRefused bytes error =
-    IsMisspelled bytes error ⊎ ((lines : List LineTree) × SpellsProof bytes lines × (32768 < length (proof_text lines)) × (error ≡ TooLong))
+    IsMisspelled bytes error ⊎ ((lines : List LineTree) × SpellsProof bytes lines × (most_proof_bytes < length (proof_text lines)) × (error ≡ TooLong))

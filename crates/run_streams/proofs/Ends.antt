@@ -1,5 +1,5 @@
 -- How a run ends, by what was read and told.
-use Rattle.std.proofs.Common.{◌≡◌, ◌≤◌, ◌⊎◌, inl, inr, ℕ, List, length, IsTrue, Option, refl, sym, subst, ◌∙◌, arith}
+use Rattle.std.proofs.Common.{◌≡◌, ◌≤◌, ◌⊎◌, inl, inr, ℕ, List, length, IsTrue, Option, refl, sym, subst, arith}
 use Rattle.std.specs.Io.KnownBytes.{IsAtEnd}
 use Rattle.nx_io.specs.Streams.{Grows, Rose, gained, prepended}
 use Rattle.nx_io.proofs.ForCallers.{gained-by, gained-nothing, grows-by, grows-nothing}
@@ -7,7 +7,7 @@ use Rattle.run_streams.specs.Runs.{SinkRun, SourceRun, most_bytes}
 use Rattle.run_streams.specs.declared.refusals.InputRefusal.{InputRefusal}
 use Rattle.run_streams.specs.Refusals.{Form, IsRefusalOf, IsRefusedInput, RefusesExactly, refusal_text}
 use Rattle.run_streams.specs.Telling.{Tells, whole, part, nothing}
-use Rattle.run_streams.specs.Ends.{Answering, EndsAnswer, EndsAnswered, EndsUnanswered, IsAnswerOf, IsCompleteAnswer, RunsAnswer, answering, cut_off, no_memory, refusal_cut_off, refused, source_failed, whole as answered}
+use Rattle.run_streams.specs.Ends.{Answering, EndsAnswer, EndsUnanswered, IsAnswerOf, IsCompleteAnswer, RunsAnswer, answering, cut_off, no_memory, refusal_cut_off, refused, source_failed, whole as answered}
 use Rattle.run_streams.proofs.Given.{apart, not_refused, read_whole, refused_by}
 
 -- an input that is answered, as the source gave it

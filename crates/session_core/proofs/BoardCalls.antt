@@ -33,8 +33,11 @@ use Rattle.verdict_words.proofs.ForCallers.{prefix_length, prefix_through, prefi
 use Rattle.policy_book.specs.Matter.{IsHeldRight, StandsFor}
 use Rattle.policy_book.specs.Snaps.{IsSnapOf}
 use Rattle.policy_book.proofs.ForCallers.{held_right}
+use Rattle.session_core.specs.Calls as calling
+use Rattle.session_core.specs.Unanswered as unanswered
 use Rattle.session_core.specs.Told as told
-use Rattle.session_core.specs.Told.{Answers, IsPlaceIn, Keeps, Looks, Runs, Turn, stepped, verdict_reply}
+use Rattle.session_core.specs.Calls.{IsPlaceIn, Keeps, Looks, Runs, Turn, stepped, verdict_reply}
+use Rattle.session_core.specs.Told.{Answers}
 use Rattle.session_core.specs.declared.board_session.BoardSession.{BoardSession}
 use Rattle.session_core.specs.Inner.Boarding.{HasJoined, HasKept, IsChecked, IsMissed, IsReady, IsSettled, IsReplyOf, IsTurn, head_of, own_in, standing, stepped_by, trees_of, who_of}
 use Rattle.session_core.specs.Inner.Boarding as boarding
@@ -91,7 +94,7 @@ taken_at s at is = is ∙ trees_count s.pass.seen
 pub unknown_missed : (p : ℕ) (op object : List ℕ) (s : BoardSession) → place_among s.known.rows op object ≡ None → IsMissed p op object s s
 unknown_missed p op object s none = record {
   steps = [];
-  misses = told.unknown (not_known op object s.known.rows none) refl refl;
+  misses = calling.unknown (not_known op object s.known.rows none) refl refl;
   trail = sym (append-nil s.pass.trail);
   seen = prefix_whole s.pass.seen;
   knows = prefix_whole s.pass.known;
@@ -105,12 +108,12 @@ unknown_missed p op object s none = record {
 -- ---- Steps among which there is no meeting
 
 pub runs_quiet : (op : List ℕ) (arg object : ℕ) (verdict : Verdict) (value : ℕ) (steps : List Item) → Runs op arg object verdict value steps → IsQuiet steps
-runs_quiet op arg object verdict value steps (told.ran step allowed step_is steps_are) n = subst (λ (xs : List Item). met_after n xs ≡ n) (sym steps_are) refl
-runs_quiet op arg object verdict value steps (told.no_step idle none steps_are) n = subst (λ (xs : List Item). met_after n xs ≡ n) (sym steps_are) refl
+runs_quiet op arg object verdict value steps (calling.ran step allowed step_is steps_are) n = subst (λ (xs : List Item). met_after n xs ≡ n) (sym steps_are) refl
+runs_quiet op arg object verdict value steps (calling.no_step idle none steps_are) n = subst (λ (xs : List Item). met_after n xs ≡ n) (sym steps_are) refl
 
 pub keeps_quiet : (known : Bool) (n : ℕ) (number : Option ℕ) (c : CaseTree) (verdict : Verdict) (steps : List Item) → Keeps known n number c verdict steps → IsQuiet steps
-keeps_quiet known n number c verdict steps (told.kept k held is number_is lasting stands steps_are) m = subst (λ (xs : List Item). met_after m xs ≡ m) (sym steps_are) refl
-keeps_quiet known n number c verdict steps (told.not_kept unkept steps_are) m = subst (λ (xs : List Item). met_after m xs ≡ m) (sym steps_are) refl
+keeps_quiet known n number c verdict steps (calling.kept k held is number_is lasting stands steps_are) m = subst (λ (xs : List Item). met_after m xs ≡ m) (sym steps_are) refl
+keeps_quiet known n number c verdict steps (calling.not_kept unkept steps_are) m = subst (λ (xs : List Item). met_after m xs ≡ m) (sym steps_are) refl
 
 -- ---- A look
 
@@ -171,7 +174,7 @@ module _ (board : Identity Entry Head) (s : BoardSession) (p : ℕ) (op object :
       pub looked_missed : (answer : Look) → IsAnswer place.case slot (length q.seen) of_object of_store answer → answer ≡ Miss → IsMissed p op object s (record s { pass = q })
       looked_missed answer is miss = record {
         steps = Loaded place slot (length q.seen) of_object of_store ∷ [];
-        misses = told.missed place slot of_object of_store looks (λ held makes. let hit = (is (length q.seen) held).1 (refl, makes) in absurd (never (sym miss ∙ hit))) refl;
+        misses = calling.missed place slot of_object of_store looks (λ held makes. let hit = (is (length q.seen) held).1 (refl, makes) in absurd (never (sym miss ∙ hit))) refl;
         trail = looked_trail;
         seen = prefix;
         knows = knows;
@@ -191,7 +194,7 @@ module _ (board : Identity Entry Head) (s : BoardSession) (p : ℕ) (op object :
           let turn : Turn = stepped (record (standing s) { low = length q.seen }) (Refused (length q.seen) 20) [] (Loaded place slot (length q.seen) of_object of_store ∷ []) in
           record {
             turn = turn;
-            answers = told.call_unrecorded p op object arg who refl (told.hit_unrecorded (length q.seen) place slot of_object of_store held looks makes refl);
+            answers = told.call_unrecorded p op object arg who refl (unanswered.hit_unrecorded (length q.seen) place slot of_object of_store held looks makes refl);
             reply_is = ap (λ (n : ℕ). Refused n 20) (sym at_is);
             asks_are = refl;
             trail = looked_trail;
@@ -241,7 +244,7 @@ module _ (board : Identity Entry Head) (s : BoardSession) (p : ℕ) (op object :
               turn = turn;
               answers = subst (λ (es : List Entry). Answers (head_of s) (entry_trees es) s.pass.session (standing s) (Call op object arg) turn) (sym ran_seen)
                   (told.call p op object arg who refl
-                  (told.hit (length q.seen) place slot of_object of_store run.value held verdict run.run.steps looks makes stands right_here run.run.runs refl));
+                  (calling.hit (length q.seen) place slot of_object of_store run.value held verdict run.run.steps looks makes stands right_here run.run.runs refl));
               reply_is = sym (run.reply_is ∙ ap (λ (n : ℕ). verdict_reply n 1 run.value verdict) at_is);
               asks_are = refl;
               trail = ran_trail;

@@ -19,7 +19,7 @@ use Rattle.verdict_words.specs.Values.{PassValue, met_seen}
 use Rattle.verdict_words.specs.Words.{IsPlace}
 use Rattle.verdict_words.proofs.ForCallers.{met_append, all_with}
 use Rattle.policy_book.specs.Books.{session_of}
-use Rattle.session_core.specs.Told.{IsPlaceIn}
+use Rattle.session_core.specs.Calls.{IsPlaceIn}
 use Rattle.session_core.specs.Inner.Boarding.{AreKnown, IsKnownRow, own_in}
 use Rattle.session_core.specs.Inner.Knowing.{KnownRow, is_row_of, place_among}
 

@@ -36,8 +36,12 @@ use Rattle.policy_book.specs.Access.{HasMet}
 use Rattle.policy_book.specs.Books.{met_at, session_of}
 use Rattle.policy_book.specs.Snaps.{IsSnapOf}
 use Rattle.session_core.specs.Standing.{Triple, joined, knows, most_known}
+use Rattle.session_core.specs.Calls as calling
+use Rattle.session_core.specs.Unanswered as unanswered
 use Rattle.session_core.specs.Told as told
-use Rattle.session_core.specs.Told.{Answers, AreAsked, AreAskedInVain, Calls, IsPlaceIn, IsSeen, Keeps, Misses, Turn, checked, state_at, stepped, verdict_reply}
+use Rattle.session_core.specs.Calls.{Calls, IsPlaceIn, IsSeen, Keeps, Misses, Turn, checked, state_at, stepped, verdict_reply}
+use Rattle.session_core.specs.Unanswered.{AreAsked, AreAskedInVain}
+use Rattle.session_core.specs.Told.{Answers}
 use Rattle.session_core.specs.declared.board_session.BoardSession.{BoardSession}
 use Rattle.session_core.specs.Inner.Boarding.{AreKnown, HasJoined, IsChecked, IsKnownRow, IsMissed, IsReady, IsSettled, IsTurn, head_of, own_in, standing, stepped_by, trees_of, who_of}
 use Rattle.session_core.specs.Inner.Boarding as boarding
@@ -178,7 +182,7 @@ module _ (p : ℕ) (op object : List ℕ) (arg : ℕ) (s m : BoardSession) (who 
   pub unsnapped_turn : (k : KnownValue) (asks : List Ask) → k.rows ≡ m.known.rows → asks ≡ [] → IsTurn s (record m { known = k }) asks (Call op object arg) NoMemory
   unsnapped_turn k asks rows none = record {
     turn = stepped (record (standing s) { low = length m.pass.seen }) NoMemory [] missed.steps;
-    answers = told.call_given_up p op object arg who refl (told.looked (length m.pass.seen) missed.steps missed.misses refl);
+    answers = told.call_given_up p op object arg who refl (unanswered.looked (length m.pass.seen) missed.steps missed.misses refl);
     reply_is = refl;
     asks_are = sym none;
     trail = missed.trail;
@@ -250,7 +254,7 @@ module _ (p : ℕ) (op object : List ℕ) (arg : ℕ) (s m : BoardSession) (who 
     -- there was no memory behind it
     pub given_up_turn : (asks : List Ask) → AreAskedInVain (head_of s) (state_at (head_of s) (trees_of n) (length n.pass.seen)) p op object asks → IsTurn s n asks (Call op object arg) NoMemory
     given_up_turn asks asked =
-        turn_at NoMemory asks (told.call_given_up p op object arg who refl (told.met (length m.pass.seen) (length n.pass.seen) missed.steps met_misses met_seen_now asked refl))
+        turn_at NoMemory asks (told.call_given_up p op object arg who refl (unanswered.met (length m.pass.seen) (length n.pass.seen) missed.steps met_misses met_seen_now asked refl))
 
     pub unasked_turn : (asks : List Ask) → asks ≡ [] → IsTurn s n asks (Call op object arg) NoMemory
     unasked_turn asks none = given_up_turn asks (inl none)
@@ -258,12 +262,12 @@ module _ (p : ℕ) (op object : List ℕ) (arg : ℕ) (s m : BoardSession) (who 
     -- the record of the call could not be sent
     cut_turn : (asks : List Ask) → AreAsked (head_of s) (state_at (head_of s) (trees_of n) (length n.pass.seen)) p op object asks → IsTurn s n asks (Call op object arg) (Refused (length n.pass.seen) 20)
     cut_turn asks asked =
-        turn_at (Refused (length n.pass.seen) 20) asks (told.call_unrecorded p op object arg who refl (told.snap_unrecorded (length m.pass.seen) (length n.pass.seen) missed.steps met_misses met_seen_now asked refl))
+        turn_at (Refused (length n.pass.seen) 20) asks (told.call_unrecorded p op object arg who refl (unanswered.snap_unrecorded (length m.pass.seen) (length n.pass.seen) missed.steps met_misses met_seen_now asked refl))
 
     cut_object_turn : (at : ℕ) (asks : List Ask) → asks ≡ [] → at ≡ length (trees_of n) → number_of (replay (head_of n) (trees_of n)).objects object ≡ None → IsTurn s n asks (Call op object arg) (Refused at 20)
     cut_object_turn at asks none at_is no_object =
         subst (λ (x : ℕ). IsTurn s n asks (Call op object arg) (Refused x 20)) (sym (at_is ∙ trees_count n.pass.seen))
-        (cut_turn asks (told.asked_nobody (subst (λ (st : State). number_of st.objects object ≡ None) met_state no_object) none))
+        (cut_turn asks (unanswered.asked_nobody (subst (λ (st : State). number_of st.objects object ≡ None) met_state no_object) none))
 
     -- no object has the name
     no_object_turn : (at : ℕ) (asks : List Ask) → asks ≡ [] → at ≡ length (trees_of n) → number_of (replay (head_of n) (trees_of n)).objects object ≡ None → IsTurn s n asks (Call op object arg) (Refused at 8)
@@ -271,8 +275,8 @@ module _ (p : ℕ) (op object : List ℕ) (arg : ℕ) (s m : BoardSession) (who 
         subst (λ (xs : List Ask). IsTurn s n xs (Call op object arg) (Refused at 8)) (sym none)
         (subst (λ (x : ℕ). IsTurn s n [] (Call op object arg) (Refused x 8)) (sym (at_is ∙ trees_count n.pass.seen))
         (turn_at (Refused (length n.pass.seen) 8) [] (told.call p op object arg who refl
-        (told.snapped (length m.pass.seen) (length n.pass.seen) missed.steps met_misses met_seen_now
-        (told.no_object (subst (λ (st : State). number_of st.objects object ≡ None) met_state no_object) refl)))))
+        (calling.snapped (length m.pass.seen) (length n.pass.seen) missed.steps met_misses met_seen_now
+        (calling.no_object (subst (λ (st : State). number_of st.objects object ≡ None) met_state no_object) refl)))))
 
     -- either way
     pub none_turn : (at : ℕ) (asks : List Ask) → asks ≡ [] → at ≡ length (trees_of n) → number_of (replay (head_of n) (trees_of n)).objects object ≡ None → (reply : Reply)
@@ -367,13 +371,13 @@ module _ (p : ℕ) (op object : List ℕ) (arg : ℕ) (s m : BoardSession) (who 
           subst (λ (r : Reply). IsTurn s t asks (Call op object arg) r) (sym is)
           (join_turn t (kept ++ ran) joined_now (verdict_reply (length n.pass.seen) 0 value (verdict_of finding)) asks
           (quiet_both kept ran (keeps_quiet _ _ _ _ _ kept keeps) (runs_quiet _ _ _ _ _ ran runs)) met_last
-          (told.call p op object arg who refl (told.snapped (length m.pass.seen) (length n.pass.seen) missed.steps met_misses met_seen_now
-          (told.judged k value finding kept ran object_there (subst (λ (x : CaseTree). IsJudged x asks finding) case_there judged) keeps_here runs refl))))
+          (told.call p op object arg who refl (calling.snapped (length m.pass.seen) (length n.pass.seen) missed.steps met_misses met_seen_now
+          (calling.judged k value finding kept ran object_there (subst (λ (x : CaseTree). IsJudged x asks finding) case_there judged) keeps_here runs refl))))
       checked_turn t asks reply (boarding.down line broken joined_now is) =
           subst (λ (r : Reply). IsTurn s t asks (Call op object arg) r) (sym is)
           (join_turn t [] joined_now (Down (length n.pass.seen) line) asks (λ x. refl) met_last
-          (told.call p op object arg who refl (told.snapped (length m.pass.seen) (length n.pass.seen) missed.steps met_misses met_seen_now
-          (told.down k line object_there (subst (λ (x : CaseTree). IsBrokenOff x asks (DownError line)) case_there broken) refl))))
+          (told.call p op object arg who refl (calling.snapped (length m.pass.seen) (length n.pass.seen) missed.steps met_misses met_seen_now
+          (calling.down k line object_there (subst (λ (x : CaseTree). IsBrokenOff x asks (DownError line)) case_there broken) refl))))
       checked_turn t asks reply (boarding.no_memory broken same is) =
           subst (λ (r : Reply). IsTurn s t asks (Call op object arg) r) (sym is)
           (subst (λ (x : BoardSession). IsTurn s x asks (Call op object arg) NoMemory) (sym same)
@@ -383,8 +387,8 @@ module _ (p : ℕ) (op object : List ℕ) (arg : ℕ) (s m : BoardSession) (who 
           (subst (λ (x : BoardSession). IsTurn s x asks (Call op object arg) (Refused (length n.pass.seen) 20)) (sym same) (cut_turn asks (asked_so settled)))
         where
           asked_so : IsSettled (case_tree case) asks → AreAsked (head_of s) st p op object asks
-          asked_so (boarding.settled_judged finding judged) = told.asked_all k finding object_there (subst (λ (x : CaseTree). IsJudged x asks finding) case_there judged)
-          asked_so (boarding.settled_down line broken) = told.asked_to_down k line object_there (subst (λ (x : CaseTree). IsBrokenOff x asks (DownError line)) case_there broken)
+          asked_so (boarding.settled_judged finding judged) = unanswered.asked_all k finding object_there (subst (λ (x : CaseTree). IsJudged x asks finding) case_there judged)
+          asked_so (boarding.settled_down line broken) = unanswered.asked_to_down k line object_there (subst (λ (x : CaseTree). IsBrokenOff x asks (DownError line)) case_there broken)
 
 -- ---- It can answer again
 

@@ -42,8 +42,12 @@ use Rattle.policy_book.specs.declared.writing.Written.TheVariants as written
 use Rattle.session_core.specs.Answers.{greeted}
 use Rattle.session_core.specs.Records.{IsNotRecorded}
 use Rattle.session_core.specs.Served.{AreCounted}
+use Rattle.session_core.specs.Unanswered as unanswered
+use Rattle.session_core.specs.Changes as changing
 use Rattle.session_core.specs.Told as told
-use Rattle.session_core.specs.Told.{Answers, IsSeen, Meets, Turn, plain, state_at, stepped}
+use Rattle.session_core.specs.Calls.{IsSeen, Turn, plain, state_at, stepped}
+use Rattle.session_core.specs.Changes.{Meets}
+use Rattle.session_core.specs.Told.{Answers}
 use Rattle.session_core.specs.declared.board_session.Admitted.{Admitted}
 use Rattle.session_core.specs.declared.board_session.BoardSession.{BoardSession}
 use Rattle.session_core.specs.Inner.Boarding.{AreKnown, IsKnownRow, IsReady, IsTurn, head_of, own_in, reply_of, standing, trees_of, who_of}
@@ -81,7 +85,7 @@ pub later_unrecorded : (s : BoardSession) (p : ℕ) (op object : List ℕ) (arg 
 later_unrecorded s p op object arg at asks who at_is none =
     subst (λ (xs : List Ask). IsTurn s s xs (Call op object arg) (RefusedReply at 20)) (sym none)
     (subst (λ (n : ℕ). IsTurn s s [] (Call op object arg) (RefusedReply n 20)) (sym at_is)
-    (still_turn s (Call op object arg) (RefusedReply (length s.pass.seen) 20) (told.call_unrecorded p op object arg who refl (told.later_unrecorded refl))))
+    (still_turn s (Call op object arg) (RefusedReply (length s.pass.seen) 20) (told.call_unrecorded p op object arg who refl (unanswered.later_unrecorded refl))))
 
 not_hello : (op object : List ℕ) (arg : ℕ) (name secret : List ℕ) → Call op object arg ≢ Hello name secret
 not_hello op object arg name secret same = cc same
@@ -213,14 +217,14 @@ module _ (s : BoardSession) (q : PassValue Entry Head) (p : ℕ) (event : Event)
   refusing entries refusal steps = stepped (record (standing s) { low = length entries }) (RefusedReply (length entries) (refusal_number refusal)) [] steps
 
   refused_by : (entries : List Entry) (refusal : Refusal) (steps : List Item) → IsMetBy entries steps
-      → told.Changes (head_of s) (entry_trees entries) s.pass.session (standing s) p (event_tree event) (refusing entries refusal steps)
+      → changing.Changes (head_of s) (entry_trees entries) s.pass.session (standing s) p (event_tree event) (refusing entries refusal steps)
       → IsTurn s (record s { pass = q }) [] request (RefusedReply (length entries) (refusal_number refusal))
   refused_by entries refusal steps met changes =
       let seen : entries ≡ q.seen = sym (ap (λ (x : PassValue Entry Head). x.seen) met.pass_is) in
       let turn : Turn = refusing entries refusal steps in
       record {
         turn = turn;
-        answers = told.change p (event_tree event) who is_event (subst (λ (es : List Entry). told.Changes (head_of s) (entry_trees es) s.pass.session (standing s) p (event_tree event) turn) seen changes);
+        answers = told.change p (event_tree event) who is_event (subst (λ (es : List Entry). changing.Changes (head_of s) (entry_trees es) s.pass.session (standing s) p (event_tree event) turn) seen changes);
         reply_is = refl;
         asks_are = refl;
         trail = ap (λ (x : PassValue Entry Head). x.trail) met.pass_is ∙ met.trail_is;
@@ -236,14 +240,14 @@ module _ (s : BoardSession) (q : PassValue Entry Head) (p : ℕ) (event : Event)
   -- why it was refused
   refusal_of : (entries : List Entry) (refusal : Refusal) (steps : List Item) → IsMetBy entries steps
       → (decided_at board entries s.pass.session p event ≡ Err refusal) ⊎ ((refusal ≡ NotRecorded) × IsOk (decided_at board entries s.pass.session p event))
-      → told.Changes (head_of s) (entry_trees entries) s.pass.session (standing s) p (event_tree event) (refusing entries refusal steps)
+      → changing.Changes (head_of s) (entry_trees entries) s.pass.session (standing s) p (event_tree event) (refusing entries refusal steps)
   refusal_of entries refusal steps met (inl why) =
       let whole = prefix_whole entries in
-      told.refused (length entries) refusal steps (seen_at entries entries whole met.met.seen) (sym (decided_then entries entries whole) ∙ why) met.meets refl
+      changing.refused (length entries) refusal steps (seen_at entries entries whole met.met.seen) (sym (decided_then entries entries whole) ∙ why) met.meets refl
   refusal_of entries refusal steps met (inr why) =
       let whole = prefix_whole entries in
       let due = ok_due (decided_at board entries s.pass.session p event) why.1 in
-      told.not_recorded (length entries) due.0 steps (seen_at entries entries whole met.met.seen) (sym (decided_then entries entries whole) ∙ due.1) met.meets
+      changing.not_recorded (length entries) due.0 steps (seen_at entries entries whole met.met.seen) (sym (decided_then entries entries whole) ∙ due.1) met.meets
       (ap (λ (x : Refusal). refusing entries x steps) why.0)
 
   refused_turn : (entries : List Entry) (refusal : Refusal)
@@ -281,7 +285,7 @@ module _ (s : BoardSession) (q : PassValue Entry Head) (p : ℕ) (event : Event)
         turn = turn;
         answers = subst (λ (es : List Entry). Answers (head_of s) (entry_trees es) s.pass.session (standing s) request turn) (sym seen)
             (told.change p (event_tree event) who is_event
-            (told.done (length entries) due (Met (length entries) ∷ Met (length entries) ∷ []) (seen_at entries later prefix d.met.seen) (sym (decided_then entries later prefix) ∙ d.accepted) got (inr refl) refl));
+            (changing.done (length entries) due (Met (length entries) ∷ Met (length entries) ∷ []) (seen_at entries later prefix d.met.seen) (sym (decided_then entries later prefix) ∙ d.accepted) got (inr refl) refl));
         reply_is = ap (λ (n : ℕ). DoneReply n number) (sym d.at_is);
         asks_are = refl;
         trail = ap (λ (x : PassValue Entry Head). x.trail) d.pass_is
@@ -360,10 +364,10 @@ module _ (s : BoardSession) (q : PassValue Entry Head) (entries : List Entry) (m
       of : at ≡ length entries → ((k ≤ at) × (reply ≡ Seen at)) ⊎ ((at < k) × (reply ≡ RefusedReply at 23)) → IsTurn s (record s { pass = q }) [] (See k) reply
       of here (inl there) =
           subst (IsTurn s (record s { pass = q }) [] (See k)) (sym (there.1 ∙ ap Seen here))
-          (met_turn (See k) (Seen (length entries)) (told.see p k who refl (told.seen (length entries) seen_within (subst (λ (n : ℕ). k ≤ n) here there.0) refl)))
+          (met_turn (See k) (Seen (length entries)) (told.see p k who refl (changing.seen (length entries) seen_within (subst (λ (n : ℕ). k ≤ n) here there.0) refl)))
       of here (inr far) =
           subst (IsTurn s (record s { pass = q }) [] (See k)) (sym (far.1 ∙ ap (λ (n : ℕ). RefusedReply n 23) here))
-          (met_turn (See k) (RefusedReply (length entries) 23) (told.see p k who refl (told.not_yet (length entries) seen_within (subst (λ (n : ℕ). n < k) here far.0) refl)))
+          (met_turn (See k) (RefusedReply (length entries) 23) (told.see p k who refl (changing.not_yet (length entries) seen_within (subst (λ (n : ℕ). n < k) here far.0) refl)))
 
   pub see_ready : (at : Identity Entry Head) → IsReady at s → IsReady at (record s { pass = q })
   see_ready at ready =

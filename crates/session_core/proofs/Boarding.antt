@@ -18,7 +18,7 @@ use Rattle.verdict_words.specs.declared.places.Held.{Held}
 use Rattle.verdict_words.specs.declared.views.Item.TheVariants.{Filled, Ran}
 use Rattle.verdict_words.specs.declared.views.RegisterStep.TheVariants.{Read, Write, Add}
 use Rattle.policy_book.specs.Matter.{StandsFor}
-use Rattle.session_core.specs.Told as told
+use Rattle.session_core.specs.Calls as calling
 use Rattle.session_core.specs.Inner.Boarding.{HasKept, HasRun, stepped_by}
 
 -- ---- The step of an allowed call on a register
@@ -29,14 +29,14 @@ same_of x y a b r s first second is result = ap (λ (z : List ℕ). same_bytes z
 
 module _ (old new : PassValue Entry Head) (op : List ℕ) (arg object value : ℕ) where
   pub did_read : same_bytes op (codes "read") ≡ true → new ≡ stepped_by old (Ran object Read value ∷ []) new.known → IsPrefix old.known new.known → HasRun old new op arg object Allowed value
-  did_read is made knows = record { steps = Ran object Read value ∷ []; runs = told.ran Read refl (rw is refl) refl; pass_is = made; knows = knows }
+  did_read is made knows = record { steps = Ran object Read value ∷ []; runs = calling.ran Read refl (rw is refl) refl; pass_is = made; knows = knows }
 
   pub did_write : same_bytes op (codes "read") ≡ false → same_bytes op (codes "write") ≡ true → new ≡ stepped_by old (Ran object (Write arg) value ∷ []) new.known → IsPrefix old.known new.known → HasRun old new op arg object Allowed value
-  did_write unread is made knows = record { steps = Ran object (Write arg) value ∷ []; runs = told.ran (Write arg) refl (rw (unread, is) refl) refl; pass_is = made; knows = knows }
+  did_write unread is made knows = record { steps = Ran object (Write arg) value ∷ []; runs = calling.ran (Write arg) refl (rw (unread, is) refl) refl; pass_is = made; knows = knows }
 
   pub did_add : same_bytes op (codes "read") ≡ false → same_bytes op (codes "write") ≡ false → same_bytes op (codes "add") ≡ true → new ≡ stepped_by old (Ran object (Add arg) value ∷ []) new.known → IsPrefix old.known new.known
       → HasRun old new op arg object Allowed value
-  did_add unread unset is made knows = record { steps = Ran object (Add arg) value ∷ []; runs = told.ran (Add arg) refl (rw (unread, unset, is) refl) refl; pass_is = made; knows = knows }
+  did_add unread unset is made knows = record { steps = Ran object (Add arg) value ∷ []; runs = calling.ran (Add arg) refl (rw (unread, unset, is) refl) refl; pass_is = made; knows = knows }
 
 -- no step
 pub still : (pass : PassValue Entry Head) → pass ≡ stepped_by pass [] pass.known
@@ -45,7 +45,7 @@ still pass = ap (λ xs. record pass { trail = xs }) (sym (append-nil pass.trail)
 pub did_nothing : (pass : PassValue Entry Head) (op : List ℕ) (arg object : ℕ) → same_bytes op (codes "read") ≡ false → same_bytes op (codes "write") ≡ false → same_bytes op (codes "add") ≡ false
     → HasRun pass pass op arg object Allowed 0
 did_nothing pass op arg object unread unset unadded =
-    record { steps = []; runs = told.no_step (λ both. both.1 (rw (unread, unset, unadded) refl)) refl refl; pass_is = still pass; knows = prefix_whole pass.known }
+    record { steps = []; runs = calling.no_step (λ both. both.1 (rw (unread, unset, unadded) refl)) refl refl; pass_is = still pass; knows = prefix_whole pass.known }
 
 -- ---- A verdict that is kept
 
@@ -61,7 +61,7 @@ stands_where c (Denied (AuthorityNo k)) lasts = absurd lasts
 
 module _ (pass new : PassValue Entry Head) (is_known : Bool) (at : ℕ) (place : Option CasePlace) (c : CaseTree) (verdict : Verdict) where
   pub unkept : ¬ ((is_known ≡ true) × IsLasting c verdict) → HasKept pass pass is_known at place c verdict
-  unkept none = record { steps = []; keeps = told.not_kept none refl; pass_is = still pass; knows = prefix_whole pass.known }
+  unkept none = record { steps = []; keeps = calling.not_kept none refl; pass_is = still pass; knows = prefix_whole pass.known }
 
   pub unkept_unknown : is_known ≡ false → HasKept pass pass is_known at place c verdict
   unkept_unknown unknown = unkept (λ both. true≢false (sym both.0 ∙ unknown))
@@ -76,7 +76,7 @@ module _ (pass new : PassValue Entry Head) (is_known : Bool) (at : ℕ) (place :
       → HasKept pass new is_known at place c verdict
   kept_so p held known place_is lasting stands made knows = record {
     steps = Filled p.case at held ∷ [];
-    keeps = told.kept p.case held known (ap (option_map (λ (q : CasePlace). q.case)) place_is) lasting stands refl;
+    keeps = calling.kept p.case held known (ap (option_map (λ (q : CasePlace). q.case)) place_is) lasting stands refl;
     pass_is = made;
     knows = knows;
   }

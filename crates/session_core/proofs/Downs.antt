@@ -27,8 +27,14 @@ use Rattle.guard_core.specs.declared.findings.Finding.{Finding}
 use Rattle.guard_core.specs.declared.findings.Finding.TheVariants.{Allowed as AllowedFinding, Denied as DeniedFinding}
 use Rattle.session_core.specs.Sessions.{behind}
 use Rattle.session_core.specs.Standing.{Standing}
+use Rattle.session_core.specs.Calls as calling
+use Rattle.session_core.specs.Unanswered as unanswered
+use Rattle.session_core.specs.Changes as changing
 use Rattle.session_core.specs.Told as told
-use Rattle.session_core.specs.Told.{Answers, AreAskedInVain, Calls, Changes, GivesUp, IsTold, Judges, Leads, Turn, state_at, verdict_reply}
+use Rattle.session_core.specs.Calls.{Calls, Judges, Turn, state_at, verdict_reply}
+use Rattle.session_core.specs.Unanswered.{AreAskedInVain, GivesUp}
+use Rattle.session_core.specs.Changes.{Changes}
+use Rattle.session_core.specs.Told.{Answers, IsTold, Leads}
 use Rattle.session_core.specs.Records.{IsCall, IsNotRecorded, IsUnrecordedCall}
 use Rattle.session_core.specs.ToldLaws.{AreAllRecorded, DownsAreTold, DownsAreToldAlone}
 use Rattle.session_core.proofs.ToldLaws.{unrecorded_reply}
@@ -69,27 +75,27 @@ greeted_fits at session None (Some p) = refl
 -- ---- A session beside others
 
 judges_fit : {h : Head} {st : State} {before : Standing} {p : ℕ} {op object : List ℕ} {arg n : ℕ} {looked : List Item} {turn : Turn} → Judges h st before p op object arg n looked turn → FitsTurn turn
-judges_fit (told.no_object none is) = fits_turn is refl
-judges_fit {n = n} (told.judged k value finding kept ran object_is judged keeps runs is) =
+judges_fit (calling.no_object none is) = fits_turn is refl
+judges_fit {n = n} (calling.judged k value finding kept ran object_is judged keeps runs is) =
     judged_downs _ _ finding judged ∙ sym (ap (λ (t : Turn). told_down t.reply) is ∙ verdict_up n 0 value (verdict_of finding))
-judges_fit (told.down k line object_is broken is) = broken_downs _ _ line broken ∙ sym (ap (λ (t : Turn). told_down t.reply) is)
+judges_fit (calling.down k line object_is broken is) = broken_downs _ _ line broken ∙ sym (ap (λ (t : Turn). told_down t.reply) is)
 
 calls_fit : {h : Head} {es : List EntryTree} {before : Standing} {p : ℕ} {op object : List ℕ} {arg : ℕ} {turn : Turn} → Calls h es before p op object arg turn → FitsTurn turn
-calls_fit (told.hit n place slot of_object of_store value held verdict ran looks makes stands right runs is) = fits_turn is (sym (verdict_up n 1 value verdict))
-calls_fit (told.snapped low n looked misses seen judges) = judges_fit judges
+calls_fit (calling.hit n place slot of_object of_store value held verdict ran looks makes stands right runs is) = fits_turn is (sym (verdict_up n 1 value verdict))
+calls_fit (calling.snapped low n looked misses seen judges) = judges_fit judges
 
 in_vain : (h : Head) (st : State) (p : ℕ) (op object : List ℕ) (asks : List Ask) → AreAskedInVain h st p op object asks → downs_in asks ≡ 0
 in_vain h st p op object asks (inl none) = ap downs_in none
 in_vain h st p op object asks (inr some) = memory_downs _ _ some.2
 
 gives_up_fit : {h : Head} {es : List EntryTree} {before : Standing} {p : ℕ} {op object : List ℕ} {turn : Turn} → GivesUp h es before p op object turn → FitsTurn turn
-gives_up_fit (told.looked low steps misses is) = fits_turn is refl
-gives_up_fit {h} {es} {before} {p} {op} {object} {turn} (told.met low n steps misses seen asked is) = in_vain h (state_at h es n) p op object turn.asks asked ∙ sym (ap (λ (t : Turn). told_down t.reply) is)
+gives_up_fit (unanswered.looked low steps misses is) = fits_turn is refl
+gives_up_fit {h} {es} {before} {p} {op} {object} {turn} (unanswered.met low n steps misses seen asked is) = in_vain h (state_at h es n) p op object turn.asks asked ∙ sym (ap (λ (t : Turn). told_down t.reply) is)
 
 changes_fit : {h : Head} {es : List EntryTree} {s : ℕ} {before : Standing} {p : ℕ} {e : EventTree} {turn : Turn} → Changes h es s before p e turn → FitsTurn turn
-changes_fit (told.refused m refusal met seen decided meets is) = fits_turn is refl
-changes_fit (told.not_recorded m due met seen decided meets is) = fits_turn is refl
-changes_fit (told.done m due met seen decided got meets is) = fits_turn is refl
+changes_fit (changing.refused m refusal met seen decided meets is) = fits_turn is refl
+changes_fit (changing.not_recorded m due met seen decided meets is) = fits_turn is refl
+changes_fit (changing.done m due met seen decided got meets is) = fits_turn is refl
 
 answers_fit : {h : Head} {es : List EntryTree} {s : ℕ} {before : Standing} {request : Request} {turn : Turn} → Answers h es s before request turn
     → FitsTurn turn ⊎ (IsUnrecordedCall request turn.reply × (told_down turn.reply ≡ 0))
@@ -110,8 +116,8 @@ answers_fit (told.call_given_up p op object arg who is gives_up) = inl (gives_up
 answers_fit {turn = turn} (told.call_unrecorded p op object arg who is goes) =
     let reply = unrecorded_reply goes in
     inr ((subst IsCall (sym is) tt, subst IsNotRecorded (sym reply.1) refl), ap told_down reply.1)
-answers_fit (told.see p k who is (told.seen m seen there turn_is)) = inl (fits_turn turn_is refl)
-answers_fit (told.see p k who is (told.not_yet m seen far turn_is)) = inl (fits_turn turn_is refl)
+answers_fit (told.see p k who is (changing.seen m seen there turn_is)) = inl (fits_turn turn_is refl)
+answers_fit (told.see p k who is (changing.not_yet m seen far turn_is)) = inl (fits_turn turn_is refl)
 
 one_more : (asks first later : List Ask) (reply : Reply) (replies : List Reply) → asks ≡ first ++ later → Fits first reply → downs_in later ≡ downs_told replies → downs_in asks ≡ downs_told (reply ∷ replies)
 one_more asks first later reply replies is fits more =

@@ -26,7 +26,7 @@ use Rattle.session_wire.specs.declared.replies.Reply.TheVariants.{Welcome, Allow
 use Rattle.session_core.specs.Answers.{HasOutcome, IsAnswer, IsCalledOn, IsGivenUp, Outcome, answered, changed, down, found, found_reply, given_up}
 use Rattle.session_core.specs.Earned.{IsAskingOf, IsEarned, IsRefuted, IsWelcomedIn, TellsWhatIsTrueAlone}
 use Rattle.session_core.specs.Sessions.{Point, Told1, admitted_in, behind}
-use Rattle.session_core.specs.Told.{state_at}
+use Rattle.session_core.specs.Calls.{state_at}
 use Rattle.session_core.specs.declared.lines.Asking.{Asking}
 use Rattle.session_core.proofs.EarnedCalls.{IsFound, earned_of, refuted_of}
 use Rattle.session_core.proofs.EarnedReplies.{greeted_who, refuted_as}

@@ -19,7 +19,7 @@ use Rattle.policy_history.proofs.ForCallers.{case_there}
 use Rattle.authority_ask.specs.Panels.{Told as Ask}
 use Rattle.guard_core.specs.Judging.{answers_in, told_of}
 use Rattle.session_core.specs.Standing.{Standing}
-use Rattle.session_core.specs.Told.{Turn, state_at}
+use Rattle.session_core.specs.Calls.{Turn, state_at}
 use Rattle.session_core.specs.Earned.{IsEarned, IsRefuted}
 use Rattle.session_core.proofs.ToldRefusals.{IsVerdictOf, RestsOnCase, on_judged, on_kept}
 

@@ -14,7 +14,13 @@ use Rattle.session_wire.specs.declared.replies.Reply.TheVariants.{Welcome, Allow
 use Rattle.verdict_words.specs.declared.views.Item.{Item}
 use Rattle.session_core.specs.Answers.{greeted}
 use Rattle.session_core.specs.Standing.{Standing, beginning}
-use Rattle.session_core.specs.Told.{Answers, Calls, Changes, GivesUp, GoesUnrecorded, IsTold, Judges, Leads, Turn, verdict_reply}
+use Rattle.session_core.specs.Calls.{Calls, Judges, Turn, verdict_reply}
+use Rattle.session_core.specs.Unanswered.{GivesUp, GoesUnrecorded}
+use Rattle.session_core.specs.Changes.{Changes}
+use Rattle.session_core.specs.Told.{Answers, IsTold, Leads}
+use Rattle.session_core.specs.Calls as calling
+use Rattle.session_core.specs.Unanswered as unanswered
+use Rattle.session_core.specs.Changes as changing
 use Rattle.session_core.specs.Told as told
 use Rattle.session_core.specs.Earned.{IsCallOf, IsEarned, IsRefuted, IsWelcomed, TellsWhatIsTrue}
 use Rattle.session_core.proofs.EarnedCalls.{IsFound, earned_of, found_of, refuted_of}
@@ -25,27 +31,27 @@ use Rattle.session_core.proofs.ToldLaws.{unrecorded_reply}
 
 -- a turn leaves the length that was seen last, or a later one
 judges_low : {h : Head} {st : _} {before : Standing} {p : ℕ} {op object : List ℕ} {arg n : ℕ} {looked : List Item} {turn : Turn} → before.low ≤ n → Judges h st before p op object arg n looked turn → before.low ≤ turn.after.low
-judges_low late (told.no_object none is) = omega (arith, late, ap (λ (t : Turn). t.after.low) is)
-judges_low late (told.judged k value finding kept ran object_is judged keeps runs is) = omega (arith, late, ap (λ (t : Turn). t.after.low) is)
-judges_low late (told.down k line object_is broken is) = omega (arith, late, ap (λ (t : Turn). t.after.low) is)
+judges_low late (calling.no_object none is) = omega (arith, late, ap (λ (t : Turn). t.after.low) is)
+judges_low late (calling.judged k value finding kept ran object_is judged keeps runs is) = omega (arith, late, ap (λ (t : Turn). t.after.low) is)
+judges_low late (calling.down k line object_is broken is) = omega (arith, late, ap (λ (t : Turn). t.after.low) is)
 
 changes_low : {h : Head} {es : List EntryTree} {s : ℕ} {before : Standing} {p : ℕ} {e : EventTree} {turn : Turn} → Changes h es s before p e turn → before.low ≤ turn.after.low
-changes_low (told.refused m refusal met seen decided meets is) = omega (arith, seen.0, ap (λ (t : Turn). t.after.low) is)
-changes_low (told.not_recorded m due met seen decided meets is) = omega (arith, seen.0, ap (λ (t : Turn). t.after.low) is)
-changes_low (told.done m due met seen decided got meets is) = omega (arith, seen.0, ap (λ (t : Turn). t.after.low) is)
+changes_low (changing.refused m refusal met seen decided meets is) = omega (arith, seen.0, ap (λ (t : Turn). t.after.low) is)
+changes_low (changing.not_recorded m due met seen decided meets is) = omega (arith, seen.0, ap (λ (t : Turn). t.after.low) is)
+changes_low (changing.done m due met seen decided got meets is) = omega (arith, seen.0, ap (λ (t : Turn). t.after.low) is)
 
 calls_low : {h : Head} {es : List EntryTree} {before : Standing} {p : ℕ} {op object : List ℕ} {arg : ℕ} {turn : Turn} → Calls h es before p op object arg turn → before.low ≤ turn.after.low
-calls_low (told.hit n place slot of_object of_store value held verdict ran looks makes stands right runs is) = omega (arith, looks.seen.0, ap (λ (t : Turn). t.after.low) is)
-calls_low (told.snapped low n looked misses seen judges) = let least = misses_low misses in judges_low (omega (arith, least, seen.0)) judges
+calls_low (calling.hit n place slot of_object of_store value held verdict ran looks makes stands right runs is) = omega (arith, looks.seen.0, ap (λ (t : Turn). t.after.low) is)
+calls_low (calling.snapped low n looked misses seen judges) = let least = misses_low misses in judges_low (omega (arith, least, seen.0)) judges
 
 gives_up_low : {h : Head} {es : List EntryTree} {before : Standing} {p : ℕ} {op object : List ℕ} {turn : Turn} → GivesUp h es before p op object turn → before.low ≤ turn.after.low
-gives_up_low (told.looked low steps misses is) = let least = misses_low misses in omega (arith, least, ap (λ (t : Turn). t.after.low) is)
-gives_up_low (told.met low n steps misses seen asked is) = let least = misses_low misses in omega (arith, least, seen.0, ap (λ (t : Turn). t.after.low) is)
+gives_up_low (unanswered.looked low steps misses is) = let least = misses_low misses in omega (arith, least, ap (λ (t : Turn). t.after.low) is)
+gives_up_low (unanswered.met low n steps misses seen asked is) = let least = misses_low misses in omega (arith, least, seen.0, ap (λ (t : Turn). t.after.low) is)
 
 unrecorded_low : {h : Head} {es : List EntryTree} {before : Standing} {p : ℕ} {op object : List ℕ} {turn : Turn} → GoesUnrecorded h es before p op object turn → before.low ≤ turn.after.low
-unrecorded_low (told.hit_unrecorded n place slot of_object of_store held looks makes is) = omega (arith, looks.seen.0, ap (λ (t : Turn). t.after.low) is)
-unrecorded_low (told.snap_unrecorded low n steps misses seen asked is) = let least = misses_low misses in omega (arith, least, seen.0, ap (λ (t : Turn). t.after.low) is)
-unrecorded_low (told.later_unrecorded is) = omega (arith, ap (λ (t : Turn). t.after.low) is)
+unrecorded_low (unanswered.hit_unrecorded n place slot of_object of_store held looks makes is) = omega (arith, looks.seen.0, ap (λ (t : Turn). t.after.low) is)
+unrecorded_low (unanswered.snap_unrecorded low n steps misses seen asked is) = let least = misses_low misses in omega (arith, least, seen.0, ap (λ (t : Turn). t.after.low) is)
+unrecorded_low (unanswered.later_unrecorded is) = omega (arith, ap (λ (t : Turn). t.after.low) is)
 
 pub answers_low : {h : Head} {es : List EntryTree} {s : ℕ} {before : Standing} {request : Request} {turn : Turn} → Answers h es s before request turn → before.low ≤ turn.after.low
 answers_low (told.hello name secret greeting is greeted_is turn_is) = omega (arith, ap (λ (t : Turn). t.after.low) turn_is)
@@ -55,8 +61,8 @@ answers_low (told.call p op object arg who is calls) = calls_low calls
 answers_low (told.given_up wants is) = omega (arith, ap (λ (t : Turn). t.after.low) is)
 answers_low (told.call_given_up p op object arg who is gives_up) = gives_up_low gives_up
 answers_low (told.call_unrecorded p op object arg who is goes) = unrecorded_low goes
-answers_low (told.see p k who is (told.seen m seen there turn_is)) = omega (arith, seen.0, ap (λ (t : Turn). t.after.low) turn_is)
-answers_low (told.see p k who is (told.not_yet m seen far turn_is)) = omega (arith, seen.0, ap (λ (t : Turn). t.after.low) turn_is)
+answers_low (told.see p k who is (changing.seen m seen there turn_is)) = omega (arith, seen.0, ap (λ (t : Turn). t.after.low) turn_is)
+answers_low (told.see p k who is (changing.not_yet m seen far turn_is)) = omega (arith, seen.0, ap (λ (t : Turn). t.after.low) turn_is)
 
 -- ---- Who is admitted
 
@@ -82,27 +88,27 @@ module _ (h : Head) (es : List EntryTree) (s : ℕ) (before : Standing) (request
   CameIn = (before.who ≡ Some p) ⊎ Welcomes h s request turn.reply p
 
   judges_who : {st : _} {q : ℕ} {op object : List ℕ} {arg n : ℕ} {looked : List Item} → Judges h st before q op object arg n looked turn → CameIn
-  judges_who (told.no_object none is) = same_who before is refl who
-  judges_who (told.judged k value finding kept ran object_is judged keeps runs is) = same_who before is refl who
-  judges_who (told.down k line object_is broken is) = same_who before is refl who
+  judges_who (calling.no_object none is) = same_who before is refl who
+  judges_who (calling.judged k value finding kept ran object_is judged keeps runs is) = same_who before is refl who
+  judges_who (calling.down k line object_is broken is) = same_who before is refl who
 
   calls_who : {q : ℕ} {op object : List ℕ} {arg : ℕ} → Calls h es before q op object arg turn → CameIn
-  calls_who (told.hit n place slot of_object of_store value held verdict ran looks makes stands right runs is) = same_who before is refl who
-  calls_who (told.snapped low n looked misses seen judges) = judges_who judges
+  calls_who (calling.hit n place slot of_object of_store value held verdict ran looks makes stands right runs is) = same_who before is refl who
+  calls_who (calling.snapped low n looked misses seen judges) = judges_who judges
 
   changes_who : {q : ℕ} {e : EventTree} → Changes h es s before q e turn → CameIn
-  changes_who (told.refused m refusal met seen decided meets is) = same_who before is refl who
-  changes_who (told.not_recorded m due met seen decided meets is) = same_who before is refl who
-  changes_who (told.done m due met seen decided got meets is) = same_who before is refl who
+  changes_who (changing.refused m refusal met seen decided meets is) = same_who before is refl who
+  changes_who (changing.not_recorded m due met seen decided meets is) = same_who before is refl who
+  changes_who (changing.done m due met seen decided got meets is) = same_who before is refl who
 
   gives_up_who : {q : ℕ} {op object : List ℕ} → GivesUp h es before q op object turn → CameIn
-  gives_up_who (told.looked low steps misses is) = same_who before is refl who
-  gives_up_who (told.met low n steps misses seen asked is) = same_who before is refl who
+  gives_up_who (unanswered.looked low steps misses is) = same_who before is refl who
+  gives_up_who (unanswered.met low n steps misses seen asked is) = same_who before is refl who
 
   unrecorded_who : {q : ℕ} {op object : List ℕ} → GoesUnrecorded h es before q op object turn → CameIn
-  unrecorded_who (told.hit_unrecorded n place slot of_object of_store held looks makes is) = same_who before is refl who
-  unrecorded_who (told.snap_unrecorded low n steps misses seen asked is) = same_who before is refl who
-  unrecorded_who (told.later_unrecorded is) = same_who before is refl who
+  unrecorded_who (unanswered.hit_unrecorded n place slot of_object of_store held looks makes is) = same_who before is refl who
+  unrecorded_who (unanswered.snap_unrecorded low n steps misses seen asked is) = same_who before is refl who
+  unrecorded_who (unanswered.later_unrecorded is) = same_who before is refl who
 
   came_in : Answers h es s before request turn → CameIn
   came_in (told.hello name secret greeting is greeted_is turn_is) =
@@ -125,8 +131,8 @@ module _ (h : Head) (es : List EntryTree) (s : ℕ) (before : Standing) (request
   came_in (told.given_up wants is) = same_who before is refl who
   came_in (told.call_given_up q op object arg who_is is gives_up) = gives_up_who gives_up
   came_in (told.call_unrecorded q op object arg who_is is goes) = unrecorded_who goes
-  came_in (told.see q k who_is is (told.seen m seen there turn_is)) = same_who before turn_is refl who
-  came_in (told.see q k who_is is (told.not_yet m seen far turn_is)) = same_who before turn_is refl who
+  came_in (told.see q k who_is is (changing.seen m seen there turn_is)) = same_who before turn_is refl who
+  came_in (told.see q k who_is is (changing.not_yet m seen far turn_is)) = same_who before turn_is refl who
 
 -- ---- The turn that a verdict is told in
 
@@ -135,9 +141,9 @@ no_verdict_told : {turn of : Turn} {A : Type 0} → is_verdict_reply turn.reply 
 no_verdict_told tells is off = absurd (other_kind is_verdict_reply is refl tells off)
 
 changes_no_verdict : {h : Head} {es : List EntryTree} {s : ℕ} {before : Standing} {p : ℕ} {e : EventTree} {turn : Turn} {A : Type 0} → is_verdict_reply turn.reply ≡ true → Changes h es s before p e turn → A
-changes_no_verdict tells (told.refused m refusal met seen decided meets is) = no_verdict_told tells is refl
-changes_no_verdict tells (told.not_recorded m due met seen decided meets is) = no_verdict_told tells is refl
-changes_no_verdict tells (told.done m due met seen decided got meets is) = no_verdict_told tells is refl
+changes_no_verdict tells (changing.refused m refusal met seen decided meets is) = no_verdict_told tells is refl
+changes_no_verdict tells (changing.not_recorded m due met seen decided meets is) = no_verdict_told tells is refl
+changes_no_verdict tells (changing.done m due met seen decided got meets is) = no_verdict_told tells is refl
 
 record CallTurn (h : Head) (es : List EntryTree) (before : Standing) (request : Request) (turn : Turn) : Type 0 where
   principal : ℕ
@@ -165,8 +171,8 @@ turn_of {h} {es} {s} {before} {request} {turn} tells (told.call p op object arg 
 turn_of tells (told.given_up wants is) = no_verdict_told tells is refl
 turn_of tells (told.call_given_up p op object arg who is gives_up) = absurd (cc (tells, ap is_verdict_reply (gives_up_silent gives_up)))
 turn_of tells (told.call_unrecorded p op object arg who is goes) = absurd (cc (tells, ap is_verdict_reply (unrecorded_reply goes).1))
-turn_of tells (told.see p k who is (told.seen m seen there turn_is)) = no_verdict_told tells turn_is refl
-turn_of tells (told.see p k who is (told.not_yet m seen far turn_is)) = no_verdict_told tells turn_is refl
+turn_of tells (told.see p k who is (changing.seen m seen there turn_is)) = no_verdict_told tells turn_is refl
+turn_of tells (told.see p k who is (changing.not_yet m seen far turn_is)) = no_verdict_told tells turn_is refl
 
 -- ---- A whole session
 

@@ -22,7 +22,8 @@ use Rattle.policy_history.specs.Events.{EntryTree}
 use Rattle.session_wire.specs.declared.requests.Request.{Request}
 use Rattle.verdict_words.specs.declared.views.Item.{Item}
 use Rattle.session_core.specs.Standing.{Standing}
-use Rattle.session_core.specs.Told.{Answers as BoardAnswers, Leads, Turn}
+use Rattle.session_core.specs.Calls.{Turn}
+use Rattle.session_core.specs.Told.{Answers as BoardAnswers, Leads}
 use Rattle.session_core.specs.Sessions.{Answers, Point, Told1, at_start, behind}
 
 -- one request more, behind those that were answered

@@ -28,7 +28,7 @@ use Rattle.audit_form.specs.RecordLines.{record_text}
 use Rattle.audit_form.specs.ReplyRecords.{Records, record_of}
 use Rattle.session_core.specs.Records.{IsCall, IsLineOf, IsNoted, IsNotRecorded, IsUntold, Kept, given_in}
 use Rattle.session_core.specs.Records as records
-use Rattle.session_core.specs.Told.{verdict_reply}
+use Rattle.session_core.specs.Calls.{verdict_reply}
 use Rattle.session_core.specs.Inner.Boarding as boarding
 use Rattle.session_core.specs.Inner.Boarding.{IsAdmitted, IsReady, IsWritten, head_of, who_of}
 

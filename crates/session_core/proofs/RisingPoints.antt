@@ -13,7 +13,13 @@ use Rattle.session_wire.specs.declared.replies.Reply.TheVariants.{Done, NoMemory
 use Rattle.verdict_words.specs.declared.views.Item.{Item}
 use Rattle.session_core.specs.Answers.{greeted}
 use Rattle.session_core.specs.Standing.{Standing, beginning}
-use Rattle.session_core.specs.Told.{Answers, Calls, Changes, GoesUnrecorded, IsTold, Judges, Leads, Turn, verdict_reply}
+use Rattle.session_core.specs.Calls.{Calls, Judges, Turn, verdict_reply}
+use Rattle.session_core.specs.Unanswered.{GoesUnrecorded}
+use Rattle.session_core.specs.Changes.{Changes}
+use Rattle.session_core.specs.Told.{Answers, IsTold, Leads}
+use Rattle.session_core.specs.Calls as calling
+use Rattle.session_core.specs.Unanswered as unanswered
+use Rattle.session_core.specs.Changes as changing
 use Rattle.session_core.specs.Told as told
 use Rattle.session_core.specs.Earned.{TellsInOrder, TellsWhatLasts, point_of}
 use Rattle.session_core.specs.Inner.ToldRows.{SeenTooEarly, entry, f, head, hello, make_f}
@@ -44,23 +50,23 @@ silent turn nothing e = absurd (cc (ap point_of nothing, e))
 
 module _ {turn : Turn} {a : ℕ} (e : point_of turn.reply ≡ Some a) where
   judges_between : {h : Head} {st : _} {before : Standing} {p : ℕ} {op object : List ℕ} {arg n : ℕ} {looked : List Item} → before.low ≤ n → Judges h st before p op object arg n looked turn → Between before turn a
-  judges_between {before = before} late (told.no_object none is) = between before is refl refl late e
-  judges_between {before = before} {n = n} late (told.judged k value finding kept ran object_is judged keeps runs is) = between before is (verdict_point n 0 value _) refl late e
-  judges_between {before = before} late (told.down k line object_is broken is) = between before is refl refl late e
+  judges_between {before = before} late (calling.no_object none is) = between before is refl refl late e
+  judges_between {before = before} {n = n} late (calling.judged k value finding kept ran object_is judged keeps runs is) = between before is (verdict_point n 0 value _) refl late e
+  judges_between {before = before} late (calling.down k line object_is broken is) = between before is refl refl late e
 
   calls_between : {h : Head} {es : List EntryTree} {before : Standing} {p : ℕ} {op object : List ℕ} {arg : ℕ} → Calls h es before p op object arg turn → Between before turn a
-  calls_between {before = before} (told.hit n place slot of_object of_store value held verdict ran looks makes stands right runs is) = between before is (verdict_point n 1 value verdict) refl looks.seen.0 e
-  calls_between (told.snapped low n looked misses seen judges) = let least = misses_low misses in judges_between (omega (arith, least, seen.0)) judges
+  calls_between {before = before} (calling.hit n place slot of_object of_store value held verdict ran looks makes stands right runs is) = between before is (verdict_point n 1 value verdict) refl looks.seen.0 e
+  calls_between (calling.snapped low n looked misses seen judges) = let least = misses_low misses in judges_between (omega (arith, least, seen.0)) judges
 
   changes_between : {h : Head} {es : List EntryTree} {s : ℕ} {before : Standing} {p : ℕ} {event : EventTree} → Changes h es s before p event turn → Between before turn a
-  changes_between {before = before} (told.refused m refusal met seen decided meets is) = between before is refl refl seen.0 e
-  changes_between {before = before} (told.not_recorded m due met seen decided meets is) = between before is refl refl seen.0 e
-  changes_between {before = before} (told.done m due met seen decided got meets is) = let least = seen.0 in between before is refl refl (omega (arith, least)) e
+  changes_between {before = before} (changing.refused m refusal met seen decided meets is) = between before is refl refl seen.0 e
+  changes_between {before = before} (changing.not_recorded m due met seen decided meets is) = between before is refl refl seen.0 e
+  changes_between {before = before} (changing.done m due met seen decided got meets is) = let least = seen.0 in between before is refl refl (omega (arith, least)) e
 
   unrecorded_between : {h : Head} {es : List EntryTree} {before : Standing} {p : ℕ} {op object : List ℕ} → GoesUnrecorded h es before p op object turn → Between before turn a
-  unrecorded_between {before = before} (told.hit_unrecorded n place slot of_object of_store held looks makes is) = between before is refl refl looks.seen.0 e
-  unrecorded_between {before = before} (told.snap_unrecorded low n steps misses seen asked is) = let least = misses_low misses in between before is refl refl (omega (arith, least, seen.0)) e
-  unrecorded_between {before = before} (told.later_unrecorded is) = between before is refl refl (omega arith) e
+  unrecorded_between {before = before} (unanswered.hit_unrecorded n place slot of_object of_store held looks makes is) = between before is refl refl looks.seen.0 e
+  unrecorded_between {before = before} (unanswered.snap_unrecorded low n steps misses seen asked is) = let least = misses_low misses in between before is refl refl (omega (arith, least, seen.0)) e
+  unrecorded_between {before = before} (unanswered.later_unrecorded is) = between before is refl refl (omega arith) e
 
   answers_between : {h : Head} {es : List EntryTree} {s : ℕ} {before : Standing} {request : Request} → Answers h es s before request turn → Between before turn a
   answers_between {h = h} {s = s} {before = before} (told.hello name secret greeting is greeted_is turn_is) =
@@ -71,8 +77,8 @@ module _ {turn : Turn} {a : ℕ} (e : point_of turn.reply ≡ Some a) where
   answers_between (told.given_up wants is) = silent turn (ap (λ (t : Turn). t.reply) is) e
   answers_between (told.call_given_up p op object arg who is gives_up) = silent turn (gives_up_silent gives_up) e
   answers_between (told.call_unrecorded p op object arg who is goes) = unrecorded_between goes
-  answers_between {before = before} (told.see p k who is (told.seen m seen there turn_is)) = between before turn_is refl refl seen.0 e
-  answers_between {before = before} (told.see p k who is (told.not_yet m seen far turn_is)) = between before turn_is refl refl seen.0 e
+  answers_between {before = before} (told.see p k who is (changing.seen m seen there turn_is)) = between before turn_is refl refl seen.0 e
+  answers_between {before = before} (told.see p k who is (changing.not_yet m seen far turn_is)) = between before turn_is refl refl seen.0 e
 
 -- every point is at least what the session had seen as it came here
 from_low : (h : Head) (es : List EntryTree) (s : ℕ) (requests : List Request) (replies : List Reply) (before : Standing) (asks : List Ask) (steps : List Item) (added : List EntryTree) (last : Standing)
@@ -121,13 +127,13 @@ seen_reached k m (told.call p op object arg who is calls) replied = absurd (cc i
 seen_reached k m (told.given_up wants is) replied = absurd (wants k refl)
 seen_reached k m (told.call_given_up p op object arg who is gives_up) replied = absurd (cc is)
 seen_reached k m (told.call_unrecorded p op object arg who is goes) replied = absurd (cc is)
-seen_reached k m (told.see p asked who is (told.seen n seen there turn_is)) replied =
+seen_reached k m (told.see p asked who is (changing.seen n seen there turn_is)) replied =
     let same : k ≡ asked = cc is in
     let told_so : Seen m ≡ Seen n = sym replied ∙ ap (λ (t : Turn). t.reply) turn_is in
     let met : m ≡ n = cc told_so in
     let within = seen.1 in
     (omega (arith, same, met, there), omega (arith, met, within))
-seen_reached k m (told.see p asked who is (told.not_yet n seen far turn_is)) replied = let same = sym replied ∙ ap (λ (t : Turn). t.reply) turn_is in absurd (cc same)
+seen_reached k m (told.see p asked who is (changing.not_yet n seen far turn_is)) replied = let same = sym replied ∙ ap (λ (t : Turn). t.reply) turn_is in absurd (cc same)
 
 seen_in : (h : Head) (es : List EntryTree) (s : ℕ) (requests : List Request) (replies : List Reply) (before : Standing) (asks : List Ask) (steps : List Item) (added : List EntryTree) (last : Standing)
     → Leads h es s before requests replies asks steps added last → (i k m : ℕ) → slice_get requests i ≡ Some (See k) → slice_get replies i ≡ Some (Seen m) → (k ≤ m) × (m ≤ length es)

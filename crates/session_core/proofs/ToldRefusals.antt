@@ -22,7 +22,13 @@ use Rattle.verdict_words.specs.declared.places.CasePlace.{CasePlace}
 use Rattle.verdict_words.specs.declared.views.Item.{Item}
 use Rattle.session_core.specs.Answers.{greeted}
 use Rattle.session_core.specs.Standing.{Standing, Triple, knows}
-use Rattle.session_core.specs.Told.{Answers, Calls, Changes, GivesUp, GoesUnrecorded, IsPlaceIn, IsSeen, Judges, Leads, Looks, Misses, Turn, state_at, verdict_reply}
+use Rattle.session_core.specs.Calls.{Calls, IsPlaceIn, IsSeen, Judges, Looks, Misses, Turn, state_at, verdict_reply}
+use Rattle.session_core.specs.Unanswered.{GivesUp, GoesUnrecorded}
+use Rattle.session_core.specs.Changes.{Changes}
+use Rattle.session_core.specs.Told.{Answers, Leads}
+use Rattle.session_core.specs.Calls as calling
+use Rattle.session_core.specs.Unanswered as unanswered
+use Rattle.session_core.specs.Changes as changing
 use Rattle.session_core.specs.Told as told
 use Rattle.session_core.proofs.ToldLaws.{unrecorded_reply}
 use Rattle.session_core.proofs.WorkedParts.{label_allowed, label_deleted, label_missing, label_shown, one_line}
@@ -70,26 +76,26 @@ module _ {turn : Turn} {at number : ℕ} (replied : turn.reply ≡ Done at numbe
 
   -- a change that was done leaves the session behind its entry
   change_leaves : {h : Head} {es : List EntryTree} {s : ℕ} {before : Standing} {p : ℕ} {e : EventTree} → Changes h es s before p e turn → (turn.after ≡ record before { low = at }) × (0 < at) × (at ≤ length es)
-  change_leaves (told.refused m refusal met seen decided meets is) = absurd (other_kind is_done_reply is replied refl refl)
-  change_leaves (told.not_recorded m due met seen decided meets is) = absurd (other_kind is_done_reply is replied refl refl)
-  change_leaves {es = es} {before = before} (told.done m due met seen decided got meets is) =
+  change_leaves (changing.refused m refusal met seen decided meets is) = absurd (other_kind is_done_reply is replied refl refl)
+  change_leaves (changing.not_recorded m due met seen decided meets is) = absurd (other_kind is_done_reply is replied refl refl)
+  change_leaves {es = es} {before = before} (changing.done m due met seen decided got meets is) =
       let same : Done at number ≡ Done (m + 1) due.number = sym replied ∙ ap (λ (t : Turn). t.reply) is in
       let low : m + 1 ≡ at = cc in
       let within = slice_get_within es m _ got in
       (ap (λ (t : Turn). t.after) is ∙ ap (λ (n : ℕ). record before { low = n }) low, omega (arith, low), omega (arith, low, within))
 
   judges_done : {h : Head} {before : Standing} {st : State} {p : ℕ} {op object : List ℕ} {arg n : ℕ} {looked : List Item} → Judges h st before p op object arg n looked turn → ⊥
-  judges_done (told.no_object none is) = other_kind is_done_reply is replied refl refl
-  judges_done {n = n} (told.judged k value finding kept ran object_is judged keeps runs is) = no_verdict_done n 0 value (verdict_of finding) is refl
-  judges_done (told.down k line object_is broken is) = other_kind is_done_reply is replied refl refl
+  judges_done (calling.no_object none is) = other_kind is_done_reply is replied refl refl
+  judges_done {n = n} (calling.judged k value finding kept ran object_is judged keeps runs is) = no_verdict_done n 0 value (verdict_of finding) is refl
+  judges_done (calling.down k line object_is broken is) = other_kind is_done_reply is replied refl refl
 
   call_done : {h : Head} {es : List EntryTree} {before : Standing} {p : ℕ} {op object : List ℕ} {arg : ℕ} → Calls h es before p op object arg turn → ⊥
-  call_done (told.hit n place slot of_object of_store value held verdict ran looks makes stands right runs is) = no_verdict_done n 1 value verdict is refl
-  call_done (told.snapped low n looked misses seen judges) = judges_done judges
+  call_done (calling.hit n place slot of_object of_store value held verdict ran looks makes stands right runs is) = no_verdict_done n 1 value verdict is refl
+  call_done (calling.snapped low n looked misses seen judges) = judges_done judges
 
   gives_up_done : {h : Head} {es : List EntryTree} {before : Standing} {p : ℕ} {op object : List ℕ} → GivesUp h es before p op object turn → ⊥
-  gives_up_done (told.looked low steps misses is) = other_kind is_done_reply is replied refl refl
-  gives_up_done (told.met low n steps misses seen asked is) = other_kind is_done_reply is replied refl refl
+  gives_up_done (unanswered.looked low steps misses is) = other_kind is_done_reply is replied refl refl
+  gives_up_done (unanswered.met low n steps misses seen asked is) = other_kind is_done_reply is replied refl refl
 
   pub done_leaves : {h : Head} {es : List EntryTree} {s : ℕ} {before : Standing} {request : Request} → Answers h es s before request turn → (turn.after ≡ record before { low = at }) × (0 < at) × (at ≤ length es)
   done_leaves {h = h} {s = s} {before = before} (told.hello name secret greeting is greeted_is turn_is) =
@@ -100,8 +106,8 @@ module _ {turn : Turn} {at number : ℕ} (replied : turn.reply ≡ Done at numbe
   done_leaves (told.given_up wants is) = absurd (other_kind is_done_reply is replied refl refl)
   done_leaves (told.call_given_up p op object arg who is gives_up) = absurd (gives_up_done gives_up)
   done_leaves (told.call_unrecorded p op object arg who is goes) = absurd (true≢false (ap is_done_reply (sym replied ∙ (unrecorded_reply goes).1)))
-  done_leaves (told.see p k who is (told.seen m seen there turn_is)) = absurd (other_kind is_done_reply turn_is replied refl refl)
-  done_leaves (told.see p k who is (told.not_yet m seen far turn_is)) = absurd (other_kind is_done_reply turn_is replied refl refl)
+  done_leaves (told.see p k who is (changing.seen m seen there turn_is)) = absurd (other_kind is_done_reply turn_is replied refl refl)
+  done_leaves (told.see p k who is (changing.not_yet m seen far turn_is)) = absurd (other_kind is_done_reply turn_is replied refl refl)
 
 -- ---- Whoever is admitted stays so
 
@@ -110,27 +116,27 @@ who_of is same who = ap (λ (t : Turn). t.after.who) is ∙ same ∙ who
 
 module _ {before : Standing} {turn : Turn} {p : ℕ} (who : before.who ≡ Some p) where
   judges_stay : {h : Head} {st : State} {q : ℕ} {op object : List ℕ} {arg n : ℕ} {looked : List Item} → Judges h st before q op object arg n looked turn → turn.after.who ≡ Some p
-  judges_stay (told.no_object none is) = who_of is refl who
-  judges_stay (told.judged k value finding kept ran object_is judged keeps runs is) = who_of is refl who
-  judges_stay (told.down k line object_is broken is) = who_of is refl who
+  judges_stay (calling.no_object none is) = who_of is refl who
+  judges_stay (calling.judged k value finding kept ran object_is judged keeps runs is) = who_of is refl who
+  judges_stay (calling.down k line object_is broken is) = who_of is refl who
 
   call_stays : {h : Head} {es : List EntryTree} {q : ℕ} {op object : List ℕ} {arg : ℕ} → Calls h es before q op object arg turn → turn.after.who ≡ Some p
-  call_stays (told.hit n place slot of_object of_store value held verdict ran looks makes stands right runs is) = who_of is refl who
-  call_stays (told.snapped low n looked misses seen judges) = judges_stay judges
+  call_stays (calling.hit n place slot of_object of_store value held verdict ran looks makes stands right runs is) = who_of is refl who
+  call_stays (calling.snapped low n looked misses seen judges) = judges_stay judges
 
   gives_up_stays : {h : Head} {es : List EntryTree} {q : ℕ} {op object : List ℕ} → GivesUp h es before q op object turn → turn.after.who ≡ Some p
-  gives_up_stays (told.looked low steps misses is) = who_of is refl who
-  gives_up_stays (told.met low n steps misses seen asked is) = who_of is refl who
+  gives_up_stays (unanswered.looked low steps misses is) = who_of is refl who
+  gives_up_stays (unanswered.met low n steps misses seen asked is) = who_of is refl who
 
   unrecorded_stays : {h : Head} {es : List EntryTree} {q : ℕ} {op object : List ℕ} → GoesUnrecorded h es before q op object turn → turn.after.who ≡ Some p
-  unrecorded_stays (told.hit_unrecorded n place slot of_object of_store held looks makes is) = who_of is refl who
-  unrecorded_stays (told.snap_unrecorded low n steps misses seen asked is) = who_of is refl who
-  unrecorded_stays (told.later_unrecorded is) = who_of is refl who
+  unrecorded_stays (unanswered.hit_unrecorded n place slot of_object of_store held looks makes is) = who_of is refl who
+  unrecorded_stays (unanswered.snap_unrecorded low n steps misses seen asked is) = who_of is refl who
+  unrecorded_stays (unanswered.later_unrecorded is) = who_of is refl who
 
   change_stays : {h : Head} {es : List EntryTree} {s q : ℕ} {e : EventTree} → Changes h es s before q e turn → turn.after.who ≡ Some p
-  change_stays (told.refused m refusal met seen decided meets is) = who_of is refl who
-  change_stays (told.not_recorded m due met seen decided meets is) = who_of is refl who
-  change_stays (told.done m due met seen decided got meets is) = who_of is refl who
+  change_stays (changing.refused m refusal met seen decided meets is) = who_of is refl who
+  change_stays (changing.not_recorded m due met seen decided meets is) = who_of is refl who
+  change_stays (changing.done m due met seen decided got meets is) = who_of is refl who
 
   pub stays : {h : Head} {es : List EntryTree} {s : ℕ} {request : Request} → Answers h es s before request turn → turn.after.who ≡ Some p
   stays {h = h} {s = s} (told.hello name secret greeting is greeted_is turn_is) =
@@ -142,8 +148,8 @@ module _ {before : Standing} {turn : Turn} {p : ℕ} (who : before.who ≡ Some 
   stays (told.given_up wants is) = who_of is refl who
   stays (told.call_given_up q op object arg who_is is gives_up) = gives_up_stays gives_up
   stays (told.call_unrecorded q op object arg who_is is goes) = unrecorded_stays goes
-  stays (told.see q k who_is is (told.seen m seen there turn_is)) = who_of turn_is refl who
-  stays (told.see q k who_is is (told.not_yet m seen far turn_is)) = who_of turn_is refl who
+  stays (told.see q k who_is is (changing.seen m seen there turn_is)) = who_of turn_is refl who
+  stays (told.see q k who_is is (changing.not_yet m seen far turn_is)) = who_of turn_is refl who
 
 -- who says hello with the name and the secret of a principal, and is welcomed, is that one from then on
 pub welcomed : {h : Head} {es : List EntryTree} {s p at session : ℕ} {before : Standing} {name secret : List ℕ} {turn : Turn} → before.who ≡ None → admitted h.principals name secret ≡ Some p
@@ -184,8 +190,8 @@ pub record IsVerdictOf (h : Head) (es : List EntryTree) (before : Standing) (p :
   pub unasked : hit ≡ 1 → turn.asks ≡ []
 
 pub misses_low : {h : Head} {es : List EntryTree} {before : Standing} {p : ℕ} {op object : List ℕ} {low : ℕ} {steps : List Item} → Misses h es before p op object low steps → before.low ≤ low
-misses_low (told.unknown is_known low_is none) = omega (arith, low_is)
-misses_low (told.missed place slot of_object of_store looks no_hit steps_are) = looks.seen.0
+misses_low (calling.unknown is_known low_is none) = omega (arith, low_is)
+misses_low (calling.missed place slot of_object of_store looks no_hit steps_are) = looks.seen.0
 
 module _ (h : Head) (es : List EntryTree) (before : Standing) (turn : Turn) (p : ℕ) (op object : List ℕ) (arg : ℕ) (told_so : is_verdict_reply turn.reply ≡ true) where
   abbrev IsVerdictHere : Type 0
@@ -195,8 +201,8 @@ module _ (h : Head) (es : List EntryTree) (before : Standing) (turn : Turn) (p :
   no_verdict is off = absurd (other_kind is_verdict_reply is refl told_so off)
 
   judges_verdict : {n : ℕ} {looked : List Item} → before.low ≤ n → n ≤ length es → Judges h (state_at h es n) before p op object arg n looked turn → IsVerdictHere
-  judges_verdict late within (told.no_object none is) = no_verdict is refl
-  judges_verdict {n = n} late within (told.judged k value finding kept ran object_is judged keeps runs is) = record {
+  judges_verdict late within (calling.no_object none is) = no_verdict is refl
+  judges_verdict {n = n} late within (calling.judged k value finding kept ran object_is judged keeps runs is) = record {
     n = n;
     hit = 0;
     value = value;
@@ -208,10 +214,10 @@ module _ (h : Head) (es : List EntryTree) (before : Standing) (turn : Turn) (p :
     rests = on_judged k finding refl object_is refl judged;
     unasked = λ one. absurd (omega (arith, one));
   }
-  judges_verdict late within (told.down k line object_is broken is) = no_verdict is refl
+  judges_verdict late within (calling.down k line object_is broken is) = no_verdict is refl
 
   pub call_verdict : Calls h es before p op object arg turn → IsVerdictHere
-  call_verdict (told.hit n place slot of_object of_store value held verdict ran looks makes stands right runs is) = record {
+  call_verdict (calling.hit n place slot of_object of_store value held verdict ran looks makes stands right runs is) = record {
     n = n;
     hit = 1;
     value = value;
@@ -223,11 +229,11 @@ module _ (h : Head) (es : List EntryTree) (before : Standing) (turn : Turn) (p :
     rests = on_kept place refl looks right;
     unasked = λ _. ap (λ (t : Turn). t.asks) is;
   }
-  call_verdict (told.snapped low n looked misses seen judges) = let least = misses_low misses in judges_verdict (omega (arith, least, seen.0)) seen.1 judges
+  call_verdict (calling.snapped low n looked misses seen judges) = let least = misses_low misses in judges_verdict (omega (arith, least, seen.0)) seen.1 judges
 
 pub gives_up_silent : {h : Head} {es : List EntryTree} {before : Standing} {p : ℕ} {op object : List ℕ} {turn : Turn} → GivesUp h es before p op object turn → turn.reply ≡ NoMemory
-gives_up_silent (told.looked low steps misses is) = ap (λ (t : Turn). t.reply) is
-gives_up_silent (told.met low n steps misses seen asked is) = ap (λ (t : Turn). t.reply) is
+gives_up_silent (unanswered.looked low steps misses is) = ap (λ (t : Turn). t.reply) is
+gives_up_silent (unanswered.met low n steps misses seen asked is) = ap (λ (t : Turn). t.reply) is
 
 -- what a call comes to, by the request
 abbrev CallsBy : Head → List EntryTree → Standing → ℕ → Turn → Request → Type 0

@@ -12,7 +12,9 @@ use Rattle.verdict_words.specs.Answers.{MakesHit}
 use Rattle.verdict_words.specs.declared.views.RegisterStep.TheVariants.{Read}
 use Rattle.verdict_words.specs.declared.views.Item.TheVariants.{Loaded, Met, Filled, Ran}
 use Rattle.session_core.specs.Standing.{beginning}
-use Rattle.session_core.specs.Told.{Answers, IsPlaceIn, IsTold, Leads, plain, state_at}
+use Rattle.session_core.specs.Calls.{IsPlaceIn, plain, state_at}
+use Rattle.session_core.specs.Told.{Answers, IsTold, Leads}
+use Rattle.session_core.specs.Calls as calling
 use Rattle.session_core.specs.Told as told
 use Rattle.session_core.specs.Inner.ToldRows.{read, f, make_f, want_ok, say_ok, show_label, say_other, AllowedAndKept, head, entry, place, allowed_entries, allowed_requests, allowed_replies, allowed_steps, behind_call, AllowedAndThenDeleted, deleted_entries, deleted_requests, deleted_replies, deleted_steps, AllowedAndOtherSaid, other_entries, other_requests, other_replies, other_steps}
 use Rattle.session_core.proofs.WorkedTurns.{on, done, course_leads, IsKnownAt, is_done, is_hit, is_judged, is_missed, is_refused, goes_on, next_state}
@@ -47,9 +49,9 @@ allowed_leads = course_leads (
     on (is_done head allowed_entries 1 0 low 2 [] goal_set _ say_ok (due 3 23) (alice_read, ok_read) goal_at refl say_due) (
     on (is_done head allowed_entries 1 0 low 3 [] ok_said _ show_label (due 0 63) (refl, refl, by_label_read) ok_at refl label_due) (
     on (is_judged head allowed_entries 1 0 low 4 [] label_shown read f 0 0 0 (AllowedFinding 0) [] (Filled 0 4 allowed_held ∷ []) (Ran 0 Read 0 ∷ []) label_at
-    (lit≤ tt) (told.unknown refl refl refl) refl refl (label_allowed []) refl (told.kept 0 allowed_held refl refl refl refl refl) (told.ran Read refl refl refl)) (
+    (lit≤ tt) (calling.unknown refl refl refl) refl refl (label_allowed []) refl (calling.kept 0 allowed_held refl refl refl refl refl) (calling.ran Read refl refl refl)) (
     on (is_hit head allowed_entries 1 0 low 4 known label_shown read f 0 place 1099511627780 4 0 0 allowed_held AllowedVerdict (Ran 0 Read 0 ∷ []) label_at
-    (lit≤ tt) (refl, record { object_is = refl; case_is = refl; store_is = refl }) allowed_hit refl allowed_right (told.ran Read refl refl refl)) done)))))))
+    (lit≤ tt) (refl, record { object_is = refl; case_is = refl; store_is = refl }) allowed_hit refl allowed_right (calling.ran Read refl refl refl)) done)))))))
 
 pub allowed_and_kept : AllowedAndKept
 allowed_and_kept = record {
@@ -77,7 +79,7 @@ deleted_leads = course_leads (
     (Loaded place 1099511627780 5 4 5 ∷ []) [] [] deleted_at (lit≤ tt)
     (is_missed head deleted_entries 1 0 low 5 known label_deleted read f place 1099511627780 4 5 deleted_at (lit≤ tt) deleted_home
     (no_hit 1099511627780 4 4 5 allowed_held refl (lit≤ tt) (λ _ b. omega (arith, b))))
-    refl refl label_missing tt (told.not_kept (λ both. both.1) refl) (told.no_step (λ both. cc both.0) refl refl)) (
+    refl refl label_missing tt (calling.not_kept (λ both. both.1) refl) (calling.no_step (λ both. cc both.0) refl refl)) (
     on (is_refused head deleted_entries 1 0 low 5 known label_deleted _ (delete 3) NoSuchLabel refl deleted_at (lit≤ tt) again_refused) done)))
 
 pub allowed_and_then_deleted : AllowedAndThenDeleted
@@ -93,7 +95,7 @@ other_leads : Leads head other_entries 1 (behind_call 4) other_requests other_re
 other_leads = course_leads (
     on (is_done head other_entries 1 0 low 4 known label_shown _ say_other (due 5 26) (alice_read, other_read) label_at refl other_due) (
     on (is_hit head other_entries 1 0 low 5 known other_said read f 0 place 1099511627780 4 0 0 allowed_held AllowedVerdict (Ran 0 Read 0 ∷ []) other_at
-    (lit≤ tt) (refl, record { object_is = refl; case_is = refl; store_is = refl }) allowed_hit refl (record { row = _; stands = refl; lasting = refl; told = label_allowed [] }) (told.ran Read refl refl refl)) done))
+    (lit≤ tt) (refl, record { object_is = refl; case_is = refl; store_is = refl }) allowed_hit refl (record { row = _; stands = refl; lasting = refl; told = label_allowed [] }) (calling.ran Read refl refl refl)) done))
 
 pub allowed_and_other_said : AllowedAndOtherSaid
 allowed_and_other_said = goes_on head allowed_entries (entry 1 say_other ∷ []) 1 0 allowed_requests allowed_replies [] (Met 0 ∷ allowed_steps) (behind_call 4) allowed_and_kept

@@ -25,7 +25,9 @@ use Rattle.verdict_words.specs.declared.places.Held.{Held}
 use Rattle.verdict_words.specs.declared.views.RegisterStep.TheVariants.{Read}
 use Rattle.verdict_words.specs.declared.views.Item.TheVariants.{Loaded, Ran}
 use Rattle.session_core.specs.Standing.{beginning}
-use Rattle.session_core.specs.Told.{IsPlaceIn, Leads, Misses, state_at}
+use Rattle.session_core.specs.Calls.{IsPlaceIn, Misses, state_at}
+use Rattle.session_core.specs.Told.{Leads}
+use Rattle.session_core.specs.Calls as calling
 use Rattle.session_core.specs.Told as told
 use Rattle.session_core.specs.Inner.ToldRows.{AskedEachTime, alice, alice_says_ok, asked, asking_entries, asking_head, asking_replies, asking_requests, asking_steps, asks_told, behind_call, bind_alice, by_ask, f, make_f, ok, place, read, show_ask, want_ok}
 use Rattle.session_core.proofs.OneLineVerdicts.{affirmed_line, ask_fault, case, line, negated_line, undecided}
@@ -141,10 +143,10 @@ asking_leads = course_leads (
     on (is_done asking_head asking_entries 1 0 low 1 [] f_made _ want_ok (due 0 36) (refl, refl, alice_says_ok_read) f_at refl goal_due) (
     on (is_done asking_head asking_entries 1 0 low 2 [] goal_set _ bind_alice (due 0 21) (alice_read, refl) goal_at refl bind_due) (
     on (is_done asking_head asking_entries 1 0 low 3 [] alice_bound _ show_ask (due 0 61) (refl, refl, by_ask_read) bound_at refl ask_due) (
-    on (is_asked asking_head asking_entries 1 0 low 4 [] ask_shown read f 0 0 0 (AllowedFinding 1) (asked Yes ∷ []) [] [] (Ran 0 Read 0 ∷ []) ask_at (lit≤ tt) (told.unknown refl refl refl) refl yes_judged
-    (told.not_kept (λ both. cc both.1) refl) (told.ran Read refl refl refl)) (
+    on (is_asked asking_head asking_entries 1 0 low 4 [] ask_shown read f 0 0 0 (AllowedFinding 1) (asked Yes ∷ []) [] [] (Ran 0 Read 0 ∷ []) ask_at (lit≤ tt) (calling.unknown refl refl refl) refl yes_judged
+    (calling.not_kept (λ both. cc both.1) refl) (calling.ran Read refl refl refl)) (
     on (is_asked asking_head asking_entries 1 0 low 4 known ask_shown read f 0 0 0 (DeniedFinding (AuthorityNo 1)) (asked No ∷ []) (Loaded place 0 4 4 0 ∷ []) [] [] ask_at (lit≤ tt) missed refl no_judged
-    (told.not_kept (λ both. both.1) refl) (told.no_step (λ both. cc both.0) refl refl)) (
+    (calling.not_kept (λ both. both.1) refl) (calling.no_step (λ both. cc both.0) refl refl)) (
     on (is_down asking_head asking_entries 1 0 low 4 known ask_shown read f 0 0 1 (asked DownAnswer ∷ []) (Loaded place 0 4 4 0 ∷ []) ask_at (lit≤ tt) missed refl broken_down) (
     on (is_given_up asking_head asking_entries 1 0 low 4 known ask_shown read f 0 0 (asked NoAnswer ∷ []) (Loaded place 0 4 4 0 ∷ []) ask_at (lit≤ tt) missed refl broken_memory) done)))))))))
 

@@ -12,7 +12,9 @@ use Rattle.verdict_words.specs.declared.places.Held.{Held}
 use Rattle.verdict_words.specs.declared.views.RegisterStep.TheVariants.{Read}
 use Rattle.verdict_words.specs.declared.views.Item.TheVariants.{Loaded, Met, Filled, Ran}
 use Rattle.session_core.specs.Standing.{beginning}
-use Rattle.session_core.specs.Told.{Answers, IsPlaceIn, IsTold, Leads, plain, state_at}
+use Rattle.session_core.specs.Calls.{IsPlaceIn, plain, state_at}
+use Rattle.session_core.specs.Told.{Answers, IsTold, Leads}
+use Rattle.session_core.specs.Calls as calling
 use Rattle.session_core.specs.Told as told
 use Rattle.session_core.specs.Inner.ToldRows.{read, f, make_f, want_ok, show_truth, clear, want_truth, head, entry, place, behind_call, WrongLineKept, wrong_entries, wrong_requests, wrong_replies, wrong_steps, WrongLineAndThenCleared, cleared_entries, cleared_requests, cleared_replies, cleared_steps}
 use Rattle.session_core.proofs.WorkedTurns.{on, done, course_leads, is_done, is_hit, is_judged, is_missed, goes_on, next_state}
@@ -45,10 +47,10 @@ wrong_leads = course_leads (
     on (is_done head wrong_entries 1 0 low 1 [] f_made _ want_ok (due 0 36) (refl, refl, alice_says_ok_read) f_at refl goal_due) (
     on (is_done head wrong_entries 1 0 low 2 [] goal_set _ show_truth (due 0 55) (refl, refl, by_truth_read) goal_at refl truth_due) (
     on (is_judged head wrong_entries 1 0 low 3 [] truth_shown read f 0 0 0 (DeniedFinding (Line 1 NotGoal)) [] (Filled 0 3 wrong_held ∷ []) [] truth_at
-    (lit≤ tt) (told.unknown refl refl refl) refl refl truth_wrong tt (told.kept 0 wrong_held refl refl tt refl refl) (told.no_step (λ both. cc both.0) refl refl)) (
+    (lit≤ tt) (calling.unknown refl refl refl) refl refl truth_wrong tt (calling.kept 0 wrong_held refl refl tt refl refl) (calling.no_step (λ both. cc both.0) refl refl)) (
     on (is_hit head wrong_entries 1 0 low 3 known truth_shown read f 0 place 864713118687690755 3 0 0 wrong_held (DeniedVerdict (Line 1 NotGoal)) [] truth_at
     (lit≤ tt) (refl, record { object_is = refl; case_is = refl; store_is = refl }) wrong_hit refl (record { row = _; stands = refl; lasting = tt; told = truth_wrong })
-    (told.no_step (λ both. cc both.0) refl refl)) done))))))
+    (calling.no_step (λ both. cc both.0) refl refl)) done))))))
 
 pub wrong_line_kept : WrongLineKept
 wrong_line_kept = record {
@@ -86,15 +88,15 @@ cleared_leads = course_leads (
     (Loaded place 864713118687690755 4 4 0 ∷ []) (Filled 0 4 unset_held ∷ []) [] cleared_at (lit≤ tt)
     (is_missed head cleared_entries 1 0 low 4 known goal_cleared read f place 864713118687690755 4 0 cleared_at (lit≤ tt) (refl, record { object_is = refl; case_is = refl; store_is = refl })
     (no_hit 864713118687690755 3 4 0 wrong_held refl (lit≤ tt) (λ a _. omega (arith, a))))
-    refl refl goal_unset tt (told.kept 0 unset_held refl refl tt refl refl) (told.no_step (λ both. cc both.0) refl refl)) (
+    refl refl goal_unset tt (calling.kept 0 unset_held refl refl tt refl refl) (calling.no_step (λ both. cc both.0) refl refl)) (
     on (is_done head cleared_entries 1 0 low 4 known goal_cleared _ want_truth (due 0 27) (refl, refl, truth_read) cleared_at refl truth_goal_due) (
     on (is_judged head cleared_entries 1 0 low 5 known truth_wanted read f 0 0 0 (AllowedFinding 0)
     (Loaded place 2199023255556 5 5 0 ∷ []) (Filled 0 5 allowed_held ∷ []) (Ran 0 Read 0 ∷ []) wanted_at (lit≤ tt)
     (is_missed head cleared_entries 1 0 low 5 known truth_wanted read f place 2199023255556 5 0 wanted_at (lit≤ tt) (refl, record { object_is = refl; case_is = refl; store_is = refl })
     (no_hit 2199023255556 4 5 0 unset_held refl (lit≤ tt) (λ a _. omega (arith, a))))
-    refl refl truth_allowed refl (told.kept 0 allowed_held refl refl refl refl refl) (told.ran Read refl refl refl)) (
+    refl refl truth_allowed refl (calling.kept 0 allowed_held refl refl refl refl refl) (calling.ran Read refl refl refl)) (
     on (is_hit head cleared_entries 1 0 low 5 known truth_wanted read f 0 place 1099511627781 5 0 0 allowed_held AllowedVerdict (Ran 0 Read 0 ∷ []) wanted_at
-    (lit≤ tt) (refl, record { object_is = refl; case_is = refl; store_is = refl }) truth_hit refl (record { row = _; stands = refl; lasting = refl; told = truth_allowed }) (told.ran Read refl refl refl)) done)))))
+    (lit≤ tt) (refl, record { object_is = refl; case_is = refl; store_is = refl }) truth_hit refl (record { row = _; stands = refl; lasting = refl; told = truth_allowed }) (calling.ran Read refl refl refl)) done)))))
 
 pub wrong_line_and_then_cleared : WrongLineAndThenCleared
 wrong_line_and_then_cleared = goes_on head wrong_entries cleared_more 1 0 wrong_requests wrong_replies [] (Met 0 ∷ wrong_steps) (behind_call 3) wrong_line_kept

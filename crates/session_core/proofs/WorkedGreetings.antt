@@ -9,7 +9,9 @@ use Rattle.policy_history.specs.States.{empty_state}
 use Rattle.policy_history.specs.Values.{decision}
 use Rattle.policy_history.specs.Judged.{case_at}
 use Rattle.guard_core.specs.declared.findings.Finding.TheVariants.{Denied as DeniedFinding}
-use Rattle.session_core.specs.Told.{state_at}
+use Rattle.session_core.specs.Calls.{state_at}
+use Rattle.session_core.specs.Calls as calling
+use Rattle.session_core.specs.Changes as changing
 use Rattle.session_core.specs.Told as told
 use Rattle.session_core.specs.Inner.ToldRows.{GreetedOnce, NotRecordedIsRefused, allowed_entries, entry, f, head, make_f, read, want_truth}
 use Rattle.session_core.proofs.OneLineVerdicts.{unset_goal}
@@ -31,8 +33,8 @@ greeted_once = record {
       on (told.hello (codes "alice") (codes "pa") _ refl refl refl) (
       on (is_nameless head allowed_entries 2 0 low 0 4 [] label_shown read (codes "g") 0 (lit≤ tt) label_at (lit≤ tt) refl refl) (
       on (told.hello (codes "alice") (codes "pa") _ refl refl refl) (
-      on (told.see 0 5 refl refl (told.not_yet 4 (lit≤ tt, lit≤ tt) (lit≤ tt) refl)) (
-      on (told.see 0 4 refl refl (told.seen 4 (lit≤ tt, lit≤ tt) (lit≤ tt) refl)) done))))))));
+      on (told.see 0 5 refl refl (changing.not_yet 4 (lit≤ tt, lit≤ tt) (lit≤ tt) refl)) (
+      on (told.see 0 4 refl refl (changing.seen 4 (lit≤ tt, lit≤ tt) (lit≤ tt) refl)) done))))))));
   entries = refl;
 }
 
@@ -65,9 +67,9 @@ not_recorded_is_refused = record {
       on (is_twice_done head entries 1 0 low 0 [] (empty_state head) _ make_f (due 0 17) refl start_at refl f_due) (
       on (is_unrecorded head entries 1 0 low 1 [] f_made _ want_truth (due 0 27) (refl, refl, truth_read) f_at (lit≤ tt) truth_due) (
       on (is_refused head entries 1 0 low 1 [] f_made _ make_f NameTaken refl f_at (lit≤ tt) taken) (
-      on (is_judged head entries 1 0 low 1 [] f_made read f 0 0 0 (DeniedFinding GoalUnset) [] [] [] f_at (lit≤ tt) (told.unknown refl refl refl) refl refl
-      (unset_goal (case_at head f_made 0 read 0) refl) tt (told.not_kept (λ both. cc both.0) refl) (told.no_step (λ both. cc both.0) refl refl)) (
-      on (is_judged head entries 1 0 low 1 [] f_made read f 0 0 0 (DeniedFinding GoalUnset) [] [] [] f_at (lit≤ tt) (told.unknown refl refl refl) refl refl
-      (unset_goal (case_at head f_made 0 read 0) refl) tt (told.not_kept (λ both. cc both.0) refl) (told.no_step (λ both. cc both.0) refl refl)) done))))));
+      on (is_judged head entries 1 0 low 1 [] f_made read f 0 0 0 (DeniedFinding GoalUnset) [] [] [] f_at (lit≤ tt) (calling.unknown refl refl refl) refl refl
+      (unset_goal (case_at head f_made 0 read 0) refl) tt (calling.not_kept (λ both. cc both.0) refl) (calling.no_step (λ both. cc both.0) refl refl)) (
+      on (is_judged head entries 1 0 low 1 [] f_made read f 0 0 0 (DeniedFinding GoalUnset) [] [] [] f_at (lit≤ tt) (calling.unknown refl refl refl) refl refl
+      (unset_goal (case_at head f_made 0 read 0) refl) tt (calling.not_kept (λ both. cc both.0) refl) (calling.no_step (λ both. cc both.0) refl refl)) done))))));
   entries = refl;
 }

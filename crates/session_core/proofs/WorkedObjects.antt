@@ -20,7 +20,9 @@ use Rattle.verdict_words.specs.declared.views.RegisterStep.TheVariants.{Read}
 use Rattle.verdict_words.specs.declared.views.Item.TheVariants.{Filled, Loaded, Met, Ran}
 use Rattle.std.proofs.Math.Dec.{lit≤}
 use Rattle.session_core.specs.Standing.{Triple, beginning}
-use Rattle.session_core.specs.Told.{IsPlaceIn, Leads, state_at}
+use Rattle.session_core.specs.Calls.{IsPlaceIn, state_at}
+use Rattle.session_core.specs.Told.{Leads}
+use Rattle.session_core.specs.Calls as calling
 use Rattle.session_core.specs.Told as told
 use Rattle.session_core.proofs.WorkedTurns.{behind, course_leads, done, goes_on, is_missed, is_done, is_hit, is_judged, next_replay, next_state, on}
 use Rattle.session_core.specs.Inner.ToldRows.{OtherRegionLeaves, SameRegionRaises, near_entries, near_requests, near_replies, near_steps, behind_first_call, far_entries, far_requests, far_replies, far_steps, show_object, want_object, head, place, read, entry, object_name, objects_made}
@@ -140,10 +142,10 @@ far_leads = course_leads (
     on (is_done head far_entries 2 0 low 257 [] all_made _ (want_object 0) (due 0 30) (refl, refl, truth_read) made_here refl wanted_due) (
     on (is_done head far_entries 2 0 low 258 [] first_wanted _ (show_object 0) (due 0 58) (refl, refl, by_truth_read) wanted_at refl shown_due) (
     on (is_judged head far_entries 2 0 low 259 [] first_shown read (object_name 0) 0 0 0 (AllowedFinding 0) [] (Filled 0 259 allowed_held ∷ []) (Ran 0 Read 0 ∷ []) shown_at
-    (lit≤ tt) (told.unknown refl refl refl) refl refl truth_allowed refl (told.kept 0 allowed_held refl refl refl refl refl) (told.ran Read refl refl refl)) (
+    (lit≤ tt) (calling.unknown refl refl refl) refl refl truth_allowed refl (calling.kept 0 allowed_held refl refl refl refl refl) (calling.ran Read refl refl refl)) (
     on (is_done head far_entries 2 0 low 259 known_first first_shown _ (want_object 255) (due 0 30) (refl, refl, truth_read) shown_at refl far_due) (
     on (is_hit head far_entries 2 0 low 260 known_first far_wanted read (object_name 0) 0 place 1099511628035 259 257 0 allowed_held AllowedVerdict (Ran 0 Read 0 ∷ []) far_at
-    (lit≤ tt) (refl, record { object_is = refl; case_is = refl; store_is = refl }) kept_hit refl (record { row = _; stands = refl; lasting = refl; told = truth_allowed }) (told.ran Read refl refl refl)) done))))))
+    (lit≤ tt) (refl, record { object_is = refl; case_is = refl; store_is = refl }) kept_hit refl (record { row = _; stands = refl; lasting = refl; told = truth_allowed }) (calling.ran Read refl refl refl)) done))))))
 
 pub other_region_leaves : OtherRegionLeaves
 other_region_leaves = record {
@@ -177,9 +179,9 @@ near_leads = course_leads (
     (Loaded place 1099511628035 261 261 257 ∷ []) (Filled 0 261 allowed_held ∷ []) (Ran 0 Read 0 ∷ []) near_at (lit≤ tt)
     (is_missed head near_entries 2 0 low 261 known_first near_wanted read (object_name 0) place 1099511628035 261 257 near_at (lit≤ tt) (refl, record { object_is = refl; case_is = refl; store_is = refl })
     (no_hit 1099511628035 259 261 257 allowed_held refl (lit≤ tt) (λ a _. omega (arith, a))))
-    refl refl truth_allowed refl (told.kept 0 allowed_held refl refl refl refl refl) (told.ran Read refl refl refl)) (
+    refl refl truth_allowed refl (calling.kept 0 allowed_held refl refl refl refl refl) (calling.ran Read refl refl refl)) (
     on (is_hit head near_entries 2 0 low 261 known_first near_wanted read (object_name 0) 0 place 1099511628037 261 257 0 allowed_held AllowedVerdict (Ran 0 Read 0 ∷ []) near_at
-    (lit≤ tt) (refl, record { object_is = refl; case_is = refl; store_is = refl }) again_hit refl (record { row = _; stands = refl; lasting = refl; told = truth_allowed }) (told.ran Read refl refl refl)) done)))
+    (lit≤ tt) (refl, record { object_is = refl; case_is = refl; store_is = refl }) again_hit refl (record { row = _; stands = refl; lasting = refl; told = truth_allowed }) (calling.ran Read refl refl refl)) done)))
 
 pub same_region_raises : SameRegionRaises
 same_region_raises = goes_on head far_entries (entry 2 (want_object 256) ∷ []) 2 257 far_requests far_replies [] (Met 257 ∷ far_steps) (behind_first_call 260) other_region_leaves

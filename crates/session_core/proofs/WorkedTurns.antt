@@ -42,7 +42,12 @@ use Rattle.verdict_words.specs.declared.views.Item.{Item}
 use Rattle.verdict_words.specs.declared.views.Item.TheVariants.{Loaded, Met}
 use Rattle.session_core.specs.Standing.{Standing, Triple, beginning, knows}
 use Rattle.policy_book.specs.Matter.{StandsFor}
-use Rattle.session_core.specs.Told.{Answers, AreAskedInVain, IsPlaceIn, IsTold, Judges, Keeps, Leads, Looks, Misses, Runs, Turn, checked, state_at, stepped, verdict_reply}
+use Rattle.session_core.specs.Calls.{IsPlaceIn, Judges, Keeps, Looks, Misses, Runs, Turn, checked, state_at, stepped, verdict_reply}
+use Rattle.session_core.specs.Unanswered.{AreAskedInVain}
+use Rattle.session_core.specs.Told.{Answers, IsTold, Leads}
+use Rattle.session_core.specs.Calls as calling
+use Rattle.session_core.specs.Unanswered as unanswered
+use Rattle.session_core.specs.Changes as changing
 use Rattle.session_core.specs.Told as told
 use Rattle.session_core.proofs.ToldLaws.{leads_on, seen_on}
 
@@ -94,7 +99,7 @@ module _ (h : Head) (es : List EntryTree) (s p : ℕ) (known_principal : p < len
       → decision h st s p e ≡ Ok due → Answers h es s (at n known) request (done_turn n known e due.number)
   is_done n known st request e due asks is got decided =
       let within = slice_get_within es n (entry_of e) got in
-      told.change p e refl asks (told.done n due (Met n ∷ []) (omega arith, omega (arith, within)) (subst (λ (x : State). decision h x s p e ≡ Ok due) (sym is) decided) got (inl refl) refl)
+      told.change p e refl asks (changing.done n due (Met n ∷ []) (omega arith, omega (arith, within)) (subst (λ (x : State). decision h x s p e ≡ Ok due) (sym is) decided) got (inl refl) refl)
 
   -- the same, where the line was written between two meetings
   abbrev pub twice_done_turn : ℕ → List Triple → EventTree → ℕ → Turn
@@ -105,7 +110,7 @@ module _ (h : Head) (es : List EntryTree) (s p : ℕ) (known_principal : p < len
   is_twice_done n known st request e due asks is got decided =
       let within = slice_get_within es n (entry_of e) got in
       told.change p e refl asks
-      (told.done n due (Met n ∷ Met n ∷ []) (omega arith, omega (arith, within)) (subst (λ (x : State). decision h x s p e ≡ Ok due) (sym is) decided) got (inr refl) refl)
+      (changing.done n due (Met n ∷ Met n ∷ []) (omega arith, omega (arith, within)) (subst (λ (x : State). decision h x s p e ≡ Ok due) (sym is) decided) got (inr refl) refl)
 
   abbrev pub refused_turn : ℕ → List Triple → Refusal → Turn
   refused_turn n known refusal = stepped (at n known) (Refused n (refusal_number refusal)) [] (Met n ∷ [])
@@ -113,23 +118,23 @@ module _ (h : Head) (es : List EntryTree) (s p : ℕ) (known_principal : p < len
   pub is_refused : (n : ℕ) (known : List Triple) (st : State) (request : Request) (e : EventTree) (refusal : Refusal) → IsEventOf request e → IsAt n st → n ≤ length es
       → decision h st s p e ≡ Err refusal → Answers h es s (at n known) request (refused_turn n known refusal)
   is_refused n known st request e refusal asks is within decided =
-      told.change p e refl asks (told.refused n refusal (Met n ∷ []) (omega arith, within) (subst (λ (x : State). decision h x s p e ≡ Err refusal) (sym is) decided) (inl refl) refl)
+      told.change p e refl asks (changing.refused n refusal (Met n ∷ []) (omega arith, within) (subst (λ (x : State). decision h x s p e ≡ Err refusal) (sym is) decided) (inl refl) refl)
 
   -- a change whose line was tried, between two meetings
   pub is_unrecorded : (n : ℕ) (known : List Triple) (st : State) (request : Request) (e : EventTree) (due : Due) → IsEventOf request e → IsAt n st → n ≤ length es
       → decision h st s p e ≡ Ok due → Answers h es s (at n known) request (stepped (at n known) (Refused n (refusal_number NotRecorded)) [] (Met n ∷ Met n ∷ []))
   is_unrecorded n known st request e due asks is within decided =
       told.change p e refl asks
-      (told.not_recorded n due (Met n ∷ Met n ∷ []) (omega arith, within) (subst (λ (x : State). decision h x s p e ≡ Ok due) (sym is) decided) (inr refl) refl)
+      (changing.not_recorded n due (Met n ∷ Met n ∷ []) (omega arith, within) (subst (λ (x : State). decision h x s p e ≡ Ok due) (sym is) decided) (inr refl) refl)
 
   -- a call of what no object has the name of
   pub is_nameless : (from n : ℕ) (known : List Triple) (st : State) (op object : List ℕ) (arg : ℕ) → from ≤ n → IsAt n st → n ≤ length es → knows known op object ≡ false
       → number_of st.objects object ≡ None → Answers h es s (at from known) (Call op object arg) (stepped (at n known) (Refused n 8) [] (Met n ∷ []))
   is_nameless from n known st op object arg late is within unknown none =
       let turn : Turn = stepped (at n known) (Refused n 8) [] (Met n ∷ []) in
-      let judges : Judges h st (at from known) p op object arg n [] turn = told.no_object none refl in
+      let judges : Judges h st (at from known) p op object arg n [] turn = calling.no_object none refl in
       told.call p op object arg refl refl
-      (told.snapped from n [] (told.unknown unknown refl refl) (late, within) (subst (λ (x : State). Judges h x (at from known) p op object arg n [] turn) (sym is) judges))
+      (calling.snapped from n [] (calling.unknown unknown refl refl) (late, within) (subst (λ (x : State). Judges h x (at from known) p op object arg n [] turn) (sym is) judges))
 
   -- a call whose case is judged in this state with these answers, where nothing is known of it yet or the look made no hit
   pub is_asked_from : (from mid n : ℕ) (known : List Triple) (st : State) (op object : List ℕ) (arg k value : ℕ) (finding : Finding) (asks : List Ask) (looked kept ran : List Item) → mid ≤ n → IsAt n st
@@ -139,9 +144,9 @@ module _ (h : Head) (es : List EntryTree) (s p : ℕ) (known_principal : p < len
       → Answers h es s (at from known) (Call op object arg) (stepped (checked st (at from known) n p op object k) (verdict_reply n 0 value (verdict_of finding)) asks (looked ++ Met n ∷ (kept ++ ran)))
   is_asked_from from mid n known st op object arg k value finding asks looked kept ran late is within misses named judged keeps runs =
       let turn : Turn = stepped (checked st (at from known) n p op object k) (verdict_reply n 0 value (verdict_of finding)) asks (looked ++ Met n ∷ (kept ++ ran)) in
-      let judges : Judges h st (at from known) p op object arg n looked turn = told.judged k value finding kept ran named judged keeps runs refl in
+      let judges : Judges h st (at from known) p op object arg n looked turn = calling.judged k value finding kept ran named judged keeps runs refl in
       told.call p op object arg refl refl
-      (told.snapped mid n looked misses (late, within) (subst (λ (x : State). Judges h x (at from known) p op object arg n looked turn) (sym is) judges))
+      (calling.snapped mid n looked misses (late, within) (subst (λ (x : State). Judges h x (at from known) p op object arg n looked turn) (sym is) judges))
 
   -- the same where the session has seen as much before
   pub is_asked : (n : ℕ) (known : List Triple) (st : State) (op object : List ℕ) (arg k value : ℕ) (finding : Finding) (asks : List Ask) (looked kept ran : List Item) → IsAt n st → n ≤ length es
@@ -175,9 +180,9 @@ module _ (h : Head) (es : List EntryTree) (s p : ℕ) (known_principal : p < len
       → Answers h es s (at n known) (Call op object arg) (stepped (checked st (at n known) n p op object k) (Down n line) asks (looked ++ Met n ∷ []))
   is_down n known st op object arg k line asks looked is within misses named broken =
       let turn : Turn = stepped (checked st (at n known) n p op object k) (Down n line) asks (looked ++ Met n ∷ []) in
-      let judges : Judges h st (at n known) p op object arg n looked turn = told.down k line named broken refl in
+      let judges : Judges h st (at n known) p op object arg n looked turn = calling.down k line named broken refl in
       told.call p op object arg refl refl
-      (told.snapped n n looked misses (omega arith, within) (subst (λ (x : State). Judges h x (at n known) p op object arg n looked turn) (sym is) judges))
+      (calling.snapped n n looked misses (omega arith, within) (subst (λ (x : State). Judges h x (at n known) p op object arg n looked turn) (sym is) judges))
 
   -- or at one for whose answer there was no memory
   pub is_given_up : (n : ℕ) (known : List Triple) (st : State) (op object : List ℕ) (arg k : ℕ) (asks : List Ask) (looked : List Item) → IsAt n st → n ≤ length es
@@ -185,7 +190,7 @@ module _ (h : Head) (es : List EntryTree) (s p : ℕ) (known_principal : p < len
       → Answers h es s (at n known) (Call op object arg) (stepped (at n known) NoMemory asks (looked ++ Met n ∷ []))
   is_given_up n known st op object arg k asks looked is within misses named broken =
       told.call_given_up p op object arg refl refl
-      (told.met n n looked misses (omega arith, within) (subst (λ (x : State). AreAskedInVain h x p op object asks) (sym is) (inr (k, named, broken))) refl)
+      (unanswered.met n n looked misses (omega arith, within) (subst (λ (x : State). AreAskedInVain h x p op object asks) (sym is) (inr (k, named, broken))) refl)
 
   -- the place has the numbers of the case in this state
   abbrev pub IsKnownAt : ℕ → List Triple → State → List ℕ → List ℕ → CasePlace → Type 0
@@ -200,7 +205,7 @@ module _ (h : Head) (es : List EntryTree) (s p : ℕ) (known_principal : p < len
       → IsKnownAt n known st op object place → ((held : Held) → ¬ MakesHit place.case slot of_object of_store held)
       → Misses h es (at n known) p op object n (Loaded place slot n of_object of_store ∷ [])
   is_missed n known st op object place slot of_object of_store is within at_home no_hit =
-      told.missed place slot of_object of_store (looks n known st op object place is within at_home) no_hit refl
+      calling.missed place slot of_object of_store (looks n known st op object place is within at_home) no_hit refl
 
   pub is_hit : (n : ℕ) (known : List Triple) (st : State) (op object : List ℕ) (arg : ℕ) (place : CasePlace) (slot of_object of_store value : ℕ) (held : Held) (verdict : Verdict) (ran : List Item)
       → IsAt n st → n ≤ length es → IsKnownAt n known st op object place → MakesHit place.case slot of_object of_store held → StandsFor verdict held
@@ -208,7 +213,7 @@ module _ (h : Head) (es : List EntryTree) (s p : ℕ) (known_principal : p < len
       → Answers h es s (at n known) (Call op object arg) (stepped (at n known) (verdict_reply n 1 value verdict) [] (Loaded place slot n of_object of_store ∷ ran))
   is_hit n known st op object arg place slot of_object of_store value held verdict ran is within at_home makes stands right runs =
       told.call p op object arg refl refl
-      (told.hit n place slot of_object of_store value held verdict ran (looks n known st op object place is within at_home) makes stands
+      (calling.hit n place slot of_object of_store value held verdict ran (looks n known st op object place is within at_home) makes stands
       (subst (λ (x : State). IsRightIn h x place.case verdict) (sym is) right) runs refl)
 
 -- the turns of some requests, one after another, lead from one standing to the other

@@ -7,6 +7,7 @@ use Rattle.object_table.specs.Objects.{number_of}
 use Rattle.policy_history.specs.declared.heads.Head.{Head}
 use Rattle.policy_history.specs.declared.events.Due.{Due}
 use Rattle.policy_history.specs.declared.events.Refusal.{Refusal}
+use Rattle.policy_history.specs.declared.events.Refusal.TheVariants.{NoSuchObject}
 use Rattle.policy_history.specs.Events.{EventTree, EntryTree, admitted}
 use Rattle.policy_history.specs.Machine.{replay}
 use Rattle.policy_history.specs.Judged.{case_at}
@@ -24,6 +25,7 @@ use Rattle.session_wire.specs.declared.requests.Request.TheVariants.{Hello, Call
 use Rattle.session_wire.specs.declared.replies.Reply.{Reply}
 use Rattle.session_wire.specs.declared.replies.Reply.TheVariants.{Welcome, Done, Allowed, Denied, Refused, Down, NoMemory, Seen}
 use Rattle.journal_text.specs.RequestEvents.{IsEventOf}
+use Rattle.session_core.specs.Refusals.{already_open, bad_secret, not_open, not_yet}
 
 -- What a session comes to by one request: the reply, the principal that is admitted afterwards, what authorities were
 -- asked, and what was added to the journal.
@@ -38,10 +40,10 @@ abbrev pub replied : Option ℕ → Reply → Outcome
 replied who reply = record { reply = reply; who = who; asks = []; added = [] }
 
 -- A hello, where the principal with its name and its secret is this one, or nobody is: the principal is welcomed, and else
--- it is refused with number 3. Where a principal is admitted already, it is refused with number 2.
+-- it is refused. Where a principal is admitted already, it is refused too.
 abbrev pub greeted : ℕ → ℕ → Option ℕ → Option ℕ → Outcome
-greeted at session (Some p) found = replied (Some p) (Refused at 2)
-greeted at session None None = replied None (Refused at 3)
+greeted at session (Some p) found = replied (Some p) (Refused at already_open)
+greeted at session None None = replied None (Refused at bad_secret)
 greeted at session None (Some p) = replied (Some p) (Welcome session at)
 
 -- A change that principal p asks for: what the journal decides of it. One that is accepted is added, and the reply is at
@@ -70,28 +72,29 @@ pub data IsJudgedCall (at p : ℕ) (c : CaseTree) (outcome : Outcome) : Type 0 w
   found : (finding : Finding) → IsJudged c outcome.asks finding → outcome ≡ called p outcome.asks (found_reply at finding) → IsJudgedCall at p c outcome
   down : (k : ℕ) → IsBrokenOff c outcome.asks (DownError k) → outcome ≡ called p outcome.asks (Down at k) → IsJudgedCall at p c outcome
 
--- a call of principal p, where the object has this number or none has the name: refused with number 8 then, and else judged
+-- a call of principal p, where the object has this number or none has the name: refused then, and else judged
 abbrev pub IsCalledOn : Head → List EntryTree → ℕ → List ℕ → Option ℕ → Outcome → Type 0
-IsCalledOn h es p op None outcome = outcome ≡ replied (Some p) (Refused (length es) 8)
+IsCalledOn h es p op None outcome = outcome ≡ replied (Some p) (Refused (length es) (refusal_number NoSuchObject))
 IsCalledOn h es p op (Some n) outcome = IsJudgedCall (length es) p (case_at h (replay h es) p op n) outcome
 
 abbrev pub IsCalled : Head → List EntryTree → ℕ → List ℕ → List ℕ → Outcome → Type 0
 IsCalled h es p op object outcome = IsCalledOn h es p op (number_of (replay h es).objects object) outcome
 
--- A session of principal p asks at the length n whether it has come to the length k: it is told n where it has, and else is refused with
--- number 23.
+-- A session of principal p asks at the length n whether it has come to the length k: it is told n where it has, and else is refused.
 abbrev pub IsSeenAt : ℕ → ℕ → ℕ → Outcome → Type 0
-IsSeenAt n p k outcome = ((k ≤ n) × (outcome ≡ replied (Some p) (Seen n))) ⊎ ((n < k) × (outcome ≡ replied (Some p) (Refused n 23)))
+IsSeenAt n p k outcome =
+    ((k ≤ n) × (outcome ≡ replied (Some p) (Seen n))) ⊎ ((n < k) × (outcome ≡ replied (Some p) (Refused n not_yet)))
 
 -- `IsAnswer h es session who request outcome`: behind the entries es of a journal with the head h, a session in which this
 -- principal is admitted, or nobody, comes to this outcome by the request. A hello is answered in every session; any other
--- request is refused with number 1 before one, and a second hello with number 2.
+-- request is refused before one, and so is a second hello.
 abbrev pub IsAnswer : Head → List EntryTree → ℕ → Option ℕ → Request → Outcome → Type 0
 IsAnswer h es session who (Hello name secret) outcome = outcome ≡ greeted (length es) session who (admitted h.principals name secret)
-IsAnswer h es session None request outcome = outcome ≡ replied None (Refused (length es) 1)
+IsAnswer h es session None request outcome = outcome ≡ replied None (Refused (length es) not_open)
 IsAnswer h es session (Some p) (Call op object arg) outcome = IsCalled h es p op object outcome
 IsAnswer h es session (Some p) (See k) outcome = IsSeenAt (length es) p k outcome
-IsAnswer h es session (Some p) request outcome = (e : EventTree) × IsEventOf request e × (outcome ≡ changed es session p e (decision h (replay h es) session p e))
+IsAnswer h es session (Some p) request outcome =
+    (e : EventTree) × IsEventOf request e × (outcome ≡ changed es session p e (decision h (replay h es) session p e))
 
 -- what was asked for a call that was given up: nothing, or the asks of its case up to and with one for which there was no
 -- memory

@@ -1,11 +1,15 @@
 pub mod Answers
+pub mod Calls
+pub mod Changes
 pub mod Earned
 pub mod Ends
 pub mod Inner
 pub mod Reaching
 pub mod Records
+pub mod Refusals
+pub mod Served
 pub mod Sessions
 pub mod Standing
 pub mod Told
-pub mod Served
 pub mod ToldLaws
+pub mod Unanswered

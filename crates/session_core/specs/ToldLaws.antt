@@ -15,7 +15,8 @@ use Rattle.session_core.specs.Answers.{downs_told}
 use Rattle.session_core.specs.Records.{IsToldAndNoted, IsUnrecordedCall, Kept}
 use Rattle.session_core.specs.Sessions.{Point, Told1}
 use Rattle.session_core.specs.Standing.{Standing}
-use Rattle.session_core.specs.Told.{Answers, IsTold, Turn}
+use Rattle.session_core.specs.Calls.{Turn}
+use Rattle.session_core.specs.Told.{Answers, IsTold}
 
 -- whether a step is one on a register
 abbrev pub is_ran : Item → Bool

@@ -21,7 +21,7 @@ ghost use Rattle.audit_check.specs.declared.records.Recorded.{Recorded};
 ghost use Rattle.audit_form.specs.ReplyRecords.{Records};
 ghost use Rattle.session_core.specs.Records.{IsNoted, given_in};
 ghost use Rattle.session_core.specs.Served.{AreCounted};
-ghost use Rattle.session_core.specs.Told.{verdict_reply};
+ghost use Rattle.session_core.specs.Calls.{verdict_reply};
 ghost use Rattle.session_core.specs.declared.board_session.BoardSession.{BoardSession};
 ghost use Rattle.session_core.specs.Inner.Boarding.{HasKept, HasRun, IsAdmitted, IsChecked, IsLooked, IsMissed, IsReady, IsReplyOf, IsTurn, head_of, trees_of, who_of};
 ghost use Rattle.session_core.specs.Inner.Knowing.{knows_row};

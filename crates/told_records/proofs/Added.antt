@@ -11,7 +11,11 @@ use Rattle.session_wire.specs.Frames.{HasFrame}
 use Rattle.verdict_words.specs.declared.views.Item.{Item}
 use Rattle.kept_policies.proofs.ForCallers.{asked_events}
 use Rattle.session_core.specs.Standing.{Standing, beginning}
-use Rattle.session_core.specs.Told.{Answers, Judges, Leads, Turn}
+use Rattle.session_core.specs.Calls.{Judges, Turn}
+use Rattle.session_core.specs.Told.{Answers, Leads}
+use Rattle.session_core.specs.Calls as calling
+use Rattle.session_core.specs.Unanswered as unanswered
+use Rattle.session_core.specs.Changes as changing
 use Rattle.session_core.specs.Told as told
 use Rattle.told_records.specs.Audited.{AddedAreKept, IsKeptOf}
 
@@ -20,29 +24,29 @@ module _ (h : Head) (es : List EntryTree) (s : ℕ) where
   none_kept : (turn left : Turn) → turn ≡ left → left.added ≡ [] → All (IsKeptOf s) turn.added
   none_kept turn left is none = subst (λ (t : Turn). All (IsKeptOf s) t.added) (sym is) (subst (All (IsKeptOf s)) (sym none) (All-nil (IsKeptOf s)))
 
-  judged_kept : {before : Standing} {p arg n : ℕ} {op object : List ℕ} {looked : List Item} (turn : Turn) → Judges h (told.state_at h es n) before p op object arg n looked turn → All (IsKeptOf s) turn.added
-  judged_kept turn (told.no_object none is) = none_kept turn _ is refl
-  judged_kept turn (told.judged k value finding kept ran found j keeps runs is) = none_kept turn _ is refl
-  judged_kept turn (told.down k line found broken is) = none_kept turn _ is refl
+  judged_kept : {before : Standing} {p arg n : ℕ} {op object : List ℕ} {looked : List Item} (turn : Turn) → Judges h (calling.state_at h es n) before p op object arg n looked turn → All (IsKeptOf s) turn.added
+  judged_kept turn (calling.no_object none is) = none_kept turn _ is refl
+  judged_kept turn (calling.judged k value finding kept ran found j keeps runs is) = none_kept turn _ is refl
+  judged_kept turn (calling.down k line found broken is) = none_kept turn _ is refl
 
   turn_kept : (before : Standing) (request : Request) (turn : Turn) → HasFrame request → Answers h es s before request turn → All (IsKeptOf s) turn.added
   turn_kept before request turn framed (told.hello name secret greeting is greets same) = none_kept turn _ same refl
   turn_kept before request turn framed (told.early nobody other same) = none_kept turn _ same refl
-  turn_kept before request turn framed (told.change p e who is (told.refused m refusal met seen refuses meets same)) = none_kept turn _ same refl
-  turn_kept before request turn framed (told.change p e who is (told.not_recorded m due met seen accepts meets same)) = none_kept turn _ same refl
-  turn_kept before request turn framed (told.change p e who is (told.done m due met seen accepts at meets same)) =
+  turn_kept before request turn framed (told.change p e who is (changing.refused m refusal met seen refuses meets same)) = none_kept turn _ same refl
+  turn_kept before request turn framed (told.change p e who is (changing.not_recorded m due met seen accepts meets same)) = none_kept turn _ same refl
+  turn_kept before request turn framed (told.change p e who is (changing.done m due met seen accepts at meets same)) =
       let entry : EntryTree = record { session = s; principal = p; event = e } in
       subst (λ (t : Turn). All (IsKeptOf s) t.added) (sym same) (All-cons (IsKeptOf s) entry [] (refl, asked_events request e framed.0 is) (All-nil (IsKeptOf s)))
-  turn_kept before request turn framed (told.call p op object arg who is (told.hit n place slot of_object of_store value held verdict ran looks makes stands right runs same)) = none_kept turn _ same refl
-  turn_kept before request turn framed (told.call p op object arg who is (told.snapped low n looked misses seen judges)) = judged_kept turn judges
+  turn_kept before request turn framed (told.call p op object arg who is (calling.hit n place slot of_object of_store value held verdict ran looks makes stands right runs same)) = none_kept turn _ same refl
+  turn_kept before request turn framed (told.call p op object arg who is (calling.snapped low n looked misses seen judges)) = judged_kept turn judges
   turn_kept before request turn framed (told.given_up wants same) = none_kept turn _ same refl
-  turn_kept before request turn framed (told.call_given_up p op object arg who is (told.looked low steps misses same)) = none_kept turn _ same refl
-  turn_kept before request turn framed (told.call_given_up p op object arg who is (told.met low n steps misses seen vain same)) = none_kept turn _ same refl
-  turn_kept before request turn framed (told.call_unrecorded p op object arg who is (told.hit_unrecorded n place slot of_object of_store held looks makes same)) = none_kept turn _ same refl
-  turn_kept before request turn framed (told.call_unrecorded p op object arg who is (told.snap_unrecorded low n steps misses seen asked same)) = none_kept turn _ same refl
-  turn_kept before request turn framed (told.call_unrecorded p op object arg who is (told.later_unrecorded same)) = none_kept turn _ same refl
-  turn_kept before request turn framed (told.see p k who is (told.seen m seen there same)) = none_kept turn _ same refl
-  turn_kept before request turn framed (told.see p k who is (told.not_yet m seen far same)) = none_kept turn _ same refl
+  turn_kept before request turn framed (told.call_given_up p op object arg who is (unanswered.looked low steps misses same)) = none_kept turn _ same refl
+  turn_kept before request turn framed (told.call_given_up p op object arg who is (unanswered.met low n steps misses seen vain same)) = none_kept turn _ same refl
+  turn_kept before request turn framed (told.call_unrecorded p op object arg who is (unanswered.hit_unrecorded n place slot of_object of_store held looks makes same)) = none_kept turn _ same refl
+  turn_kept before request turn framed (told.call_unrecorded p op object arg who is (unanswered.snap_unrecorded low n steps misses seen asked same)) = none_kept turn _ same refl
+  turn_kept before request turn framed (told.call_unrecorded p op object arg who is (unanswered.later_unrecorded same)) = none_kept turn _ same refl
+  turn_kept before request turn framed (told.see p k who is (changing.seen m seen there same)) = none_kept turn _ same refl
+  turn_kept before request turn framed (told.see p k who is (changing.not_yet m seen far same)) = none_kept turn _ same refl
 
   leads_kept : (before : Standing) (requests : List Request) (replies : List Reply) (asks : List Ask) (steps : List Item) (added : List EntryTree) (last : Standing)
       → All HasFrame requests → Leads h es s before requests replies asks steps added last → All (IsKeptOf s) added

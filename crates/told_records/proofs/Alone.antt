@@ -13,7 +13,7 @@ use Rattle.session_wire.specs.declared.replies.Reply.{Reply}
 use Rattle.session_wire.specs.declared.replies.Reply.TheVariants.{Down, NoMemory, Refused}
 use Rattle.session_core.specs.Answers.{IsCalledOn, Outcome, found_reply}
 use Rattle.session_core.specs.Answers as answers
-use Rattle.session_core.specs.Told.{state_at, verdict_reply}
+use Rattle.session_core.specs.Calls.{state_at, verdict_reply}
 use Rattle.authority_ask.specs.Panels.{Told as Ask}
 use Rattle.audit_check.specs.declared.records.Recorded.{Recorded}
 use Rattle.audit_form.specs.ReplyRecords.{Records}

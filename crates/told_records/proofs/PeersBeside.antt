@@ -12,7 +12,9 @@ use Rattle.authority_ask.specs.Panels.{Told as Ask}
 use Rattle.verdict_words.specs.declared.views.Item.{Item}
 use Rattle.session_core.specs.Answers.{Outcome}
 use Rattle.session_core.specs.Standing.{Standing, beginning}
-use Rattle.session_core.specs.Told.{Answers, Leads, Turn}
+use Rattle.session_core.specs.Calls.{Turn}
+use Rattle.session_core.specs.Told.{Answers, Leads}
+use Rattle.session_core.specs.Changes as changing
 use Rattle.session_core.specs.Told as told
 use Rattle.peer_labels.specs.Requests.{bundle_requests, label_request}
 use Rattle.told_records.specs.PeerSessions.{AreOfPeer, PeersSayLabels}
@@ -30,9 +32,9 @@ module _ (h : Head) (es : List EntryTree) (s : ℕ) (x secret : List ℕ) (named
       of : Answers h es s before (label_request x f) turn → (turn.after.who ≡ before.who) × Says h s before.who (f ∷ []) turn.added
       of (told.hello n sec greeting is greets same) = absurd (cc is)
       of (told.early nobody other same) = still _ same refl refl
-      of (told.change p e who is (told.refused m refusal met seen refuses meets same)) = still _ same refl refl
-      of (told.change p e who is (told.not_recorded m due met seen accepts meets same)) = still _ same refl refl
-      of (told.change p e who is (told.done m due met seen accepts at meets same)) =
+      of (told.change p e who is (changing.refused m refusal met seen refuses meets same)) = still _ same refl refl
+      of (told.change p e who is (changing.not_recorded m due met seen accepts meets same)) = still _ same refl refl
+      of (told.change p e who is (changing.done m due met seen accepts at meets same)) =
           let entry = one_said h s p x f e turn.added (greeted_named h s x secret before.who greeted p who) (one_event x f named read e is) (ap (λ (t : Turn). t.added) same) in
           (ap (λ (t : Turn). t.after.who) same, subst (λ (o : Option ℕ). Says h s o (f ∷ []) turn.added) (sym who) entry)
       of (told.call p op object arg who is calls) = absurd (cc is)

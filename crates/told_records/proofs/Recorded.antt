@@ -26,7 +26,8 @@ use Rattle.audit_form.specs.ReplyRecords.{Records, record_of}
 use Rattle.session_core.specs.Records.{AreNoted, IsLineOf, IsNotRecorded, IsNoted, IsUntold, Kept, given_in}
 use Rattle.session_core.specs.Records as records
 use Rattle.session_core.specs.Standing.{Standing, beginning}
-use Rattle.session_core.specs.Told.{Leads, Turn}
+use Rattle.session_core.specs.Calls.{Turn}
+use Rattle.session_core.specs.Told.{Leads}
 use Rattle.told_records.specs.Recordings.{AreRightLines, NoneIsLeftOut, OneBehindTheOther, RecordedIsRight}
 use Rattle.told_records.specs.ToldRecords.{IsRightTurn}
 use Rattle.told_records.proofs.Numbers.{one_cause}

@@ -18,7 +18,10 @@ use Rattle.session_wire.specs.declared.replies.Reply.{Reply}
 use Rattle.session_wire.specs.declared.replies.Reply.TheVariants.{Refused, Down, NoMemory}
 use Rattle.verdict_words.specs.declared.places.CasePlace.{CasePlace}
 use Rattle.session_core.specs.Standing.{Standing}
-use Rattle.session_core.specs.Told.{Calls, GivesUp, IsPlaceIn, Judges, Turn, state_at, verdict_reply}
+use Rattle.session_core.specs.Calls.{Calls, IsPlaceIn, Judges, Turn, state_at, verdict_reply}
+use Rattle.session_core.specs.Unanswered.{GivesUp}
+use Rattle.session_core.specs.Calls as calling
+use Rattle.session_core.specs.Unanswered as unanswered
 use Rattle.session_core.specs.Told as told
 use Rattle.audit_check.specs.declared.records.Recorded.{Recorded}
 use Rattle.audit_check.specs.declared.records.Recorded.TheVariants as recorded
@@ -81,30 +84,30 @@ module _ (h : Head) (es : List EntryTree) (before : Standing) (p : ℕ) (op obje
   as_reply reply e = subst (λ (x : Reply). Records x at v) e r
 
   judged_call : (n : ℕ) (looked : List Rattle.verdict_words.specs.declared.views.Item.Item) → n ≤ length es → Judges h (state_at h es n) before p op object arg n looked turn → IsRightCall h es p op object turn.asks at v
-  judged_call n looked within (told.no_object none is) =
+  judged_call n looked within (calling.no_object none is) =
       let m = as_reply (Refused n 8) (ap (λ (t : Turn). t.reply) is) in
       subst (λ (xs : List Ask). IsRightCall h es p op object xs at v) (sym (ap (λ (t : Turn). t.asks) is)) (right_no_object h es p op object n at v within none m.1 m.2)
-  judged_call n looked within (told.judged k value finding kept ran found j keeps runs is) =
+  judged_call n looked within (calling.judged k value finding kept ran found j keeps runs is) =
       let m = verdict_recorded n 0 value (verdict_of finding) at v (as_reply (verdict_reply n 0 value (verdict_of finding)) (ap (λ (t : Turn). t.reply) is)) in
       right_verdict h es p op object turn.asks n k (verdict_of finding) at v within found (judged (case_at h (state_at h es n) p op k) turn.asks finding j) m.0 m.1
-  judged_call n looked within (told.down k line found broken is) =
+  judged_call n looked within (calling.down k line found broken is) =
       let m = as_reply (Down n line) (ap (λ (t : Turn). t.reply) is) in
       right_down h es p op object turn.asks n k line at v within found broken m.0 m.1
 
   called : Calls h es before p op object arg turn → IsRightCall h es p op object turn.asks at v
-  called (told.hit n place slot of_object of_store value held verdict ran looks makes stands right runs is) =
+  called (calling.hit n place slot of_object of_store value held verdict ran looks makes stands right runs is) =
       let m = verdict_recorded n 1 value verdict at v (as_reply (verdict_reply n 1 value verdict) (ap (λ (t : Turn). t.reply) is)) in
       let none : turn.asks ≡ [] = ap (λ (t : Turn). t.asks) is in
       right_verdict h es p op object turn.asks n place.object verdict at v looks.seen.1 looks.place_is.object_is
       (subst (λ (bs : List Bool). IsToldWith (case_at h (state_at h es n) p op place.object) bs verdict) (sym (ap given_in none)) (kept_verdict h es p op object n place verdict looks.place_is right)) m.0 m.1
-  called (told.snapped low n looked misses seen judges) = judged_call n looked seen.1 judges
+  called (calling.snapped low n looked misses seen judges) = judged_call n looked seen.1 judges
 
   no_reply : turn.reply ≡ NoMemory → ⊥
   no_reply e = as_reply NoMemory e
 
   given_up : GivesUp h es before p op object turn → ⊥
-  given_up (told.looked low steps misses is) = no_reply (ap (λ (t : Turn). t.reply) is)
-  given_up (told.met low n steps misses seen vain is) = no_reply (ap (λ (t : Turn). t.reply) is)
+  given_up (unanswered.looked low steps misses is) = no_reply (ap (λ (t : Turn). t.reply) is)
+  given_up (unanswered.met low n steps misses seen vain is) = no_reply (ap (λ (t : Turn). t.reply) is)
 
 call_same : {op object op2 object2 : List ℕ} {arg arg2 : ℕ} → Call op object arg ≡ Call op2 object2 arg2 → (op ≡ op2) × (object ≡ object2)
 call_same e = (cc, cc)

@@ -10,7 +10,8 @@ use Rattle.verdict_words.specs.declared.views.Item.{Item}
 use Rattle.session_core.specs.Answers.{HasOutcome, Outcome}
 use Rattle.session_core.specs.Records.{given_in}
 use Rattle.session_core.specs.Standing.{Standing, beginning}
-use Rattle.session_core.specs.Told.{Answers, IsTold, Leads, Turn}
+use Rattle.session_core.specs.Calls.{Turn}
+use Rattle.session_core.specs.Told.{Answers, IsTold, Leads}
 use Rattle.audit_check.specs.declared.records.Answers.TheVariants.{Known, Unknown}
 use Rattle.audit_check.specs.declared.records.Recorded.{Recorded}
 use Rattle.audit_check.specs.Records.{IsRightRecord}

@@ -9,7 +9,7 @@ use Rattle.policy_history.specs.Machine.{refusal_of, replay}
 use Rattle.cache_machine.specs.declared.stages.Kept.{Kept}
 use Rattle.cache_machine.specs.declared.stages.Place.{Place}
 use Rattle.cache_machine.specs.States.{ActorTree, MachineState, StageTree, resting, looked, counted, half, missed, raised, holding, allowed}
-use Rattle.cache_machine.specs.Moves.{MoveTree, idle, goes, tells, fills, raises, writes}
+use Rattle.cache_machine.specs.Moves.{MoveTree, idle, goes, tells, fills, raises, writes, all_regions, slot_count}
 
 -- an event of this session and principal, which is one of the head's, is accepted at the end of the history
 abbrev pub IsNext : Head → List EntryTree → ℕ → ℕ → EventTree → Type 0
@@ -20,13 +20,13 @@ abbrev pub IsNextOf : MachineState → Option ActorTree → EventTree → Type 0
 IsNextOf s None e = ⊥
 IsNextOf s (Some x) e = IsNext s.head s.entries x.session x.principal e
 
--- a move that can be made: the number names an actor, a region is one of the 512, and what is written is accepted
+-- a move that can be made: the number names an actor, a region is one that there is, and what is written is accepted
 abbrev pub IsDoable : MachineState → ℕ → MoveTree → Type 0
 IsDoable s a idle = Unit {0}
 IsDoable s a (goes stage) = a < length s.actors
 IsDoable s a (tells told stage) = a < length s.actors
 IsDoable s a (fills kept stage) = a < length s.actors
-IsDoable s a (raises region e) = (a < length s.actors) × (region < 512)
+IsDoable s a (raises region e) = (a < length s.actors) × (region < all_regions)
 IsDoable s a (writes e) = (a < length s.actors) × IsNextOf s (slice_get s.actors a) e
 
 -- what is kept, if anything, is right at its point, which is within the history
@@ -85,8 +85,8 @@ AreOfHead h actors = (a : ℕ) (x : ActorTree) → slice_get actors a ≡ Some x
 
 -- what always holds of a machine
 pub record IsWorded (s : MachineState) : Type 0 where
-  pub slots : length s.slots ≡ 4096
-  pub regions : length s.regions ≡ 512
+  pub slots : length s.slots ≡ slot_count
+  pub regions : length s.regions ≡ all_regions
   pub sound : AreSound s.head s.entries s.slots
   pub words : AreRegions s.head s.entries s.regions
   pub principals : AreOfHead s.head s.actors

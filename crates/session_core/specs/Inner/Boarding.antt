@@ -25,6 +25,7 @@ use Rattle.verdict_words.specs.Histories.{IsPrefix, own}
 use Rattle.verdict_words.specs.Rule.{last_met}
 use Rattle.verdict_words.specs.Values.{Identity, PassValue}
 use Rattle.verdict_words.specs.Words.{IsPlace}
+use Rattle.policy_history.specs.declared.events.Refusal.TheVariants.{NotRecorded}
 use Rattle.policy_history.specs.Laws.{refusal_number}
 use Rattle.policy_book.specs.declared.writing.Written.{Written}
 use Rattle.policy_book.specs.declared.writing.Written.TheVariants.{Done as WrittenDone, Refused as WrittenRefused, NoMemory as WrittenNoMemory}
@@ -33,7 +34,8 @@ use Rattle.session_core.specs.declared.board_session.BoardSession.{BoardSession}
 use Rattle.session_core.specs.Records.{AreNoted, Kept}
 use Rattle.session_core.specs.Served.{AreCounted}
 use Rattle.session_core.specs.Standing.{Standing}
-use Rattle.session_core.specs.Told.{Answers, IsPlaceIn, Keeps, Leads, Misses, Runs, Turn, verdict_reply}
+use Rattle.session_core.specs.Calls.{IsPlaceIn, Keeps, Misses, Runs, Turn, verdict_reply}
+use Rattle.session_core.specs.Told.{Answers, Leads}
 use Rattle.session_core.specs.Inner.Knowing.{KnownRow, joined_rows, knows_row, triples_of}
 
 -- the number of who is admitted
@@ -179,7 +181,7 @@ pub data IsChecked (p : ℕ) (op object : List ℕ) (arg k : ℕ) (place : Optio
   down : (line : ℕ) → IsBrokenOff c asks (DownError line) → HasJoined op object place s t [] → reply ≡ Down (length s.pass.seen) line
       → IsChecked p op object arg k place c s t asks reply
   no_memory : IsBrokenOff c asks MemoryError → t ≡ s → reply ≡ NoMemory → IsChecked p op object arg k place c s t asks reply
-  unrecorded : IsSettled c asks → t ≡ s → reply ≡ Refused (length s.pass.seen) 20 → IsChecked p op object arg k place c s t asks reply
+  unrecorded : IsSettled c asks → t ≡ s → reply ≡ Refused (length s.pass.seen) (refusal_number NotRecorded) → IsChecked p op object arg k place c s t asks reply
 
 -- the reply that tells what became of a change
 abbrev pub reply_of : Written → Reply

@@ -1,6 +1,7 @@
 use Rattle.std.specs.Prelude.{replicate}
 use Rattle.std.proofs.Common.{◌≡◌, ℕ, arith, ◌∙◌, None, ap, ◌++◌, ◌∷◌, [], List, Option}
 use Rattle.cache_machine.specs.declared.stages.Kept.{Kept}
+use Rattle.cache_machine.specs.Moves.{slot_count}
 use Rattle.cache_machine.proofs.Starting.{one_more_same}
 use Rattle.cache_machine.proofs.machine.empty_slots.Goals as goal
 
@@ -9,5 +10,5 @@ loop-place-preserved c = c.in_ok-push.ensures.items ∙ ap (λ (xs : List (Optio
 
 pub returns : goal.returns
 returns c =
-    let all : c.loop-place._place ≡ 4096 = omega (arith, c.loop-place-test.false, c.loop-place.auto._place-end) in
+    let all : c.loop-place._place ≡ slot_count = omega (arith, c.loop-place-test.false, c.loop-place.auto._place-end) in
     c.loop-place.invariant ∙ ap (λ (n : ℕ). replicate n None) all
