@@ -122,7 +122,8 @@ impl Beginning {
     fn of(alloc: Global, journal: &Journal, actors: &Vec<u32>) -> Result<Beginning, AllocError>
         requires sessions { greatest_of (entry_trees journal.now.entries) + length actors.now.items < 2 ^ 64 }
         ensures slots { IfOk result (λ made. made.slots.items ≡ replicate slot_count None) }
-        ensures regions { IfOk result (λ made. made.regions.items ≡ replicate all_regions (length journal.now.entries)) }
+        ensures regions { IfOk result
+            (λ made. made.regions.items ≡ replicate all_regions (length journal.now.entries)) }
         ensures actors { IfOk result
             (λ made. map actor_tree made.actors.items
             ≡ first_actors (greatest_of (entry_trees journal.now.entries) + 1) actors.now.items) }
