@@ -27,7 +27,7 @@ COMMANDS = {
     "export": ["answer_commands/Exports"],
     "compact": ["answer_commands/Compacts"],
     "script": ["script_command/Scripts"],
-    "serve": ["service_commands/Services", "nexus_serve/TrueReports", "told_records/Audited"],
+    "serve": ["service_commands/Services", "service_commands/Logged", "nexus_serve/TrueReports", "told_records/Audited", "line_log/LineLogs"],
     "client": ["service_commands/Clients"],
     "import": ["service_commands/Clients"],
     "core": ["nexus_run/LoadRuns"],

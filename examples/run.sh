@@ -1,9 +1,9 @@
 #!/usr/bin/env bash
 # Runs each example of `nexus check`, `script`, `trust`, `prove`, `audit`, `explain` and `recover` and compares what it prints, byte for byte, and its exit
 # status; has `nexus check` check each proof that was found; then the other ways in which the program ends; then plays `nexus serve`,
-# also with peers that hold workers and over local sockets, where there is a Python of 3.9 or later; then the commands of README and
-# TOUR, the recipes of docs/OPERATING.md, the client for programs, and the manual page; then the client in Go, what stands beside web
-# servers, a tunnel, and pictures of proofs.
+# also with peers that hold workers, over local sockets and with a log, where there is a Python of 3.9 or later; then the commands of
+# README and TOUR, the recipes of docs/OPERATING.md, the client for programs, and the manual page; then the client in Go, what stands
+# beside web servers, a tunnel, and pictures of proofs.
 #
 #   examples/run.sh [PROGRAM]     PROGRAM is ./nexus at the top of the repository where none is given
 #
@@ -227,6 +227,15 @@ else
     python3 -B "$examples/lasting/run.py" "$built" || failed=$((failed + 1))
     python3 -B "$examples/records/run.py" "$built" || failed=$((failed + 1))
     python3 -B "$examples/local/run.py" "$built" || failed=$((failed + 1))
+fi
+
+# Services whose text is kept by a log, and its keeper.
+if ! python3 -c 'import sys; sys.exit(sys.version_info < (3, 9))' 2>/dev/null; then
+    echo "cluster: skipped, since there is no python3 of 3.9 or later"
+else
+    python3 -B "$examples/cluster/run.py" "$built" || failed=$((failed + 1))
+    etcd=$(command -v etcd || command -v /usr/bin/etcd)
+    python3 -B "$examples/../clients/python/test_nexus_log.py" ${etcd:+"$etcd"} || failed=$((failed + 1))
 fi
 
 # Labels carried from one service to another.

@@ -53,8 +53,8 @@ OPENS = re.compile(rf"\b({CALLS})\s*(?:::\s*<[^;{{}}()]*>\s*)?\(|::\s*({CALLS})\
 
 # The objects that reach outside by themselves, and the files that make them or are made of them: whoever makes one in any other place
 # has authorities or peers of its own, of which no history tells.
-OBJECTS = re.compile(r"\b(HostPanel|HostClock|AuthorityPanel|TcpWires|SocketDoor|SystemStream|SystemListener|FileSink)\b")
-MAKERS = {"authority_ask/src/clocks.rt", "authority_ask/src/hosts.rt", "authority_ask/src/tcp_wires.rt", "authority_ask/src/connections.rt", "nexus_main/src/main.rt", "nx_io/src/sockets.rt", "nx_io/src/timed_streams.rt",
+OBJECTS = re.compile(r"\b(HostPanel|HostClock|AuthorityPanel|TcpWires|SocketDoor|SocketWire|SystemStream|SystemListener|FileSink)\b")
+MAKERS = {"authority_ask/src/clocks.rt", "authority_ask/src/hosts.rt", "authority_ask/src/tcp_wires.rt", "authority_ask/src/connections.rt", "line_log/src/sockets.rt", "nexus_main/src/main.rt", "nx_io/src/sockets.rt", "nx_io/src/timed_streams.rt",
     "nx_io/src/system_streams.rt", "nx_io/src/file_sinks.rt"}
 NAMED = re.compile(r"^pub use [a-z_]+::[^;]*;$")
 
@@ -69,6 +69,8 @@ NAMESAKES = {
     ("goal_store/src/goals.rt", "pub fn bind("),
     ("journal_text/src/policy_printer.rt", "self.bind("),
     ("journal_text/src/policy_printer.rt", "fn bind("),
+    ("line_log/src/keepers.rt", "self.wire.connect("),
+    ("line_log/src/line_logs.rt", "self.keeper.connect("),
     ("nx_io/src/sockets.rt", "SystemListener::bind("),
     ("nx_io/src/sockets.rt", "SystemStream::connect("),
     ("nx_io/src/sockets.rt", "listener.accept("),

@@ -1,6 +1,7 @@
 // Devices as their callers meet them: generic code over each, and the answers of single calls.
 mod doors;
 pub mod links;
+pub mod logs;
 mod over_tcp;
 pub mod streams;
 

@@ -1,6 +1,6 @@
 // The loop over a table of texts. A table has parts, with an empty line between; each has a title, and then rows. A row stands on one
 // line: what is tried, an arrow, and what it comes to.
-use crate::devices::{links, streams};
+use crate::devices::{links, logs, streams};
 use crate::{frames, guarding};
 use std::alloc::{AllocError, Global};
 use std::net::{Net, TcpListener, TcpStream};
@@ -20,6 +20,7 @@ fn told<R: Net<Listener = TcpListener, Stream = TcpStream> + Clock>(
         "reader" => streams::read_by(alloc, input),
         "writer" => streams::written_by(alloc, input),
         "link" => links::told(alloc, input),
+        "log" => logs::told(rt, alloc, input),
         "requests" => frames::requests_told(alloc, input),
         "cut requests" => frames::cut_told(alloc, input),
         "failing requests" => frames::failing_told(alloc, input),

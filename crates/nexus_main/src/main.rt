@@ -4,7 +4,8 @@
 mod standard_error;
 
 use authority_ask::{HostClock, HostPanel};
-use nexus_run::{SystemArguments, start};
+use line_log::{LineLog, SocketWire};
+use nexus_run::{Sinks, SystemArguments, start};
 use nx_io::{FileSink, OpenGate, SocketDoor, StdSource};
 use standard_error::StandardError;
 use std::mem;
@@ -13,8 +14,8 @@ use std::process::ExitCode;
 /// The name of standard output among the open files of the process.
 const STANDARD_OUTPUT: &str = "/proc/self/fd/1";
 
-/// Starts the program on the arguments of its call, on standard input, with the records on standard error, and on standard output,
-/// and ends with its status. Standard error is looked at before anything is opened.
+/// Starts the program on the arguments of its call, on standard input, with the records on standard error, on standard output, and with a
+/// log over a socket, and ends with its status. Standard error is looked at before anything is opened.
 fn main(rt: HostRuntime) -> ExitCode {
     let records = StandardError::new(&rt, rt.stderr());
     let Ok(panel) = HostPanel::new(rt.alloc(), HostClock::new()) else {
@@ -22,13 +23,16 @@ fn main(rt: HostRuntime) -> ExitCode {
     };
     let mut arguments = SystemArguments::new(&rt);
     let mut input = StdSource::new(rt.stdin());
-    let output = FileSink::new(&rt, rt.stdout(), STANDARD_OUTPUT);
+    let sinks = Sinks {
+        output: FileSink::new(&rt, rt.stdout(), STANDARD_OUTPUT),
+        records,
+        log: LineLog::new(rt.alloc(), SocketWire::new()),
+    };
     let finished = start(
         &rt,
         &mut arguments,
         &mut input,
-        records,
-        output,
+        sinks,
         SocketDoor::new(rt.alloc(), rt),
         panel,
         &OpenGate,

@@ -4,5 +4,6 @@ mod LoadEnds
 mod Commanded
 mod TrueRuns
 mod Running
+mod LoggedRuns
 mod ServiceAsks
 mod Recordings

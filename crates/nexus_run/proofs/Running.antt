@@ -1,7 +1,7 @@
 -- What a run promises, for each way in which it can go: a service, a talk, another command, or none.
 use Rattle.std.proofs.Common.{◌≡◌, ◌≢◌, ◌⊎◌, ℕ, Bool, List, [], Option, Some, None, inl, inr, refl, sym, ap, subst, ◌∙◌}
 use Rattle.nx_io.specs.Streams.{Grows}
-use Rattle.nx_io.specs.Views.{HasGiven, door_view, link_view, recorder_view, sink_view}
+use Rattle.nx_io.specs.Views.{DoorView, HasGiven, RecorderView, SinkView, door_view, link_view, recorder_view, sink_view}
 use Rattle.nx_io.proofs.ForCallers.{gained-nothing, gave-nothing, grows-nothing}
 use Rattle.std.specs.Prelude.{length, option_map}
 use Rattle.policy_history.specs.Values.{History}
@@ -13,12 +13,15 @@ use Rattle.script_command.proofs.ForCallers.{more_nothing}
 use Rattle.nexus_serve.specs.Hosting.{Plan}
 use Rattle.service_commands.specs.Clients.{EndsClient}
 use Rattle.service_commands.specs.Clients as talks
-use Rattle.service_commands.specs.Services.{EndedValue, EndsService, HandsBack, IsAddress, IsService, IsUnbegun, ended_view, only_where, patience_in}
+use Rattle.service_commands.specs.Services.{EndedValue, EndedView, EndsService, HandsBack, IsAddress, IsService, IsUnbegun, RunsService, ended_view, only_where, patience_in}
 use Rattle.service_commands.specs.Services as service
-use Rattle.service_commands.proofs.ForCallers.{aside_back, runs_beside, runs_client, runs_service, sink_back, sink_of}
+use Rattle.service_commands.specs.Logged as logs
+use Rattle.nx_io.specs.declared.streams.Sink.{Ghosts as SinkGhosts}
+use Rattle.line_log.specs.declared.logs.Log.{Ghosts as LogGhosts}
+use Rattle.service_commands.proofs.ForCallers.{aside_back, beside, runs_client, runs_service, none_audited, runs_logged, sink_back, sink_of, still_unsent}
 use Rattle.nexus_run.specs.Commanded.{RunsCommand}
-use Rattle.nexus_run.specs.Commands.{IsCommand, IsServiceCall, IsWithin, command_words, core_words, drill_words, serve_words, talk_words}
-use Rattle.nexus_run.specs.Runs.{DoesCommand, Handed, Runs, Tellers}
+use Rattle.nexus_run.specs.Commands.{IsServiceCall, IsUnlogged, IsWithin, command_words, core_words, drill_words, serve_words, talk_words}
+use Rattle.nexus_run.specs.Runs.{DoesCommand, Handed, Runs, RunsWithLog, Tellers}
 use Rattle.nexus_run.specs.declared.commands.Command.{Command}
 use Rattle.nexus_run.specs.declared.commands.Command.TheVariants.{Compact, Core, Drill, Script}
 use Rattle.nexus_run.proofs.Commanded.{memory_commanded, same_runs}
@@ -51,27 +54,32 @@ module _ {S K C D L P : Type 0} (t : Tellers S K C D L P) (words : List (List �
         (ended_view t.output t.records t.recorder t.door t.link ended)
         → Runs t words before input_now (record ended { records = sink_of recording before.records ended.records })
     service_runs ended gave undialed ends =
-        let view = recorder_view t.records t.recorder in
-        let told = ended_view t.output t.records t.recorder t.door t.link ended in
+        let view : C → RecorderView = recorder_view t.records t.recorder in
+        let told : EndedView P C = ended_view t.output t.records t.recorder t.door t.link ended in
+        let sink : SinkView = sink_view t.output before.output in
+        let door : DoorView = door_view t.door t.link before.door in
+        let still = still_unsent t.panel plan read sink door before.panel _ told ends in
+        let runs = beside view recording before.records ended.records told refl still (λ (recorder : Option RecorderView) (e : EndedView P C). RunsService t.panel plan read sink door before.panel recorder e)
+        (runs_service t.panel plan read sink door before.panel _ told ends) in
         record {
           command = record {
             plain = λ other words_too is. absurd (serve_not_plain address workers sessions patience recording other (sym words_are ∙ words_too));
             talk = λ talk other words_too is. absurd (serve_not_talk address workers sessions patience recording talk other (sym words_are ∙ words_too));
             serve = λ a m n p r words_too is.
                 let same = serve_same a m n p r address workers sessions patience recording is within (sym words_too ∙ words_are) in
-                rw (same.0, same.1, same.2, same.3, same.4) (runs_beside view recording before.records ended.records told refl ends);
+                rw (same.0, same.1, same.2, same.3, same.4) runs;
           };
           grows = record {
             gave = gave;
             sent = λ other. absurd (other is_service);
-            recorded = handed (sink_of recording before.records ended.records) (λ r same. grows_same same) (sink_back view recording before.records ended.records told refl ends);
+            recorded = handed (sink_of recording before.records ended.records) (λ r same. grows_same same) (sink_back view recording before.records ended.records told refl still);
             asked = service_more ends;
           };
           alone = record {
             by_core = λ n m is. absurd (serve_not_plain address workers sessions patience recording (Core n m) (sym words_are ∙ is));
             by_drill = λ l m n is. absurd (serve_not_plain address workers sessions patience recording (Drill l m n) (sym words_are ∙ is));
             unwritten = λ other. absurd (other is_service);
-            unrecorded = λ other unrecorded. aside_back view recording before.records ended.records told refl ends (not_recorded recording within words_are unrecorded);
+            unrecorded = λ other unrecorded. aside_back view recording before.records ended.records told refl still (not_recorded recording within words_are unrecorded);
             door = λ other. absurd (other is_service);
             undialed = λ other. absurd (other is_service);
             panel = λ other_words other. absurd (other is_service);
@@ -192,7 +200,7 @@ module _ {S K C D L P : Type 0} (t : Tellers S K C D L P) (words : List (List �
   }
 
   -- a call of no command, which is read no further
-  pub none_runs : (status : ℕ) → ¬ IsCommand words → Runs t words before before.input (all_back status)
+  pub none_runs : (status : ℕ) → ¬ IsUnlogged words → Runs t words before before.input (all_back status)
   none_runs status none = idle status (record {
     plain = λ command are is. absurd (none (inl (command, is, are)));
     talk = λ talk address are is. absurd (none (inr (inr (talk, address, is, are))));
@@ -209,4 +217,20 @@ module _ {S K C D L P : Type 0} (t : Tellers S K C D L P) (words : List (List �
     where
       unbegun : (recorded : Bool) → IsUnbegun (door_view t.door t.link before.door) before.panel (only_where recorded (Some (recorder_view t.records t.recorder before.records)))
           (record (ended_view t.output t.records t.recorder t.door t.link (all_back 6)) { recorder = only_where recorded (Some (recorder_view t.records t.recorder before.records)) })
+      unbegun recorded = record { journal = refl; reports = refl; door_is = refl; doors = refl; panel_is = refl; recorder_is = refl; means = refl }
+
+  -- and so it is of a service with a log
+  pub no_memory_logged : {J : Type 0} (sink : SinkGhosts J) (teller : LogGhosts J) (log : J) → RunsWithLog t sink teller words before log before.input (all_back 6) (Some log)
+  no_memory_logged sink teller log a m n p r x are within is = record {
+    runs = runs_logged t.panel _ _ _ _ _ _ _ _ _ (logs.unbegun (unbegun r) refl (grows-nothing (t.output.sent before.output)) (λ failed. refl) (no_memory refl (gained-nothing (t.output.sent before.output)) refl refl));
+    gave = gave-nothing (t.source.left before.input) (t.source.given before.input);
+    asked = more_nothing refl;
+    recorded_grows = grows-nothing (t.records.sent before.records);
+    unrecorded = λ un. refl;
+    undialed = refl;
+    audited = none_audited {P = P} {C = C} _ _ _ [] refl;
+  }
+    where
+      unbegun : (recorded : Bool) → IsUnbegun (door_view t.door t.link before.door) before.panel (only_where recorded (Some (recorder_view t.records t.recorder before.records)))
+          (record (ended_view t.output t.records t.recorder t.door t.link (all_back 6)) { output = Some (sink_view sink log); recorder = only_where recorded (Some (recorder_view t.records t.recorder before.records)) })
       unbegun recorded = record { journal = refl; reports = refl; door_is = refl; doors = refl; panel_is = refl; recorder_is = refl; means = refl }

@@ -1,7 +1,7 @@
 -- The words of a call, as bytes and as texts.
-use Rattle.std.proofs.Common.{◌≡◌, ◌==◌, ◌↔◌, ◌<◌, ◌^◌, ◌++◌, ◌+◌, ℕ, Bool, true, false, IsTrue, List, [], ◌∷◌, map, take, length, get_or, inl, inr, refl, sym, ap, subst, ◌∙◌, codes, arith}
+use Rattle.std.proofs.Common.{◌≡◌, ◌==◌, ◌↔◌, ◌<◌, ◌^◌, ◌++◌, ◌+◌, ℕ, Bool, true, false, IsTrue, List, [], ◌∷◌, map, take, length, Bor, get_or, inl, inr, refl, sym, ap, subst, ◌∙◌, codes, arith}
 use Rattle.std.proofs.lemmas.Bool.Decides.{Decides-eqb}
-use Rattle.std.proofs.lemmas.List.{append_cancel_right, take_more, length-map, map-append, get_or-map}
+use Rattle.std.proofs.lemmas.List.{append_cancel_right, append_assoc, take_more, length-map, map-append, get_or-map}
 use Rattle.std.proofs.lemmas.List.Elements.{All-append, All-cons, All-get_or, All-nil}
 use Rattle.std.specs.List.{All, list_all}
 use Rattle.std.specs.Str.{IsUtf8}
@@ -14,7 +14,7 @@ use Rattle.std.proofs.lemmas.Str.Ascii.{IsAscii-from_all}
 use Rattle.std.specs.Prelude.{nat_le, ◌&&◌, ◌≤◌, None, Some}
 use Rattle.std.specs.declared.option.Option.{Option}
 use Rattle.nal_term.specs.Secrets.{is_secret_byte}
-use Rattle.nexus_run.specs.Commands.{IsCommand, IsDrill, IsLoad, IsPlain, IsTalkCall, IsWithin, audit_words, check_words, command_words, compact_words, core_words, drill_words, explain_words, export_words, patience_words, prove_words, records_words, recover_words, script_words, serve_words, talk_word, talk_words, trust_words}
+use Rattle.nexus_run.specs.Commands.{IsCommand, IsDrill, IsLoad, IsLoggedCall, IsPlain, IsTalkCall, IsUnlogged, IsWithin, audit_words, check_words, command_words, compact_words, core_words, drill_words, explain_words, export_words, log_words, logged_words, patience_words, prove_words, records_words, recover_words, script_words, serve_words, talk_word, talk_words, trust_words}
 use Rattle.nal_term.specs.Names.{IsName, is_letter, is_word, is_word_byte}
 use Rattle.nexus_client.specs.declared.inputs.TalkInput.{TalkInput}
 use Rattle.nexus_client.specs.declared.inputs.TalkInput.TheVariants.{RequestLines, PeerBundle}
@@ -230,6 +230,44 @@ serve_same address workers sessions patience records other m n p r within within
       last.1,
     )
 
+-- ---- A service with a log
+
+-- lists that end with two items each are told by these and by what stands before them
+pub ends_same : (xs ys : List (List ℕ)) (a b c d : List ℕ) → xs ++ a ∷ b ∷ [] ≡ ys ++ c ∷ d ∷ [] → (xs ≡ ys) × (a ≡ c) × (b ≡ d)
+ends_same [] [] a b c d e = (refl, cc e, cc e)
+ends_same [] (y ∷ []) a b c d e = let none : [] ≡ d ∷ [] = cc e in absurd (cc none)
+ends_same [] (y ∷ z ∷ []) a b c d e = let none : [] ≡ c ∷ d ∷ [] = cc e in absurd (cc none)
+ends_same [] (y ∷ z ∷ w ∷ ys) a b c d e = let none : [] ≡ w ∷ (ys ++ c ∷ d ∷ []) = cc e in absurd (cc none)
+ends_same (x ∷ []) [] a b c d e = let none : b ∷ [] ≡ [] = cc e in absurd (cc none)
+ends_same (x ∷ z ∷ []) [] a b c d e = let none : a ∷ b ∷ [] ≡ [] = cc e in absurd (cc none)
+ends_same (x ∷ z ∷ w ∷ xs) [] a b c d e = let none : w ∷ (xs ++ a ∷ b ∷ []) ≡ [] = cc e in absurd (cc none)
+ends_same (x ∷ xs) (y ∷ ys) a b c d e =
+    let first : x ≡ y = cc e in
+    let rest : xs ++ a ∷ b ∷ [] ≡ ys ++ c ∷ d ∷ [] = cc e in
+    let same = ends_same xs ys a b c d rest in
+    (rw (first, same.0) refl, same.1, same.2)
+
+-- the words of `serve` with a log tell what is to be served, and where the log is
+pub logged_same : (address : List ℕ) (workers sessions : ℕ) (patience : Option ℕ) (records : Bool) (log : List ℕ) (other : List ℕ) (m n : ℕ) (p : Option ℕ) (r : Bool) (other_log : List ℕ)
+    → IsService address workers sessions patience → IsService other m n p → logged_words address workers sessions patience records log ≡ logged_words other m n p r other_log
+    → ((address ≡ other) × (workers ≡ m) × (sessions ≡ n) × (patience ≡ p) × (records ≡ r)) × (log ≡ other_log)
+logged_same address workers sessions patience records log other m n p r other_log within within_too e =
+    let same = ends_same (serve_words address workers sessions patience records) (serve_words other m n p r) _ log _ other_log e in
+    (serve_same address workers sessions patience records other m n p r within within_too same.0, same.2)
+
+-- the texts of words behind which two more stand
+pub texts_with_two : (words rest front : List (Bor (List ℕ))) (last word : Bor (List ℕ)) → words ≡ rest ++ last ∷ [] → rest ≡ front ++ word ∷ []
+    → map (λ w. w.now) words ≡ map (λ w. w.now) front ++ word.now ∷ last.now ∷ []
+texts_with_two words rest front last word e f =
+    ap (map (λ w. w.now)) (e ∙ ap (λ r. r ++ last ∷ []) f ∙ append_assoc front (word ∷ []) (last ∷ [])) ∙ map-append (λ w. w.now) front (word ∷ last ∷ [])
+
+-- words whose front is that of no service are those of no service with a log
+pub no_logged : (words front : List (List ℕ)) (log : List ℕ) → words ≡ front ++ log_words log
+    → ((address : List ℕ) (workers sessions : ℕ) (patience : Option ℕ) (records : Bool) → IsService address workers sessions patience → front ≡ serve_words address workers sessions patience records → ⊥)
+    → IsLoggedCall words → ⊥
+no_logged words front log are none (address, workers, sessions, patience, records, other, within, is, told) =
+    none address workers sessions patience records within (ends_same front (serve_words address workers sessions patience records) _ log _ other (sym are ∙ told)).0
+
 both : (b c : Bool) → (b && c) ≡ true → (b ≡ true) × (c ≡ true)
 both true c e = (refl, e)
 both false c e = absurd (cc e)
@@ -286,6 +324,16 @@ serve_words_are_texts address workers sessions patience records within =
     (All-cons IsUtf8 (decimal sessions) rest (number_is_text sessions (omega (arith, b)))
     (All-append IsUtf8 (patience_words patience) (records_words records) (patience_words_are_texts patience within.patience_is) (records_words_are_texts records)))))
 
+log_is_text : IsUtf8 (codes "log")
+unfolding lib.Utf8.encode
+log_is_text = (codes "log", (refl, refl))
+
+logged_words_are_texts : (address : List ℕ) (workers sessions : ℕ) (patience : Option ℕ) (records : Bool) (log : List ℕ) → IsService address workers sessions patience → IsAddress log
+    → All IsUtf8 (logged_words address workers sessions patience records log)
+logged_words_are_texts address workers sessions patience records log within is =
+    All-append IsUtf8 (serve_words address workers sessions patience records) (log_words log) (serve_words_are_texts address workers sessions patience records within)
+    (All-cons IsUtf8 (codes "log") (log ∷ []) log_is_text (All-cons IsUtf8 log [] (address_is_text log is) (All-nil IsUtf8)))
+
 -- what is not so is not so
 pub not_so : (b : Bool) → b ≡ false → IsTrue b → ⊥
 not_so true other is = cc other
@@ -330,14 +378,15 @@ plain_is_text (Core number steps) within = core_words_are_texts number steps wit
 
 -- words that are not all texts are not those of a command
 pub not_command : (words : List (List ℕ)) → (All IsUtf8 words → ⊥) → IsCommand words → ⊥
-not_command words n (inl (command, within, e)) = n (rw e (plain_is_text command within))
-not_command words n (inr (inl (address, workers, sessions, patience, records, within, e))) = n (rw e (serve_words_are_texts address workers sessions patience records within))
-not_command words n (inr (inr (input, address, is, e))) = n (rw e (talk_words_are_texts input address is))
+not_command words n (inl (inl (command, within, e))) = n (rw e (plain_is_text command within))
+not_command words n (inl (inr (inl (address, workers, sessions, patience, records, within, e)))) = n (rw e (serve_words_are_texts address workers sessions patience records within))
+not_command words n (inl (inr (inr (input, address, is, e)))) = n (rw e (talk_words_are_texts input address is))
+not_command words n (inr (address, workers, sessions, patience, records, log, within, is, e)) = n (rw e (logged_words_are_texts address workers sessions patience records log within is))
 
--- words that are those of no service, of no talk and of no other command are those of no command
+-- words that are those of no service, of no talk and of no other command are those of no command that needs no log
 pub no_command : {words : List (List ℕ)}
     → ((address : List ℕ) (workers sessions : ℕ) (patience : Option ℕ) (records : Bool) → IsService address workers sessions patience → words ≡ serve_words address workers sessions patience records → ⊥)
-    → (IsTalkCall words → ⊥) → (IsPlain words → ⊥) → IsCommand words → ⊥
+    → (IsTalkCall words → ⊥) → (IsPlain words → ⊥) → IsUnlogged words → ⊥
 no_command service talk plain (inl is) = plain is
 no_command service talk plain (inr (inl (address, workers, sessions, patience, records, within, e))) = service address workers sessions patience records within e
 no_command service talk plain (inr (inr is)) = talk is

@@ -102,7 +102,7 @@ records_words false = []
 abbrev pub serve_words : List ℕ → ℕ → ℕ → Option ℕ → Bool → List (List ℕ)
 serve_words address workers sessions patience records = codes "serve" ∷ address ∷ decimal workers ∷ decimal sessions ∷ (patience_words patience ++ records_words records)
 
--- the words are those of a service
+-- the words are those of a service whose text goes to the output
 abbrev pub IsServiceCall : List (List ℕ) → Type 0
 IsServiceCall words =
     (address : List ℕ) × (workers : ℕ) × (sessions : ℕ) × (patience : Option ℕ) × (records : Bool) × IsService address workers sessions patience
@@ -112,6 +112,20 @@ IsServiceCall words =
 abbrev pub IsRecordedCall : List (List ℕ) → Type 0
 IsRecordedCall words =
     (address : List ℕ) × (workers : ℕ) × (sessions : ℕ) × (patience : Option ℕ) × IsService address workers sessions patience × (words ≡ serve_words address workers sessions patience true)
+
+-- at which address the log is reached that keeps the text of a service
+abbrev pub log_words : List ℕ → List (List ℕ)
+log_words log = codes "log" ∷ log ∷ []
+
+-- the words of a service whose text is kept by a log
+abbrev pub logged_words : List ℕ → ℕ → ℕ → Option ℕ → Bool → List ℕ → List (List ℕ)
+logged_words address workers sessions patience records log = serve_words address workers sessions patience records ++ log_words log
+
+-- the words are those of a service whose text is kept by a log
+abbrev pub IsLoggedCall : List (List ℕ) → Type 0
+IsLoggedCall words =
+    (address : List ℕ) × (workers : ℕ) × (sessions : ℕ) × (patience : Option ℕ) × (records : Bool) × (log : List ℕ) × IsService address workers sessions patience × IsAddress log
+    × (words ≡ logged_words address workers sessions patience records log)
 
 -- the word of a talk whose input is this
 abbrev pub talk_word : TalkInput → List ℕ
@@ -126,9 +140,13 @@ talk_words input address = talk_word input ∷ address ∷ []
 abbrev pub IsTalkCall : List (List ℕ) → Type 0
 IsTalkCall words = (input : TalkInput) × (address : List ℕ) × IsAddress address × (words ≡ talk_words input address)
 
+-- the words are those of a command that needs no log
+abbrev pub IsUnlogged : List (List ℕ) → Type 0
+IsUnlogged words = IsPlain words ⊎ IsServiceCall words ⊎ IsTalkCall words
+
 -- the words are those of a command
 abbrev pub IsCommand : List (List ℕ) → Type 0
-IsCommand words = IsPlain words ⊎ IsServiceCall words ⊎ IsTalkCall words
+IsCommand words = IsUnlogged words ⊎ IsLoggedCall words
 
 -- the words are those of the call, and its parts are within their bounds
 abbrev pub IsCalledBy : Call → List (List ℕ) → Type 0

@@ -2,12 +2,12 @@
 ghost use Rattle.std.specs.Prelude.{◌≡◌, ◌≢◌, ◌↔◌, ◌<◌, ◌≤◌, ◌^◌, ◌∷◌, ◌++◌, [], ℕ, Bool, List, IsTrue, MatchOption, Option, false, map, true};
 ghost use Rattle.nal_term.specs.Names.{IsName};
 ghost use Rattle.nexus_client.specs.declared.inputs.TalkInput.{TalkInput};
-ghost use Rattle.nexus_run.specs.Commands.{IsCalledBy, IsCommand, IsDrill, IsLoad, IsPlain, IsTalkCall, IsWithin, command_words, core_words, drill_words, export_words, most_steps, patience_words, records_words, serve_words, talk_word, talk_words};
+ghost use Rattle.nexus_run.specs.Commands.{IsCalledBy, IsDrill, IsLoad, IsLoggedCall, IsPlain, IsTalkCall, IsUnlogged, IsWithin, command_words, core_words, drill_words, export_words, log_words, logged_words, most_steps, patience_words, records_words, serve_words, talk_word, talk_words};
 ghost use Rattle.service_commands.specs.Services.{IsAddress, IsPatience, IsService, patience_in};
 
 use nal_term::{is_name, is_secret};
 use nexus_client::TalkInput;
-use service_commands::{Service, TalkCall};
+use service_commands::{LoggedService, Service, TalkCall};
 use text_lines::read_number;
 
 /// How many steps a load of `core` has at most.
@@ -64,10 +64,10 @@ pub enum Command<'a> {
     },
 }
 
-/// What the program is called for.
+/// What the program is called for, where that needs no log.
 #[derive(Clone, Copy)]
 pub enum Call<'a> {
-    /// Serves the sessions of workers.
+    /// Serves the sessions of workers, the text going to the output.
     Serve(Service<'a>),
     /// Talks to a service.
     Talk(TalkCall<'a>),
@@ -75,11 +75,11 @@ pub enum Call<'a> {
     Plain(Command<'a>),
 }
 
-/// What the program is called for by these words. None exactly where they are those of no command. `docs/FORMATS.md`, "Commands",
-/// states them.
+/// What the program is called for by these words, where that needs no log. None exactly where they are those of no such command.
+/// `docs/FORMATS.md`, "Commands", states them.
 pub fn call_of<'a>(words: &'a [&'a str]) -> Option<Call<'a>>
     ensures { MatchOption result
-        (¬ IsCommand (map (λ w. w.now) words.now))
+        (¬ IsUnlogged (map (λ w. w.now) words.now))
         (λ call. IsCalledBy call (map (λ w. w.now) words.now)) }
 {
     if let Some(service) = service_of(words) {
@@ -116,6 +116,35 @@ fn service_of<'a>(words: &'a [&'a str]) -> Option<Service<'a>>
             patience,
             records,
         })
+    } else {
+        None
+    }
+}
+
+/// The service with a log that is called by these words. None exactly where they are those of none.
+pub(crate) fn logged_of<'a>(words: &'a [&'a str]) -> Option<LoggedService<'a>>
+    ensures { MatchOption result (¬ IsLoggedCall (map (λ w. w.now) words.now))
+        (λ l. IsService l.service.address.now l.service.workers l.service.sessions l.service.patience
+        × IsAddress l.log.now
+        × (map (λ w. w.now) words.now ≡ logged_words l.service.address.now l.service.workers l.service.sessions
+        l.service.patience l.service.records l.log.now)) }
+{
+    let (front, log) = before_log(words)?;
+    let service = service_of(front)?;
+    Some(LoggedService { service, log })
+}
+
+/// The words in front of the last two, where these say at which address a log is reached, and this address. None exactly where they don't.
+fn before_log<'a>(words: &'a [&'a str]) -> Option<(&'a [&'a str], &'a [u8])>
+    ensures { MatchOption result ((front : List (List ℕ)) (log : List ℕ) → IsAddress log
+        → map (λ w. w.now) words.now ≢ front ++ log_words log)
+        (λ r. IsAddress r.1.now × (map (λ w. w.now) words.now ≡ map (λ w. w.now) r.0.now ++ log_words r.1.now)) }
+{
+    let (last, rest) = words.split_last()?;
+    let (word, front) = rest.split_last()?;
+    let log = last.as_bytes();
+    if is_same(word, "log") && is_address(log) {
+        Some((front, log))
     } else {
         None
     }

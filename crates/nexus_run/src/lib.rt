@@ -11,7 +11,7 @@ mod starting;
 pub use arguments::{Arguments, SystemArguments, texts, words_of_call};
 pub use commands::{Call, Command, call_of};
 pub use plain::run_plain;
-pub use program::run;
+pub use program::{HandedBack, Sinks, run};
 pub use script_command::PlainEnd;
 pub use service_commands::Ended;
 pub use starting::{Finished, start};

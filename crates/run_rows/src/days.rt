@@ -8,8 +8,9 @@ use crate::recorder::MemRecorder;
 use crate::runs::{asks_of, show, spelled, words_of};
 use authority_ask::MemPanel;
 use journal_text::reply_line;
+use line_log::{LineLog, MemWire};
 use nexus_client::request_of_line;
-use nexus_run::{Ended, run};
+use nexus_run::{HandedBack, Sinks, run};
 use nexus_serve::{Means, Reports, ServedSession};
 use nx_io::{Bytes, DoorPlan, Gate, MemDoor, MemLink, MemSink, MemSource, OpenGate, Sink};
 use session_core::SessionEnd;
@@ -29,9 +30,10 @@ use std::thread::Threads;
 // the number of the call that fails, 0 or nothing where none does. `talks`, the sessions of the first worker, and `others`, those of the second: `&`
 // stands between sessions, and `|` between the lines of one, which are request lines, `objects N`, which asks for so many objects, and `raw` with bytes.
 //
-// `holds`: how many bytes each share of the sink for records holds, and `lend`, the number of the share that fails.
+// `holds`: how many bytes each share of the sink for records holds, and `lend`, the number of the share that fails. `keeps`: how many lines the
+// keeper of a log keeps.
 //
-// Then `status`; `told`, what the sessions are told, one after another, and how each ends; `written`; and `recorded`, what was recorded, a worker
+// Then `status`; `told`, what the sessions are told, one after another, and how each ends; `written`; `logged`, what was sent to a keeper; and `recorded`, what was recorded, a worker
 // after the other, with `&` behind each. Where these begin with `..` they are the end.
 #[derive(Clone, Copy)]
 pub struct Day<'a> {
@@ -286,20 +288,45 @@ fn is_due(bytes: &[u8], due: &str) -> bool {
     }
 }
 
-// What a service runs over, beside its input and its gate.
-struct Devices<K> {
-    sink: K,
+// What a service runs over, beside its gate and the sink for its output.
+struct Devices<'a> {
+    words: Vec<&'a str>,
+    source: MemSource,
+    records: MemRecorder,
+    log: LineLog<MemWire>,
     panel: MemPanel,
     door: MemDoor,
-    records: MemRecorder,
 }
 
 // The devices of a day. What is there is let go by one call where there is no memory for the next.
-fn devices_of<K: Drop>(alloc: Global, day: Day, sink: K) -> Result<Devices<K>, AllocError> {
-    match panel_of(alloc, day) {
-        Ok(panel) => devices_with(alloc, day, sink, panel),
+fn devices_of<'a>(alloc: Global, day: Day<'a>) -> Result<Devices<'a>, AllocError> {
+    let words = words_of(alloc, day.at("words"))?;
+    match source_of(alloc, day) {
+        Ok(source) => devices_over(alloc, day, words, source),
         Err(AllocError) => {
-            drop(sink);
+            drop(words);
+            Err(AllocError)
+        }
+    }
+}
+
+// The input of a day.
+fn source_of(alloc: Global, day: Day) -> Result<MemSource, AllocError> {
+    let policy = spelled(alloc, day.at("policy"))?;
+    MemSource::new(alloc, policy.as_slice(), 100, &[])
+}
+
+fn devices_over<'a>(
+    alloc: Global,
+    day: Day<'a>,
+    words: Vec<&'a str>,
+    source: MemSource,
+) -> Result<Devices<'a>, AllocError> {
+    match panel_of(alloc, day) {
+        Ok(panel) => devices_with(alloc, day, words, source, panel),
+        Err(AllocError) => {
+            drop(words);
+            drop(source);
             Err(AllocError)
         }
     }
@@ -312,38 +339,44 @@ fn panel_of(alloc: Global, day: Day) -> Result<MemPanel, AllocError> {
     MemPanel::new(alloc, answers.as_slice(), &reach, &share)
 }
 
-fn devices_with<K: Drop>(
+fn devices_with<'a>(
     alloc: Global,
-    day: Day,
-    sink: K,
+    day: Day<'a>,
+    words: Vec<&'a str>,
+    source: MemSource,
     panel: MemPanel,
-) -> Result<Devices<K>, AllocError> {
+) -> Result<Devices<'a>, AllocError> {
     match door_of(alloc, day) {
-        Ok(door) => devices_and_records(alloc, day, sink, panel, door),
+        Ok(door) => devices_and_records(alloc, day, words, source, panel, door),
         Err(AllocError) => {
-            drop(sink);
+            drop(words);
+            drop(source);
             drop(panel);
             Err(AllocError)
         }
     }
 }
 
-fn devices_and_records<K: Drop>(
+fn devices_and_records<'a>(
     alloc: Global,
-    day: Day,
-    sink: K,
+    day: Day<'a>,
+    words: Vec<&'a str>,
+    source: MemSource,
     panel: MemPanel,
     door: MemDoor,
-) -> Result<Devices<K>, AllocError> {
+) -> Result<Devices<'a>, AllocError> {
     match MemRecorder::new(alloc, day.size("holds"), day.number("lend")) {
         Ok(records) => Ok(Devices {
-            sink,
+            words,
+            source,
+            records,
+            log: LineLog::new(alloc, MemWire::new(alloc, day.number("keeps"))),
             panel,
             door,
-            records,
         }),
         Err(AllocError) => {
-            drop(sink);
+            drop(words);
+            drop(source);
             drop(panel);
             drop(door);
             Err(AllocError)
@@ -351,80 +384,16 @@ fn devices_and_records<K: Drop>(
     }
 }
 
-// A service that is run, over this sink.
-fn ended<R, G: Gate + Sync, K: Sink + Send + Drop>(
-    rt: &R,
-    alloc: Global,
-    day: Day,
-    gate: &G,
-    sink: K,
-) -> Result<Ended<MemDoor, MemPanel, MemRecorder, K>, AllocError>
-where
-    R: Net<Listener = TcpListener, Stream = TcpStream>
-        + Files
-        + AllocGlobal
-        + Clock
-        + Wait
-        + Threads
-        + Sync,
-{
-    match source_of(alloc, day) {
-        Ok(source) => {
-            let mut source = source;
-            let ended = ended_over(rt, alloc, day, gate, sink, &mut source);
-            drop(source);
-            ended
-        }
-        Err(AllocError) => {
-            drop(sink);
-            Err(AllocError)
-        }
-    }
-}
+// What comes back from a day.
+type DayEnd<K> = HandedBack<MemDoor, MemPanel, MemRecorder, K, LineLog<MemWire>>;
 
-// The input of a day.
-fn source_of(alloc: Global, day: Day) -> Result<MemSource, AllocError> {
-    let policy = spelled(alloc, day.at("policy"))?;
-    MemSource::new(alloc, policy.as_slice(), 100, &[])
-}
-
-// The same with this source.
-fn ended_over<R, G: Gate + Sync, K: Sink + Send + Drop>(
-    rt: &R,
-    alloc: Global,
-    day: Day,
-    gate: &G,
-    sink: K,
-    source: &mut MemSource,
-) -> Result<Ended<MemDoor, MemPanel, MemRecorder, K>, AllocError>
-where
-    R: Net<Listener = TcpListener, Stream = TcpStream>
-        + Files
-        + AllocGlobal
-        + Clock
-        + Wait
-        + Threads
-        + Sync,
-{
-    match words_of(alloc, day.at("words")) {
-        Ok(words) => ended_by(rt, alloc, day, gate, sink, source, words.as_slice()),
-        Err(AllocError) => {
-            drop(sink);
-            Err(AllocError)
-        }
-    }
-}
-
-// And with these words.
+// A service that is run over these devices and this sink.
 fn ended_by<R, G: Gate + Sync, K: Sink + Send + Drop>(
     rt: &R,
-    alloc: Global,
-    day: Day,
-    gate: &G,
+    devices: Devices,
     sink: K,
-    source: &mut MemSource,
-    words: &[&str],
-) -> Result<Ended<MemDoor, MemPanel, MemRecorder, K>, AllocError>
+    gate: &G,
+) -> DayEnd<K>
 where
     R: Net<Listener = TcpListener, Stream = TcpStream>
         + Files
@@ -435,12 +404,20 @@ where
         + Sync,
 {
     let Devices {
-        sink,
+        words,
+        source,
+        records,
+        log,
         panel,
         door,
+    } = devices;
+    let mut source = source;
+    let sinks = Sinks {
+        output: sink,
         records,
-    } = devices_of(alloc, day, sink)?;
-    Ok(run(rt, words, source, records, sink, door, panel, gate))
+        log,
+    };
+    run(rt, words.as_slice(), &mut source, sinks, door, panel, gate)
 }
 
 // What a service came to is what is due.
@@ -448,8 +425,9 @@ fn compare<K: Shown>(
     rt: &impl Abort,
     alloc: Global,
     day: Day,
-    ended: &Ended<MemDoor, MemPanel, MemRecorder, K>,
+    end: &DayEnd<K>,
 ) -> Result<(), AllocError> {
+    let ended = &end.ended;
     assert_eq!(rt; u64::from(ended.status), day.number("status"));
     let told = told_in(alloc, ended.reports.as_slice())?;
     assert!(rt;
@@ -465,6 +443,16 @@ fn compare<K: Shown>(
         is_due(written.as_slice(), day.at("written")),
         "{}",
         day.at("written")
+    );
+    let Some(log) = &end.log else {
+        return Err(AllocError);
+    };
+    let mut logged = Vec::new(alloc);
+    show(log.wire().requests(), &mut logged)?;
+    assert!(rt;
+        is_due(logged.as_slice(), day.at("logged")),
+        "{}",
+        day.at("logged")
     );
     Ok(())
 }
@@ -494,10 +482,11 @@ where
         + Sync
         + Abort,
 {
-    let mut ended = ended(rt, alloc, day, gate, sink)?;
-    let compared = compare(rt, alloc, day, &ended);
-    let means = mem::replace(&mut ended.means, Vec::new(alloc));
-    mem::forget(ended);
+    let devices = devices_of(alloc, day)?;
+    let mut end = ended_by(rt, devices, sink, gate);
+    let compared = compare(rt, alloc, day, &end);
+    let means = mem::replace(&mut end.ended.means, Vec::new(alloc));
+    mem::forget(end);
     let recorded = recorded_by(alloc, means)?;
     assert!(rt;
         recorded.as_slice() == day.at("recorded").as_bytes(),

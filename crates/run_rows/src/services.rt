@@ -92,6 +92,69 @@ fn faults_end_a_service(rt: HostRuntime) -> Result<(), AllocError> {
     try_days(&rt, rt.alloc(), FAULTS, POLICY)
 }
 
+// A service with a log: what is sent to its keeper, the output being sent nothing. The fifth line is not kept at the third day, and the first one
+// not at the fourth.
+const LOGGED: &str = "words=serve 127.0.0.1:1 2 3 log keeper:1
+keeps=9
+status=0
+written=
+logged=have 1 nexus 2|have 2 principal alice pa|have 3 authority 1 mem|have 4 7 alice object f|
+
+words=serve 127.0.0.1:1 2 3 300 log keeper:1
+keeps=9
+talks=raw 0000000c010005616c69636500027061\
+    0000000405000167
+status=0
+told=welcome 8 1|done 2 1|closed|
+written=
+logged=have 1 nexus 2|have 2 principal alice pa|have 3 authority 1 mem|have 4 7 alice object f|put 5 8 alice object g|
+
+words=serve 127.0.0.1:1 2 3 log keeper:1
+keeps=4
+talks=raw 0000000c010005616c69636500027061\
+    0000000405000167\
+    0000000405000168
+status=5
+told=welcome 8 1|refused 1 NotRecorded|refused 1 NotRecorded|closed|
+written=
+logged=have 1 nexus 2|have 2 principal alice pa|have 3 authority 1 mem|have 4 7 alice object f|put 5 8 alice object g|
+
+words=serve 127.0.0.1:1 2 3 log keeper:1
+status=5
+written=
+logged=have 1 nexus 2|
+
+words=serve 127.0.0.1:1 2 3 log keeper:1
+policy=nexus 2|principal alice pa|7 alice object f|end|1 hello alice pa|
+keeps=9
+status=3
+written=refused line 5|
+
+words=serve 127.0.0.1:1 2 3 log
+status=2
+written=
+
+words=serve 127.0.0.1:1 2 3 log help
+status=2
+written=
+
+words=serve 127.0.0.1:1 2 3 log -a
+status=2
+written=
+
+words=serve 127.0.0.1:1 2 3 log keeper:1 records
+status=2
+written=
+
+words=serve 127.0.0.1:1 2 3 log keeper:1 log keeper:1
+status=2
+written=";
+
+#[test]
+fn the_text_of_a_service_is_kept_by_a_log(rt: HostRuntime) -> Result<(), AllocError> {
+    try_days(&rt, rt.alloc(), LOGGED, POLICY)
+}
+
 // The most workers, the most sessions, and each bound of the patience.
 const PATIENT: &str = "words=serve 127.0.0.1:1 1024 1
 status=0

@@ -2,12 +2,9 @@
 use Rattle.std.specs.Option.{option_or}
 use Rattle.std.specs.Prelude.{option_map}
 use Rattle.std.proofs.Common.{◌≡◌, ℕ, Bool, true, false, not, List, Option, None, Some, refl, sym, ap, subst, ◌∙◌}
-use Rattle.authority_ask.specs.PanelCalls.{PanelHistory}
-use Rattle.nexus_serve.specs.Hosting.{Plan}
-use Rattle.nx_io.specs.Views.{DoorView, RecorderView, SinkView}
-use Rattle.run_streams.specs.Runs.{SourceRun}
-use Rattle.service_commands.specs.Services.{EndedView, EndsService, HandsBack, RunsService, only_where}
-use Rattle.service_commands.proofs.ServiceEnds.{IsStillUnsent, runs_service, still_unsent}
+use Rattle.nx_io.specs.Views.{RecorderView}
+use Rattle.service_commands.specs.Services.{EndedView, HandsBack, only_where}
+use Rattle.service_commands.proofs.ServiceEnds.{IsStillUnsent}
 
 -- nothing is handed back of a recorder where there was none
 none_back : {R : Type 0} (view : R → RecorderView) (back : Option R) → option_map view back ≡ None → back ≡ None
@@ -49,10 +46,10 @@ module _ {R : Type 0} (view : R → RecorderView) (given : R) (back : Option R) 
   told_in true = refl
   told_in false = refl
 
-module _ {P C R : Type 0} (view : R → RecorderView) {panel : P → PanelHistory} {plan : Plan} {source : SourceRun} {sink : SinkView} {door : DoorView} {asked : P} (recording : Bool) (given : R) (back : Option R) (ended : EndedView P C)
-    (recorder_is : ended.recorder ≡ option_map view back) (ends : EndsService panel plan source sink door asked (option_map view (only_where recording (Some given))) ended) where
+module _ {P C R : Type 0} (view : R → RecorderView) (recording : Bool) (given : R) (back : Option R) (ended : EndedView P C) (recorder_is : ended.recorder ≡ option_map view back)
+    (still : IsStillUnsent (option_map view (only_where recording (Some given))) ended.recorder) where
   unsent : IsStillUnsent (option_map view (only_where recording (Some given))) (option_map view back)
-  unsent = subst (IsStillUnsent (option_map view (only_where recording (Some given)))) recorder_is (still_unsent panel plan source sink door asked _ ended ends)
+  unsent = subst (IsStillUnsent (option_map view (only_where recording (Some given)))) recorder_is still
 
   pub sink_back : HandsBack (sink_of recording given back) (λ (r : R). (view r).sent ≡ (view given).sent)
   sink_back = sink_unsent view given back recording unsent
@@ -60,9 +57,11 @@ module _ {P C R : Type 0} (view : R → RecorderView) {panel : P → PanelHistor
   pub aside_back : recording ≡ false → HandsBack (sink_of recording given back) (λ (r : R). r ≡ given)
   aside_back = sink_same view given back recording unsent
 
-  pub runs_beside : RunsService panel plan source sink door asked (only_where recording (Some (view given))) (record ended { recorder = only_where recording (option_map view (sink_of recording given back)) })
-  runs_beside =
+  -- what holds of a run over the recorder holds of it over the sink, where this is the recorder
+  pub beside : (Holds : Option RecorderView → EndedView P C → Type 0) → Holds (option_map view (only_where recording (Some given))) ended
+      → Holds (only_where recording (Some (view given))) (record ended { recorder = only_where recording (option_map view (sink_of recording given back)) })
+  beside Holds holds =
       let told = recorder_is ∙ told_back view given back recording unsent in
       let same : ended ≡ record ended { recorder = only_where recording (option_map view (sink_of recording given back)) } = ap (λ (r : Option RecorderView). record ended { recorder = r }) told in
-      subst (λ (e : EndedView P C). RunsService panel plan source sink door asked (only_where recording (Some (view given))) e) same
-      (subst (λ (r : Option RecorderView). RunsService panel plan source sink door asked r ended) (told_in view given back recording) (runs_service panel plan source sink door asked _ ended ends))
+      subst (λ (e : EndedView P C). Holds (only_where recording (Some (view given))) e) same
+      (subst (λ (r : Option RecorderView). Holds r ended) (told_in view given back recording) holds)

@@ -1,4 +1,5 @@
 pub mod ServiceEnds
+pub mod LoggedEnds
 pub mod Asides
 pub mod ClientEnds
 pub mod AuditedServices

@@ -31,7 +31,7 @@ use Rattle.service_commands.specs.declared.service.PolicyTextError.{PolicyTextEr
 use Rattle.service_commands.specs.declared.service.PolicyTextError.TheVariants.{Wrong as WrongText, Memory as TextMemory}
 use Rattle.run_streams.specs.Refusals.{IsRefusal, RefusesExactly}
 use Rattle.service_commands.specs.Inner.ServiceEnds.{IsWrongText}
-use Rattle.service_commands.specs.Services.{EndedView, EndsService, HandsBack, HasFailedToRecord, IsCompleteService, IsPolicy, IsPolicyOf, IsServedWhole, IsUnbegun, IsUnserved, IsWrongPolicy, RunsService, hosted, hosted_of, in_policy, most_session, policy_form, sink_between, unbegun}
+use Rattle.service_commands.specs.Services.{EndedView, EndsService, HandsBack, HasFailedToRecord, IsCompleteService, IsPolicy, IsPolicyOf, IsServedWhole, IsUnserved, IsWrongPolicy, RunsService, hosted, hosted_of, in_policy, most_session, policy_form, sink_between, unbegun}
 
 -- a count over more calls rose where one of these failed
 more_faults : {Call : Type 0} (fails : Call → Bool) (calls more : List Call) (last : Call) → fails last ≡ true
@@ -119,7 +119,7 @@ abbrev pub IsStillUnsent : Option RecorderView → Option RecorderView → Type 
 IsStillUnsent None recorder_now = recorder_now ≡ None
 IsStillUnsent (Some recorder) recorder_now = HandsBack recorder_now (λ (r : RecorderView). r.sent ≡ recorder.sent)
 
-unsent_same : (recorder recorder_now : Option RecorderView) → recorder_now ≡ recorder → IsStillUnsent recorder recorder_now
+pub unsent_same : (recorder recorder_now : Option RecorderView) → recorder_now ≡ recorder → IsStillUnsent recorder recorder_now
 unsent_same None recorder_now same = same
 unsent_same (Some recorder) recorder_now same = subst (IsStillUnsent (Some recorder)) (sym same) refl
 
@@ -174,7 +174,7 @@ module _ {P C : Type 0} (panel : P → PanelHistory) (plan : Plan) (source : Sou
     complete_serves (unopened sink_now journal output cut rose reports ds ps un e) = absurd (unfailed sink_now output rose)
     complete_serves (nothing_served journal output reports ds ps un e) = inl (record { status = had_no_memory e; reports = reports; output = output })
 
-  complete_hosts : ((sink_now : SinkView) → ended.output ≡ Some sink_now → Rose sink.faults sink_now.faults → ⊥) → (Rose (faults_in door.calls) (faults_in ended.door.calls) → ⊥) → (Rose (panels.faults_in (panel asked).calls) (panels.faults_in (panel ended.panel).calls) → ⊥)
+  pub complete_hosts : ((sink_now : SinkView) → ended.output ≡ Some sink_now → Rose sink.faults sink_now.faults → ⊥) → (Rose (faults_in door.calls) (faults_in ended.door.calls) → ⊥) → (Rose (panels.faults_in (panel asked).calls) (panels.faults_in (panel ended.panel).calls) → ⊥)
       → (HasFailedToRecord recorder ended.recorder → ⊥)
       → (head : Head) (opening : List Entry) (written : Bool) (end : ServeEnd) → IsPolicyOf source (most_session plan) head (entry_trees opening)
       → Hosts panel plan head opening sink door asked recorder (hosted_of ended written end) → IsUnserved sink ended ⊎ IsServedWhole panel plan source sink door asked recorder ended
@@ -190,7 +190,7 @@ module _ {P C : Type 0} (panel : P → PanelHistory) (plan : Plan) (source : Sou
       let six = unanswered_memory (policy_form (most_session plan)) source (sink_between sink sink_now) ended.status ends p (q sink_now output) form in
       inl (record { status = six; reports = idle.reports; output = output ∙ ap Some (kept (inr six)) })
 
-  not_three : (h : Head) (opening : List Entry) (written : Bool) (end : ServeEnd) → Hosts panel plan h opening sink door asked recorder (hosted_of ended written end) → ended.status ≡ 3 → ⊥
+  pub not_three : (h : Head) (opening : List Entry) (written : Bool) (end : ServeEnd) → Hosts panel plan h opening sink door asked recorder (hosted_of ended written end) → ended.status ≡ 3 → ⊥
   not_three h opening written end (served ds own ready serves status) e = never_three written end (some_cut_off ended.means) (sym status ∙ e)
   not_three h opening written end (unreached status idle same none failed still) e = apart ended.status 8 3 status e refl
   not_three h opening written end (unlent lent status idle same none count called failed) e = apart ended.status 5 3 status e refl
@@ -206,7 +206,7 @@ module _ {P C : Type 0} (panel : P → PanelHistory) (plan : Plan) (source : Sou
   pub runs_service : EndsService panel plan source sink door asked recorder ended → RunsService panel plan source sink door asked recorder ended
   runs_service e = record { ends = e; complete = complete e; refuses = refuses e }
 
-  unsent_hosts : (h : Head) (opening : List Entry) (written : Bool) (end : ServeEnd) → Hosts panel plan h opening sink door asked recorder (hosted_of ended written end)
+  pub unsent_hosts : (h : Head) (opening : List Entry) (written : Bool) (end : ServeEnd) → Hosts panel plan h opening sink door asked recorder (hosted_of ended written end)
       → IsStillUnsent recorder ended.recorder
   unsent_hosts h opening written end (served ds own ready serves status) = unsent_lent plan.workers recorder ended.recorder ready.lent
   unsent_hosts h opening written end (unreached status idle same none failed still) = unsent_same recorder ended.recorder still

@@ -1,3 +1,4 @@
 pub mod Services
+pub mod Logged
 pub mod Clients
 pub mod Inner

@@ -4,8 +4,10 @@
 
 mod clients;
 mod ends;
+mod logged;
 mod service;
 
 pub use clients::{ClientEnd, TalkCall, client};
 pub use ends::Ended;
+pub use logged::{LoggedService, run_logged_service};
 pub use service::{Service, run_service};

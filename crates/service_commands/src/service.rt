@@ -40,7 +40,7 @@ pub struct Service<'a> {
 
 impl<'a> Service<'a> {
     /// For how many seconds it waits for a peer that is admitted.
-    fn seconds(&self) -> u64
+    pub(crate) fn seconds(&self) -> u64
         ensures { result ≡ patience_in self.now.patience }
     {
         match self.patience {
@@ -127,7 +127,11 @@ where
 }
 
 /// Reads the input of a service, in which no session's number is above the bound.
-fn read_policy_input<S: Source>(alloc: Global, input: &mut S, most: u64) -> Result<Journal, Unread>
+pub(crate) fn read_policy_input<S: Source>(
+    alloc: Global,
+    input: &mut S,
+    most: u64,
+) -> Result<Journal, Unread>
     ensures gave { HasGiven S.Source input.old input.new }
     ensures ok { IfOk result (λ journal. IsPolicyOf
         (source_run S.Source input.old input.new) most journal.head (entry_trees journal.entries)) }
@@ -191,7 +195,7 @@ fn read_policy_text(alloc: Global, text: &[u8], most: u64) -> Result<Journal, Po
 }
 
 /// The end of a service that was hosted.
-fn ended_by<D: Door + Drop, P: Panel + Drop, C: Recorder + Drop, K: Sink + Drop>(
+pub(crate) fn ended_by<D: Door + Drop, P: Panel + Drop, C: Recorder + Drop, K: Sink + Drop>(
     hosted: Hosted<D, P, C, K>,
 ) -> Ended<D, P, C, K>
 where
@@ -230,7 +234,7 @@ where
 }
 
 /// The end of a service that was not begun.
-fn unserved<D: Door + Drop, P: Panel + Drop, C: Recorder + Drop, K: Sink + Drop>(
+pub(crate) fn unserved<D: Door + Drop, P: Panel + Drop, C: Recorder + Drop, K: Sink + Drop>(
     alloc: Global,
     status: u8,
     output: K,

@@ -1,93 +1,56 @@
-use Rattle.std.proofs.Common.{◌≤◌, ◌*◌, [], inl, inr, refl, arith}
+use Rattle.std.proofs.Common.{◌≤◌, ◌*◌, map, inl, inr, refl, sym, ◌∙◌, arith}
 use Rattle.std.proofs.lemmas.Nat.{mul-le}
-use Rattle.nx_io.specs.Views.{SinkView, sink_view}
-use Rattle.service_commands.proofs.ForCallers.{handed_audited, none_audited, service_audited}
+use Rattle.service_commands.specs.Services.{patience_in}
+use Rattle.nexus_run.specs.Commands.{IsLoggedCall}
 use Rattle.nexus_run.specs.Runs.{told_by}
-use Rattle.nexus_run.proofs.Running.{handed, none_runs, plain_runs, service_runs, talk_runs}
-use Rattle.nexus_run.proofs.TrueRuns.{no_journal, no_report_true, service_true}
+use Rattle.nexus_run.proofs.LoggedRuns.{logged_true, serves_logged}
+use Rattle.nexus_run.proofs.Words.{logged_same}
 use Rattle.nexus_run.proofs.program.run.Goals as goal
 
--- ---- No command
+-- ---- A run without a log
+
+pub returns-in_default-clause-other_words : goal.returns-in_default-clause-other_words
+returns-in_default-clause-other_words g c = λ none. c.run_unlogged.ensures.other_words (λ is. none (inl is))
 
 pub returns-in_default-clause-runs : goal.returns-in_default-clause-runs
-returns-in_default-clause-runs g c =
-    rw c.handed_back.ensures
-    (none_runs (told_by g.S.Source g.K.Sink g.C.Sink g.C.Recorder g.D.Door g.D.Link.Link g.P.Panel.history) _
-    (record { input = c.args.input.now; output = c.args.output; records = c.args.records; door = c.args.door; panel = c.args.panel }) _ c.in_default.ensures)
+returns-in_default-clause-runs g c = record {
+  unlogged = λ unlogged. (c.run_unlogged.ensures.runs, rw c.run_unlogged.ensures.log refl);
+  audited = λ unlogged. c.run_unlogged.ensures.audited;
+  logged = λ a m n p r x are within is. absurd (c.in_default.ensures (a, m, n, p, r, x, within, is, are));
+}
 
 pub returns-in_default-clause-earned : goal.returns-in_default-clause-earned
-returns-in_default-clause-earned g c = λ h es is. rw c.handed_back.ensures (no_report_true h es _ _ refl refl)
+returns-in_default-clause-earned g c = c.run_unlogged.ensures.earned
 
-pub returns-in_default-clause-audited : goal.returns-in_default-clause-audited
-returns-in_default-clause-audited g c = rw c.handed_back.ensures (none_audited {P = g.row.P.Denot} {C = g.row.C.Denot} _ _ _ [] refl)
+-- ---- A service with a log
 
--- ---- A service
+pub returns-clause-other_words : goal.returns-clause-other_words
+returns-clause-other_words g c =
+    let call = c.in-Some.call in
+    let mine = c.in-Some.ensures in
+    λ none. absurd (none (inr (call.service.address.now, call.service.workers, call.service.sessions, call.service.patience, call.service.records, call.log.now, mine.0, mine.1, mine.2)))
 
-pub returns-in-Serve-clause-other_words : goal.returns-in-Serve-clause-other_words
-returns-in-Serve-clause-other_words g c =
-    let mine = rw c.in-Serve.is at c.in-Some.ensures in
-    let service = c.in-Serve.service in
-    λ none. absurd (none (inr (inl (service.address.now, service.workers, service.sessions, service.patience, service.records, mine.0, mine.1))))
+pub returns-clause-runs : goal.returns-clause-runs
+returns-clause-runs g c =
+    let call = c.in-Some.call in
+    let service = call.service in
+    let mine = c.in-Some.ensures in
+    let ended = c.run_logged_service-ended in
+    let small : service.workers * service.sessions ≤ 1024 * 65536 = mul-le service.workers service.sessions 1024 65536 mine.0.workers_are.1 mine.0.sessions_are.1 in
+    let is_logged : IsLoggedCall (map (λ w. w.now) c.args.words.now) = (service.address.now, service.workers, service.sessions, service.patience, service.records, call.log.now, mine.0, mine.1, mine.2) in
+    record {
+      unlogged = λ unlogged. absurd (unlogged is_logged);
+      audited = λ unlogged. absurd (unlogged is_logged);
+      logged = λ a m n p r x are within is.
+          let same = logged_same a m n p r x service.address.now service.workers service.sessions service.patience service.records call.log.now within mine.0 (sym are ∙ mine.2) in
+          rw (same.0.0, same.0.1, same.0.2, same.0.3, same.0.4, same.1, c.beside_output.ensures.ended, c.beside_output.ensures.log, c.with_records.ensures, c.recorder-recorder.ensures.aside)
+          (serves_logged (told_by g.S.Source g.K.Sink g.C.Sink g.C.Recorder g.D.Door g.D.Link.Link g.P.Panel.history)
+          (record { input = c.args.input.now; output = c.args.sinks.output; records = c.args.sinks.records; door = c.args.door; panel = c.args.panel })
+          (record { sink = g.J.Sink; teller = g.J.Log; log = c.args.sinks.log; address = call.log.now }) _
+          (record { address = service.address.now; workers = service.workers; sessions = service.sessions; patience = patience_in service.patience }) service.records
+          ended.result ended.new.output ended.ensures.gave ended.ensures.dialed (omega (arith, small)) (rw c.recorder-recorder.ensures.recorder at ended.ensures.ends));
+    }
 
-pub returns-in-Serve-clause-runs : goal.returns-in-Serve-clause-runs
-returns-in-Serve-clause-runs g c =
-    let mine = rw c.in-Serve.is at c.in-Some.ensures in
-    let service = c.in-Serve.service in
-    let ended = c.run_service-ended in
-    rw (c.with_records.ensures, c.recorder-recorder.ensures.aside)
-    (service_runs (told_by g.S.Source g.K.Sink g.C.Sink g.C.Recorder g.D.Door g.D.Link.Link g.P.Panel.history) _
-    (record { input = c.args.input.now; output = c.args.output; records = c.args.records; door = c.args.door; panel = c.args.panel }) _
-    service.address.now service.workers service.sessions service.patience service.records mine.0 mine.1 ended.result ended.ensures.gave ended.ensures.dialed (rw c.recorder-recorder.ensures.recorder at ended.ensures.ends))
-
-pub returns-in-Serve-clause-earned : goal.returns-in-Serve-clause-earned
-returns-in-Serve-clause-earned g c = λ h es is. rw c.with_records.ensures (service_true h es c.run_service-ended.ensures.ends (rw c.with_records.ensures at is))
-
-pub returns-in-Serve-clause-audited : goal.returns-in-Serve-clause-audited
-returns-in-Serve-clause-audited g c =
-    let within = (rw c.in-Serve.is at c.in-Some.ensures).0 in
-    let view : g.row.K.Denot → SinkView = sink_view g.K.Sink in
-    let small : c.in-Serve.service.workers * c.in-Serve.service.sessions ≤ 1024 * 65536 = mul-le c.in-Serve.service.workers c.in-Serve.service.sessions 1024 65536 within.workers_are.1 within.sessions_are.1 in
-    rw c.with_records.ensures (handed_audited view (view c.args.output) _ c.run_service-ended.result.output (service_audited (omega (arith, small)) c.run_service-ended.ensures.ends))
-
--- ---- A talk
-
-pub returns-in-Talk-clause-other_words : goal.returns-in-Talk-clause-other_words
-returns-in-Talk-clause-other_words g c =
-    let mine = rw c.in-Talk.is at c.in-Some.ensures in
-    λ none. absurd (none (inr (inr (c.in-Talk.talk.input, c.in-Talk.talk.address.now, mine.0, mine.1))))
-
-pub returns-in-Talk-clause-runs : goal.returns-in-Talk-clause-runs
-returns-in-Talk-clause-runs g c =
-    let mine = rw c.in-Talk.is at c.in-Some.ensures in
-    let e = c.run_talk.ensures in
-    talk_runs (told_by g.S.Source g.K.Sink g.C.Sink g.C.Recorder g.D.Door g.D.Link.Link g.P.Panel.history) _
-    (record { input = c.args.input.now; output = c.args.output; records = c.args.records; door = c.args.door; panel = c.args.panel }) _
-    c.in-Talk.talk.input c.in-Talk.talk.address.now mine.0 mine.1 c.run_talk.result e.gave e.sent e.untouched e.undialed e.talk e.unused
-
-pub returns-in-Talk-clause-earned : goal.returns-in-Talk-clause-earned
-returns-in-Talk-clause-earned g c = λ h es is. absurd (no_journal _ h es c.run_talk.ensures.unused.0 is)
-
-pub returns-in-Talk-clause-audited : goal.returns-in-Talk-clause-audited
-returns-in-Talk-clause-audited g c = handed c.run_talk.result.output (λ k grows. none_audited _ _ _ _ c.run_talk.ensures.unused.4) c.run_talk.ensures.sent
-
--- ---- Another command
-
-pub returns-in-Plain-clause-other_words : goal.returns-in-Plain-clause-other_words
-returns-in-Plain-clause-other_words g c =
-    let mine = rw c.in-Plain.is at c.in-Some.ensures in
-    λ none. absurd (none (inl (c.in-Plain.command, mine.0, mine.1)))
-
-pub returns-in-Plain-clause-runs : goal.returns-in-Plain-clause-runs
-returns-in-Plain-clause-runs g c =
-    let mine = rw c.in-Plain.is at c.in-Some.ensures in
-    let e = c.run_plain-end.ensures in
-    rw c.handed_back-in-Plain.ensures
-    (plain_runs (told_by g.S.Source g.K.Sink g.C.Sink g.C.Recorder g.D.Door g.D.Link.Link g.P.Panel.history) _
-    (record { input = c.args.input.now; output = c.args.output; records = c.args.records; door = c.args.door; panel = c.args.panel }) _
-    c.in-Plain.command mine.0 mine.1 _ _ _ _ _ e.gave e.sent e.recorded e.unrecorded e.asked e.untouched e.command e.core_reads_nothing e.drill_reads_nothing e.other_panel)
-
-pub returns-in-Plain-clause-earned : goal.returns-in-Plain-clause-earned
-returns-in-Plain-clause-earned g c = λ h es is. rw c.handed_back-in-Plain.ensures (no_report_true h es _ _ refl refl)
-
-pub returns-in-Plain-clause-audited : goal.returns-in-Plain-clause-audited
-returns-in-Plain-clause-audited g c = rw c.handed_back-in-Plain.ensures (none_audited {P = g.row.P.Denot} {C = g.row.C.Denot} _ _ _ [] refl)
+pub returns-clause-earned : goal.returns-clause-earned
+returns-clause-earned g c = λ h es is.
+    rw (c.beside_output.ensures.ended, c.with_records.ensures) (logged_true h es c.run_logged_service-ended.ensures.ends (rw (c.beside_output.ensures.ended, c.with_records.ensures) at is))
