@@ -10,7 +10,8 @@ pub trait Log: Sink {
     /// The addresses at which it was asked to be reached, in order.
     ghost asked: { Self → List (List ℕ) };
 
-    /// Connects to the keeper at an address. Where it fails, so does each write from then on.
+    /// Connects to the keeper at an address, and sends nothing. What becomes of writes is not said here of every log: `LineLog` says of itself
+    /// that it takes nothing once this has failed.
     ///
     /// `Failed` comes only where the log failed in this call. The count of faults rises by one at `Failed` and at no other answer.
     fn reach<R: Net<Listener = TcpListener, Stream = TcpStream>>(

@@ -33,8 +33,8 @@ use std::thread::Threads;
 // `holds`: how many bytes each share of the sink for records holds, and `lend`, the number of the share that fails. `keeps`: how many lines the
 // keeper of a log keeps.
 //
-// Then `status`; `told`, what the sessions are told, one after another, and how each ends; `written`; `logged`, what was sent to a keeper; and `recorded`, what was recorded, a worker
-// after the other, with `&` behind each. Where these begin with `..` they are the end.
+// Then `status`; `told`, what the sessions are told, one after another, and how each ends; `written`; `logged`, what was sent to a keeper; and
+// `recorded`, what was recorded, a worker after the other, with `&` behind each. Where these begin with `..` they are the end.
 #[derive(Clone, Copy)]
 pub struct Day<'a> {
     pub own: &'a str,
