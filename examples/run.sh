@@ -1,6 +1,6 @@
 #!/usr/bin/env bash
-# Runs each example of `nexus check`, `script`, `trust`, `prove`, `audit`, `explain` and `recover` and compares what it prints, byte for byte, and its exit
-# status; has `nexus check` check each proof that was found; then the other ways in which the program ends; then plays `nexus serve`,
+# Runs each example of `nexus check`, `script`, `trust`, `prove`, `audit`, `explain` and `recover` and compares what it prints, byte for byte, its exit
+# status, and what it tells on standard error, which is nothing where there is no file `told`; has `nexus check` check each proof that was found; then the other ways in which the program ends; then plays `nexus serve`,
 # also with peers that hold workers, over local sockets and with a log, where there is a Python of 3.9 or later; then the commands of
 # README and TOUR, the recipes of docs/OPERATING.md, the client for programs, and the manual page; then the client in Go, what stands
 # beside web servers, a tunnel, and pictures of proofs.
@@ -20,8 +20,9 @@ failed=0
 for folder in "$examples"/check/*/ "$examples"/script/*/ "$examples"/trust/*/ "$examples"/prove/*/ "$examples"/audit/*/ "$examples"/explain/*/ "$examples"/recover/*/; do
     name=$(basename "$folder")
     command=$(basename "$(dirname "$folder")")
-    "$program" "$command" <"$folder/input" >"$work/output"
+    "$program" "$command" <"$folder/input" >"$work/output" 2>"$work/errors"
     status=$?
+    told=$(cat "$folder/told" 2>/dev/null)
     if [ "$status" -eq 70 ]; then
         echo "$name: the program was not built"
         exit 1
@@ -33,16 +34,22 @@ for folder in "$examples"/check/*/ "$examples"/script/*/ "$examples"/trust/*/ "$
     elif [ "$status" != "$wanted" ]; then
         echo "$name: differs: wanted status $wanted, got $status"
         failed=$((failed + 1))
+    elif [ "$(cat "$work/errors")" != "$told" ]; then
+        echo "$name: differs: wanted to be told '$told', got '$(head -c 200 "$work/errors")'"
+        failed=$((failed + 1))
     else
         passed=$((passed + 1))
     fi
 done
 
-# expect NAME STATUS OUTPUT: compares the status and the output of the run before.
+# expect NAME STATUS OUTPUT [TOLD]: compares the status and the output of the run before, and what it told in the file `errors`.
 expect() {
     local status=$?
     if [ "$status" != "$2" ] || [ "$(cat "$work/output")" != "$3" ]; then
         echo "$1: differs: wanted status $2 and '$3', got $status and '$(head -c 200 "$work/output")'"
+        failed=$((failed + 1))
+    elif [ $# -gt 3 ] && [ "$(cat "$work/errors")" != "$4" ]; then
+        echo "$1: differs: wanted to be told '$4', got '$(head -c 200 "$work/errors")'"
         failed=$((failed + 1))
     else
         passed=$((passed + 1))
@@ -80,8 +87,8 @@ expect 'a word too many of a script' 2 ''
 : >"$work/output"
 "$program" script <"$day" >/dev/full
 expect 'a script whose output cannot be written' 5 ''
-"$program" script </dev/null >"$work/output"
-expect 'a script without a line' 3 'refused line 1'
+"$program" script </dev/null >"$work/output" 2>"$work/errors"
+expect 'a script without a line' 3 'refused line 1' 'line 1, byte 1: EndOfInput'
 # Nobody listens at this address.
 printf 'nexus 2\nauthority 3 127.0.0.1:1\nend\n' | "$program" script >"$work/output"
 expect 'an authority that cannot be reached' 8 ''
@@ -90,8 +97,8 @@ expect 'a word too many of a question of trust' 2 ''
 : >"$work/output"
 "$program" trust <"$examples/trust/safe/input" >/dev/full
 expect 'an answer that cannot be written' 5 ''
-"$program" trust </dev/null >"$work/output"
-expect 'a question of trust without a line' 3 'refused line 1'
+"$program" trust </dev/null >"$work/output" 2>"$work/errors"
+expect 'a question of trust without a line' 3 'refused line 1' 'line 1, byte 1: EndOfInput'
 # A load reads nothing: its input is a folder, which cannot be read.
 "$program" core 0 1 </ >"$work/output"
 expect 'a load of one step' 0 'steps 1 idle 0 writes 0 allowed 0 denied 0 length 4'
@@ -128,8 +135,8 @@ expect 'a word too many of an explanation' 2 ''
 : >"$work/output"
 "$program" explain <"$examples/explain/no_goal_is_set/input" >/dev/full
 expect 'an explanation that cannot be written' 5 ''
-"$program" explain </dev/null >"$work/output"
-expect 'an explanation without a line' 3 'refused line 1'
+"$program" explain </dev/null >"$work/output" 2>"$work/errors"
+expect 'an explanation without a line' 3 'refused line 1' 'line 1, byte 1: EndOfInput'
 # As many records as there may be, and one more. Five lines stand before the first.
 records() {
     printf 'nexus audit 1\nnexus 2\nprincipal alice pa\n1 alice object f\nend\n'
@@ -138,8 +145,8 @@ records() {
 }
 records 65536 | "$program" audit >"$work/output"
 expect 'as many records as there may be' 0 'audited 65536'
-records 65537 | "$program" audit >"$work/output"
-expect 'a record too many' 3 'refused line 65542'
+records 65537 | "$program" audit >"$work/output" 2>"$work/errors"
+expect 'a record too many' 3 'refused line 65542' 'line 65542, byte 1: BadLine'
 # As many principals as a policy may have, and one more; the first line of the policy is the header.
 principals() {
     echo 'nexus 2'
@@ -149,15 +156,15 @@ principals() {
 principals 16384 >"$work/policy"
 "$program" recover <"$work/policy" | cmp -s - "$work/policy" && echo same >"$work/output"
 expect 'as many principals as there may be' 0 same
-principals 16385 | "$program" recover >"$work/output"
-expect 'a principal too many' 3 'refused line 16386'
+principals 16385 | "$program" recover >"$work/output" 2>"$work/errors"
+expect 'a principal too many' 3 'refused line 16386' 'line 16386, byte 1: BadLine'
 {
     principals 17 | sed '$d'
     for k in $(seq 16); do seq -f "1 p$k object o${k}x%.0f" 4096; done
     echo '1 p17 object o'
     echo end
-} | "$program" recover >"$work/output"
-expect 'an object too many' 3 'refused line 65555'
+} | "$program" recover >"$work/output" 2>"$work/errors"
+expect 'an object too many' 3 'refused line 65555' 'line 65555, byte 1: ObjectsFull'
 # A journal with as many entries as it may have: one more is refused, calls are answered, and nothing is lost.
 {
     echo 'nexus 2'
@@ -177,13 +184,13 @@ welcome 3 262144
 refused 262144 Quota
 allowed 262144 0 0'
 head -c 67108865 /dev/zero | tr '\0' a >"$work/large"
-"$program" check <"$work/large" >"$work/output"
-expect 'an input of one byte too many' 3 'refused size'
-"$program" script <"$work/large" >"$work/output"
-expect 'a script of one byte too many' 3 'refused size'
+"$program" check <"$work/large" >"$work/output" 2>"$work/errors"
+expect 'an input of one byte too many' 3 'refused size' 'byte 67108865: TooLarge'
+"$program" script <"$work/large" >"$work/output" 2>"$work/errors"
+expect 'a script of one byte too many' 3 'refused size' 'byte 67108865: TooLarge'
 head -c 67108864 "$work/large" >"$work/largest"
-"$program" check <"$work/largest" >"$work/output"
-expect 'a largest input' 3 'refused line 1'
+"$program" check <"$work/largest" >"$work/output" 2>"$work/errors"
+expect 'a largest input' 3 'refused line 1' 'line 1, byte 1: BadLine'
 
 # Deep formulas under limits on the stack and on the address space: the right answer, or status 6 and no output where there is
 # no room, and never an end by a signal. Status 127 is the loader's, which needs room of its own.

@@ -74,6 +74,11 @@ def run(words: list[str], given: str) -> tuple[int, str]:
     return done.returncode, done.stdout.decode()
 
 
+def told(words: list[str], given: str) -> str:
+    """What a run of the program tells on standard error."""
+    return subprocess.run([services.program, *words], input=given.encode(), stdout=subprocess.DEVNULL, stderr=subprocess.PIPE, timeout=60).stderr.decode()
+
+
 def exported(service: Service, name: str) -> tuple[int, str]:
     """The bundle of what a service, which may go on, has written so far."""
     status, text = run(["recover"], service.text())
@@ -146,17 +151,19 @@ def bad_peers() -> None:
         long = f"nexus bundle 1\nlabel siteA says p\nlabel {longest}\nlabel siteA says q\nend\n"
         got = imported(documents.address, "key-at-documents", long)
         check("a label that the peer can't say is refused, and the next goes on", got, (0, "welcome 3 4\ndone 5 5\nrefused 5 BadFormula\ndone 6 6\n"))
-        for what, given, line in (
-            ("no input", "", 1),
-            ("a peer without a secret", "peer siteA\nnexus bundle 1\nend\n", 1),
-            ("a peer whose name is none", "peer says key\nnexus bundle 1\nend\n", 1),
-            ("a bundle of another version", "peer siteA key\nnexus bundle 2\nend\n", 2),
-            ("a label that is not closed", "peer siteA key\nnexus bundle 1\nlabel siteA says p(?x)\nend\n", 3),
-            ("a label that nobody says", "peer siteA key\nnexus bundle 1\nlabel siteA says p\nlabel ok\nend\n", 4),
-            ("a bundle without its end", "peer siteA key\nnexus bundle 1\nlabel siteA says p\n", 4),
-            ("something behind the end", "peer siteA key\nnexus bundle 1\nend\n\n", 4),
+        for what, given, line, flaw in (
+            ("no input", "", 1, "byte 1: EndOfInput"),
+            ("a peer without a secret", "peer siteA\nnexus bundle 1\nend\n", 1, "byte 1: BadLine"),
+            ("a peer whose name is none", "peer says key\nnexus bundle 1\nend\n", 1, "byte 1: BadLine"),
+            ("a bundle of another version", "peer siteA key\nnexus bundle 2\nend\n", 2, "byte 1: BadLine"),
+            ("a label that is not closed", "peer siteA key\nnexus bundle 1\nlabel siteA says p(?x)\nend\n", 3, "byte 1: BadLine"),
+            ("a label that is no formula", "peer siteA key\nnexus bundle 1\nlabel siteA says p(\nend\n", 3, "byte 20: Unexpected"),
+            ("a label that nobody says", "peer siteA key\nnexus bundle 1\nlabel siteA says p\nlabel ok\nend\n", 4, "byte 1: BadLine"),
+            ("a bundle without its end", "peer siteA key\nnexus bundle 1\nlabel siteA says p\n", 4, "byte 1: EndOfInput"),
+            ("something behind the end", "peer siteA key\nnexus bundle 1\nend\n\n", 4, "byte 1: BadLine"),
         ):
             check(what, run(["import", documents.address], given), (3, f"refused line {line}\n"))
+            check(f"what is told of {what}", told(["import", documents.address], given), f"line {line}, {flaw}\n")
         many = "peer siteA key\nnexus bundle 1\n" + "label siteA says p\n" * 262_145 + "end\n"
         check("a label too many", run(["import", documents.address], many), (3, "refused line 262147\n"))
         for words in (["import"], ["import", "help"], ["import", "-a"], ["import", documents.address, "x"], ["export"], ["export", "says"], ["export", "a", "b"]):

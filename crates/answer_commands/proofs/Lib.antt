@@ -7,3 +7,4 @@ pub mod OneOutcome
 pub mod Only
 pub mod Justified
 pub mod Statuses
+pub mod Wrongs

@@ -1,11 +1,14 @@
 -- An input has one outcome.
 use Rattle.std.proofs.Common.{◌≡◌, ◌≢◌, ◌≤◌, ◌↔◌, ◌+◌, ◌++◌, inl, inr, ℕ, List, [], ◌∷◌, length, Bool, true, false, IsTrue, refl, sym, ap, subst, ◌∙◌, arith}
+use Rattle.std.specs.Prelude.{codes}
+use Rattle.std.specs.Fmt.{decimal}
 use Rattle.nal_term.specs.Trees.{FormulaTree}
 use Rattle.proof_lines.specs.Lines.{LineTree}
 use Rattle.nal_rules.specs.declared.verdicts.Verdict.{Verdict}
 use Rattle.run_streams.specs.declared.refusals.InputRefusal.{InputRefusal}
 use Rattle.run_streams.specs.declared.refusals.InputRefusal.TheVariants.{WrongLine, TooLarge}
-use Rattle.run_streams.specs.Refusals.{IsRefusal}
+use Rattle.run_streams.specs.Flaws.{FlawTree}
+use Rattle.run_streams.specs.Refusals.{IsRefusal, refusal_text}
 use Rattle.run_streams.specs.Runs.{most_bytes}
 use Rattle.text_lines.specs.Lines.{first_line, after_line}
 use Rattle.form_lines.specs.Statements.{IsGoal, IsStatement}
@@ -107,11 +110,11 @@ wrong_line_one : (text : List ℕ) (a b : ProofError) (j k : ℕ) → IsRefused 
 wrong_line_one text a b j k r l s m = error_line_one text a j k l (rw (← one_proof_error text a b r s) at m)
 
 -- an input is wrong in one line
-wrong_one : {text : List ℕ} {k j : ℕ} → IsWrongAt text k → IsWrongAt text j → k ≡ j
-wrong_one (before_proof r b s) (before_proof r' b' s') = ap (λ n. n + 1) (readings_one r (stuck_is_last s) r' (stuck_is_last s')).0
-wrong_one (before_proof r b s) (in_proof j r' w l e) = absurd (subst IsBeforeProof (readings_one r (stuck_is_last s) r' proof_is_last).2 b)
-wrong_one (in_proof j r w l e) (before_proof r' b' s') = absurd (subst IsBeforeProof (sym (readings_one r proof_is_last r' (stuck_is_last s')).2) b')
-wrong_one (in_proof j {rest = rest} {error = error} r w l e) (in_proof i {rest = rest'} {error = error'} r' w' l' e') =
+wrong_one : {text : List ℕ} {k j : ℕ} {flaw other : FlawTree} → IsWrongAt text k flaw → IsWrongAt text j other → k ≡ j
+wrong_one (before_proof r b s f) (before_proof r' b' s' f') = ap (λ n. n + 1) (readings_one r (stuck_is_last s) r' (stuck_is_last s')).0
+wrong_one (before_proof r b s f) (in_proof j r' w l e f') = absurd (subst IsBeforeProof (readings_one r (stuck_is_last s) r' proof_is_last).2 b)
+wrong_one (in_proof j r w l e f) (before_proof r' b' s' f') = absurd (subst IsBeforeProof (sym (readings_one r proof_is_last r' (stuck_is_last s')).2) b')
+wrong_one (in_proof j {rest = rest} {error = error} r w l e f) (in_proof i {rest = rest'} {error = error'} r' w' l' e' f') =
     let h = readings_one r proof_is_last r' proof_is_last in
     let same : j ≡ i = wrong_line_one rest' error error' j i (subst (λ bytes. IsRefused bytes error) h.1 w) (subst (λ bytes. IsLineOfError bytes error j) h.1 l) w' l' in
     omega (arith, e, e', h.0, same)
@@ -135,15 +138,15 @@ same_verdict text a b o p =
     let same = forms_one o.0 p.0 o.1 p.1 in
     verdicts_one p.0 a b (subst (λ form. IsVerdictOn form a) same o.2) p.2
 
-same_refusal : (text : List ℕ) (a b : InputRefusal) → IsRefusal check_command.form text a → IsRefusal check_command.form text b → a ≡ b
+same_refusal : (text : List ℕ) (a b : InputRefusal) → IsRefusal check_command.form text a → IsRefusal check_command.form text b → refusal_text a ≡ refusal_text b
 same_refusal text TooLarge TooLarge o p = refl
-same_refusal text TooLarge (WrongLine k) o p = absurd (omega (arith, o, p.0))
-same_refusal text (WrongLine k) TooLarge o p = absurd (omega (arith, p, o.0))
-same_refusal text (WrongLine k) (WrongLine j) o p = ap WrongLine (wrong_one o.1 p.1)
+same_refusal text TooLarge (WrongLine k flaw) o p = absurd (omega (arith, o, p.0))
+same_refusal text (WrongLine k flaw) TooLarge o p = absurd (omega (arith, p, o.0))
+same_refusal text (WrongLine k flaw) (WrongLine j other) o p = ap (λ (n : ℕ). codes "refused line " ++ decimal n ++ 10 ∷ []) (wrong_one o.1 p.1)
 
 never_both : (text : List ℕ) (refusal : InputRefusal) (verdict : Verdict) → length text ≤ most_bytes → IsRefusal check_command.form text refusal → ¬ IsChecked text verdict
 never_both text TooLarge verdict small r is = omega (arith, small, r)
-never_both text (WrongLine k) verdict small r is = r.2 (is.0, is.1)
+never_both text (WrongLine k flaw) verdict small r is = r.2 (is.0, is.1)
 
 -- an input has one outcome
 pub one_outcome : OneOutcome

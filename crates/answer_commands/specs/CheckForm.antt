@@ -9,6 +9,9 @@ use Rattle.proof_text.specs.declared.read.ProofError.{ProofError}
 use Rattle.proof_text.specs.declared.read.ProofError.TheVariants.{BadHeader, BadLine, BadNumber, TooManyLines, TooLong, Formula, NoEnd, After, Memory}
 use Rattle.text_lines.specs.Lines.{first_line, after_line, line_count}
 use Rattle.form_lines.specs.Statements.{IsGoal, IsStatement}
+use Rattle.run_streams.specs.Flaws.{FlawTree}
+use Rattle.input_flaws.specs.LineFlaws.{IsFlawAt}
+use Rattle.input_flaws.specs.ProofFlaws.{IsProofFlaw}
 
 -- what an input of `check` holds
 pub record CheckForm : Type 0 where
@@ -79,9 +82,15 @@ abbrev pub IsBeforeProof : Stage → Type 0
 IsBeforeProof (proof_due x ls ys g) = ⊥
 IsBeforeProof _ = Unit {0}
 
--- `IsWrongAt text k`: line k is the lowest that is wrong, or the number after the last where the text ends too
--- early
-pub data IsWrongAt (text : List ℕ) : ℕ → Type 0 where
-  before_proof : {k : ℕ} {rest : List ℕ} {stage : Stage} → Reaches text k rest stage → IsBeforeProof stage → IsStuck stage rest → IsWrongAt text (k + 1)
-  in_proof : {k n : ℕ} (j : ℕ) {rest x : List ℕ} {ls ys : List FormulaTree} {g : FormulaTree} {error : ProofError}
-      → Reaches text k rest (proof_due x ls ys g) → IsRefused rest error → IsLineOfError rest error j → n ≡ k + j → IsWrongAt text n
+-- behind which words a formula stands in a line before the proof
+abbrev pub formula_words : List (List ℕ)
+formula_words = codes "label " ∷ codes "yes " ∷ codes "goal " ∷ []
+
+-- `IsWrongAt text k flaw`: line k is the lowest that is wrong, or the number after the last where the text ends too
+-- early, and this is wrong with it
+pub data IsWrongAt (text : List ℕ) : ℕ → FlawTree → Type 0 where
+  before_proof : {k : ℕ} {rest : List ℕ} {stage : Stage} {flaw : FlawTree} → Reaches text k rest stage → IsBeforeProof stage → IsStuck stage rest
+      → IsFlawAt formula_words [] text (k + 1) flaw → IsWrongAt text (k + 1) flaw
+  in_proof : {k n : ℕ} (j : ℕ) {rest x : List ℕ} {ls ys : List FormulaTree} {g : FormulaTree} {error : ProofError} {flaw : FlawTree}
+      → Reaches text k rest (proof_due x ls ys g) → IsRefused rest error → IsLineOfError rest error j → n ≡ k + j → IsProofFlaw rest error flaw
+      → IsWrongAt text n flaw

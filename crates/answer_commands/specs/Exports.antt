@@ -6,7 +6,9 @@ use Rattle.policy_history.specs.Events.{EntryTree, numbered}
 use Rattle.policy_history.specs.Machine.{replay}
 use Rattle.journal_text.specs.PolicyText.{Fault, IsWrongFrom, ReadsAs, header_due}
 use Rattle.peer_labels.specs.Bundles.{bundle_text}
+use Rattle.run_streams.specs.Flaws.{FlawTree}
 use Rattle.run_streams.specs.Refusals.{form_of}
+use Rattle.input_flaws.specs.PolicyFlaws.{IsFaultFlaw}
 use Rattle.run_streams.specs.Runs.{SinkRun, SourceRun}
 use Rattle.answer_commands.specs.declared.answers.Exported.{Exported}
 use Rattle.run_streams.specs.Ends.{Answering, RunsAnswer, answering}
@@ -15,9 +17,9 @@ use Rattle.run_streams.specs.Ends.{Answering, RunsAnswer, answering}
 abbrev pub HasPolicyForm : List ℕ → Type 0
 HasPolicyForm text = (h : Head) × (es : List EntryTree) × ReadsAs text h es
 
--- line k is the lowest that is wrong
-abbrev pub IsWrongPolicyLine : List ℕ → ℕ → Type 0
-IsWrongPolicyLine text k = (fault : Fault) × IsWrongFrom header_due text k fault
+-- line k is the lowest that is wrong, and this is wrong with it
+abbrev pub IsWrongPolicyLine : List ℕ → ℕ → FlawTree → Type 0
+IsWrongPolicyLine text k flaw = (fault : Fault) × IsWrongFrom header_due text k fault × IsFaultFlaw text k fault flaw
 
 -- the bundle of the labels that the principal with this number holds; none where there is no principal
 abbrev pub bundle_of : List LabelRow → Option ℕ → Option (List ℕ)

@@ -2,3 +2,4 @@
 pub mod Forms
 pub mod Hashes
 pub mod Support
+pub mod Wrongs

@@ -3,6 +3,7 @@ pub mod CheckVerdicts
 pub mod Checks
 pub mod Laws
 pub mod Answers
+pub mod Headed
 pub mod Trusts
 pub mod Proves
 pub mod Recovers

@@ -7,7 +7,9 @@ use Rattle.journal_text.specs.CutPolicies.{IsWrongCut, ReadsCut}
 use Rattle.journal_text.specs.PolicyText.{Fault}
 use Rattle.run_streams.specs.Runs.{SinkRun, SourceRun}
 use Rattle.run_streams.specs.Ends.{Answering, RunsAnswer, answering}
+use Rattle.run_streams.specs.Flaws.{FlawTree}
 use Rattle.run_streams.specs.Refusals.{form_of}
+use Rattle.input_flaws.specs.PolicyFlaws.{IsFaultFlaw}
 
 -- a policy: its head and its accepted changes
 pub record PolicyTree : Type 0 where
@@ -22,9 +24,9 @@ IsCutOf text policy = ReadsCut text policy.head policy.entries
 abbrev pub HasCutForm : List ℕ → Type 0
 HasCutForm text = (policy : PolicyTree) × IsCutOf text policy
 
--- line k is the lowest that is wrong
-abbrev pub IsWrongCutLine : List ℕ → ℕ → Type 0
-IsWrongCutLine text k = (fault : Fault) × IsWrongCut text k fault
+-- line k is the lowest that is wrong, and this is wrong with it
+abbrev pub IsWrongCutLine : List ℕ → ℕ → FlawTree → Type 0
+IsWrongCutLine text k flaw = (fault : Fault) × IsWrongCut text k fault × IsFaultFlaw text k fault flaw
 
 -- the text of the policy, whole
 abbrev pub recover_output : PolicyTree → List ℕ

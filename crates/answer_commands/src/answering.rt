@@ -3,27 +3,44 @@ ghost use Rattle.std.specs.Prelude.{◌≡◌, ◌≢◌, ◌⊎◌, IfErr, IfOk
 ghost use Rattle.nx_io.specs.Streams.{Grows};
 ghost use Rattle.nx_io.specs.Views.{HasGiven};
 ghost use Rattle.run_streams.specs.Runs.{sink_run, source_run};
-ghost use Rattle.run_streams.specs.Ends.{IsAnswerOf, RunsAnswer, answering};
+ghost use Rattle.run_streams.specs.Ends.{HandsOn, IsAnswerOf, RunsAnswer, answering};
 ghost use Rattle.run_streams.specs.Refusals.{form_of};
 ghost use Rattle.run_streams.specs.Telling.{Tells};
 ghost use Rattle.run_streams.specs.Inner.Unread.{IsUnread, faults_after_input};
 
 use nx_io::{Bytes, Sink, Source};
-use run_streams::{InputRefusal, ReadError, Unread, read_whole, tell_refusal, tell_text};
+use run_streams::{
+    Flaw, InputEnd, InputRefusal, ReadError, Unread, read_whole, tell_refusal, tell_text,
+};
 use std::alloc::{AllocError, Global};
 
 /// Why a text has no answer.
 #[derive(Clone, Copy, Debug, PartialEq, Eq)]
 pub enum AnswerError {
-    /// The lowest line that is wrong, or the number after the last where the text ends too early.
-    Wrong { line: u64 },
-    /// There was no memory for what it holds.
+    /// The lowest line that is wrong, or the number after the last where the text ends too early, and what is wrong with it.
+    Wrong { line: u64, flaw: Flaw },
+    /// There was no memory for what it holds, or for what is wrong with it.
     Memory,
+}
+
+impl AnswerError {
+    ghost use Rattle.answer_commands.specs.Inner.Wrongs.{wrong_by};
+
+    /// The error of a text in which this line is wrong, where there was memory to say what is wrong with it.
+    pub(crate) fn by(line: u64, flaw: Result<Flaw, AllocError>) -> AnswerError
+        ensures { result ≡ wrong_by line flaw }
+    {
+        match flaw {
+            Ok(flaw) => AnswerError::Wrong { line, flaw },
+            Err(AllocError) => AnswerError::Memory,
+        }
+    }
 }
 
 /// The answer of a command to the text of its input.
 pub trait Answer: Sized {
     ghost use Rattle.std.specs.Prelude.{◌≡◌, ◌⊎◌, ◌≤◌, ℕ, List, IfErr, IfOk, length};
+    ghost use Rattle.run_streams.specs.Flaws.{FlawTree};
     ghost use Rattle.run_streams.specs.Runs.{most_bytes};
     ghost use Rattle.run_streams.specs.Refusals.{form_of};
     ghost use Rattle.answer_commands.specs.Answers.{IsAnswerError};
@@ -37,8 +54,8 @@ pub trait Answer: Sized {
     /// Which answer a text has.
     ghost told: { Self.About → List ℕ → Self → Type 0 };
 
-    /// Which line of a text is the lowest that is wrong.
-    ghost wrong: { List ℕ → ℕ → Type 0 };
+    /// Which line of a text is the lowest that is wrong, and what is wrong with it.
+    ghost wrong: { List ℕ → ℕ → FlawTree → Type 0 };
 
     /// What is written of an answer.
     ghost written: { Self → List ℕ };
@@ -63,26 +80,31 @@ pub trait Answer: Sized {
         ensures few { (ends self.now ≡ 0) ⊎ (ends self.now ≡ 1) };
 }
 
-/// Reads the whole input, and writes the answer to it.
+/// Reads the whole input, and writes the answer to it. Where the input is refused, and the line of that was written, the refusal is handed
+/// on.
 pub fn answer_input<A: Answer + Drop, S: Source, K: Sink>(
     alloc: Global,
     about: &A::About,
     input: &mut S,
     output: &mut K,
-) -> u8
+) -> InputEnd
     ensures gave { HasGiven S.Source input.old input.new }
     ensures sent { Grows (K.sent output.old) (K.sent output.new) }
-    ensures untouched { (result ≡ 4) ⊎ (result ≡ 6) → output.new ≡ output.old }
+    ensures untouched { (result.status ≡ 4) ⊎ (result.status ≡ 6) → output.new ≡ output.old }
     ensures runs { RunsAnswer (answering (form_of A.formed A.wrong) (A.told about.now) A.written A.ends)
         (source_run S.Source input.old input.new)
         (sink_run K.Sink output.old output.new)
-        result }
+        result.status }
+    ensures handed { HandsOn (form_of A.formed A.wrong)
+        (source_run S.Source input.old input.new)
+        (sink_run K.Sink output.old output.new)
+        result.status result.refusal }
 {
     match read_answer::<A, S>(alloc, about, input) {
-        Ok(answer) => tell_answer(alloc, output, &answer),
+        Ok(answer) => InputEnd::of(tell_answer(alloc, output, &answer)),
         Err(Unread::Refused(refusal)) => tell_refusal(alloc, output, refusal),
-        Err(Unread::Failed) => 4,
-        Err(Unread::Memory) => 6,
+        Err(Unread::Failed) => InputEnd::of(4),
+        Err(Unread::Memory) => InputEnd::of(6),
     }
 }
 
@@ -102,8 +124,8 @@ pub fn read_answer<A: Answer + Drop, S: Source>(
     match read_whole(alloc, input) {
         Ok(text) => match A::of(alloc, about, text.as_slice()) {
             Ok(answer) => Ok(answer),
-            Err(AnswerError::Wrong { line }) => {
-                Err(Unread::Refused(InputRefusal::WrongLine { line }))
+            Err(AnswerError::Wrong { line, flaw }) => {
+                Err(Unread::Refused(InputRefusal::WrongLine { line, flaw }))
             }
             Err(AnswerError::Memory) => Err(Unread::Memory),
         },

@@ -1,5 +1,5 @@
 //! The answers of `trust`, `prove`, `audit`, `explain`, `recover`, `export` and `compact`.
-ghost use Rattle.std.specs.Prelude.{◌≡◌, ◌≤◌, IfErr, IfOk, length};
+ghost use Rattle.std.specs.Prelude.{◌≡◌, ◌≢◌, ◌≤◌, IfErr, IfOk, length};
 ghost use Rattle.policy_history.specs.Events.{numbered};
 ghost use Rattle.policy_history.specs.Values.{entry_trees, state_after};
 ghost use Rattle.journal_text.specs.PolicyText.{ReadsAs};
@@ -7,11 +7,14 @@ ghost use Rattle.run_streams.specs.Refusals.{form_of};
 ghost use Rattle.run_streams.specs.Runs.{most_bytes};
 ghost use Rattle.answer_commands.specs.Answers.{IsAnswerError};
 ghost use Rattle.answer_commands.specs.Exports.{HasPolicyForm, IsWrongPolicyLine, bundle_of};
+ghost use Rattle.answer_commands.specs.Inner.Wrongs.{IsWrongPolicyBy};
 
 use crate::answering::{Answer, AnswerError};
+use crate::headed::headed_flaw;
 use audit_check::Audited;
 use audit_form::{AuditError, Told, audit_of, told_line};
 use explain_form::{ExplainError, ExplanationText, explanation_of};
+use input_flaws::{flaw_at, policy_flaw};
 use journal_text::{PolicyError, print_policy, read_cut, read_policy};
 use nal_term::Name;
 use nx_io::Bytes;
@@ -28,14 +31,13 @@ impl Answer for Trust {
     type About = ();
 
     ghost use Rattle.trust_form.specs.Answers.{IsTold};
-    ghost use Rattle.trust_form.specs.TrustForm.{IsWrongLine};
-    ghost use Rattle.answer_commands.specs.Trusts.{HasTrustForm, trust_output, trust_status};
+    ghost use Rattle.answer_commands.specs.Trusts.{HasTrustForm, IsWrongTrust, trust_output, trust_status};
 
     ghost formed = { HasTrustForm };
 
     ghost told = { λ about. IsTold };
 
-    ghost wrong = { IsWrongLine };
+    ghost wrong = { IsWrongTrust };
 
     ghost written = { trust_output };
 
@@ -44,7 +46,16 @@ impl Answer for Trust {
     fn of(alloc: Global, _about: &(), text: &[u8]) -> Result<Trust, AnswerError> {
         match trust_of(alloc, text) {
             Ok(answer) => Ok(answer),
-            Err(TrustError::Wrong { line }) => Err(AnswerError::Wrong { line }),
+            Err(TrustError::Wrong { line }) => Err(AnswerError::by(
+                line,
+                flaw_at(
+                    alloc,
+                    &["label ", "fact ", "goal "],
+                    &["untrusted "],
+                    text,
+                    line,
+                ),
+            )),
             Err(TrustError::Memory) => Err(AnswerError::Memory),
         }
     }
@@ -74,14 +85,13 @@ impl Answer for Found {
     ghost use Rattle.std.specs.Prelude.{option_map};
     ghost use Rattle.proof_lines.specs.Lines.{line_trees};
     ghost use Rattle.prove_form.specs.Answers.{IsTold};
-    ghost use Rattle.prove_form.specs.ProveForm.{IsWrongLine};
-    ghost use Rattle.answer_commands.specs.Proves.{HasProveForm, prove_output, prove_status};
+    ghost use Rattle.answer_commands.specs.Proves.{HasProveForm, IsWrongProve, prove_output, prove_status};
 
     ghost formed = { HasProveForm };
 
     ghost told = { λ about text found. IsTold text (option_map line_trees found.proof) };
 
-    ghost wrong = { IsWrongLine };
+    ghost wrong = { IsWrongProve };
 
     ghost written = { λ found. prove_output (option_map line_trees found.proof) };
 
@@ -90,7 +100,10 @@ impl Answer for Found {
     fn of(alloc: Global, _about: &(), text: &[u8]) -> Result<Found, AnswerError> {
         match prove_of(alloc, text) {
             Ok(proof) => Ok(Found { proof }),
-            Err(ProveError::Wrong { line }) => Err(AnswerError::Wrong { line }),
+            Err(ProveError::Wrong { line }) => Err(AnswerError::by(
+                line,
+                flaw_at(alloc, &["label ", "goal "], &[], text, line),
+            )),
             Err(ProveError::Memory) => Err(AnswerError::Memory),
         }
     }
@@ -111,14 +124,13 @@ impl Answer for Told {
     type About = ();
 
     ghost use Rattle.audit_form.specs.Answers.{IsToldOf};
-    ghost use Rattle.audit_form.specs.AuditForm.{IsWrongLine};
-    ghost use Rattle.answer_commands.specs.Audits.{HasAuditForm, audit_output, audit_status};
+    ghost use Rattle.answer_commands.specs.Audits.{HasAuditForm, IsWrongAudit, audit_output, audit_status};
 
     ghost formed = { HasAuditForm };
 
     ghost told = { λ about. IsToldOf };
 
-    ghost wrong = { IsWrongLine };
+    ghost wrong = { IsWrongAudit };
 
     ghost written = { audit_output };
 
@@ -127,7 +139,9 @@ impl Answer for Told {
     fn of(alloc: Global, _about: &(), text: &[u8]) -> Result<Told, AnswerError> {
         match audit_of(alloc, text) {
             Ok(told) => Ok(told),
-            Err(AuditError::Wrong { line }) => Err(AnswerError::Wrong { line }),
+            Err(AuditError::Wrong { line }) => {
+                Err(AnswerError::by(line, headed_flaw(alloc, text, line)))
+            }
             Err(AuditError::Memory) => Err(AnswerError::Memory),
         }
     }
@@ -149,14 +163,13 @@ impl Answer for ExplanationText {
     type About = ();
 
     ghost use Rattle.explain_form.specs.Answers.{IsToldOf};
-    ghost use Rattle.explain_form.specs.ExplainForm.{IsWrongLine};
-    ghost use Rattle.answer_commands.specs.Explains.{HasExplainForm, explain_output, explain_status};
+    ghost use Rattle.answer_commands.specs.Explains.{HasExplainForm, IsWrongExplain, explain_output, explain_status};
 
     ghost formed = { HasExplainForm };
 
     ghost told = { λ about. IsToldOf };
 
-    ghost wrong = { IsWrongLine };
+    ghost wrong = { IsWrongExplain };
 
     ghost written = { explain_output };
 
@@ -165,7 +178,9 @@ impl Answer for ExplanationText {
     fn of(alloc: Global, _about: &(), text: &[u8]) -> Result<ExplanationText, AnswerError> {
         match explanation_of(alloc, text) {
             Ok(told) => Ok(told),
-            Err(ExplainError::Wrong { line }) => Err(AnswerError::Wrong { line }),
+            Err(ExplainError::Wrong { line }) => {
+                Err(AnswerError::by(line, headed_flaw(alloc, text, line)))
+            }
             Err(ExplainError::Memory) => Err(AnswerError::Memory),
         }
     }
@@ -206,10 +221,7 @@ impl Answer for Recovered {
     fn of(alloc: Global, _about: &(), text: &[u8]) -> Result<Recovered, AnswerError> {
         match read_cut(alloc, text) {
             Ok(journal) => Ok(Recovered { journal }),
-            Err(PolicyError::Bad { line }) => Err(AnswerError::Wrong { line }),
-            Err(PolicyError::Refused { line, .. }) => Err(AnswerError::Wrong { line }),
-            Err(PolicyError::TooLong) => unreachable!(),
-            Err(PolicyError::Memory) => Err(AnswerError::Memory),
+            Err(error) => Err(wrong_policy(alloc, text, error)),
         }
     }
 
@@ -311,10 +323,22 @@ fn policy_of(alloc: Global, text: &[u8]) -> Result<Journal, AnswerError>
 {
     match read_policy(alloc, text) {
         Ok(journal) => Ok(journal),
-        Err(PolicyError::Bad { line }) => Err(AnswerError::Wrong { line }),
-        Err(PolicyError::Refused { line, .. }) => Err(AnswerError::Wrong { line }),
-        Err(PolicyError::TooLong) => unreachable!(),
-        Err(PolicyError::Memory) => Err(AnswerError::Memory),
+        Err(error) => Err(wrong_policy(alloc, text, error)),
+    }
+}
+
+/// Why a text that is not too long has no answer, by the error of its policy.
+fn wrong_policy(alloc: Global, text: &[u8], error: PolicyError) -> AnswerError
+    requires { error ≢ PolicyError.TooLong }
+    ensures { IsWrongPolicyBy text.now error result }
+{
+    match error {
+        PolicyError::Bad { line } => AnswerError::by(line, policy_flaw(alloc, text, error)),
+        PolicyError::Refused { line, .. } => {
+            AnswerError::by(line, policy_flaw(alloc, text, error))
+        }
+        PolicyError::TooLong => unreachable!(),
+        PolicyError::Memory => AnswerError::Memory,
     }
 }
 

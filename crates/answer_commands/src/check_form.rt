@@ -1,8 +1,14 @@
+ghost use Rattle.std.specs.Prelude.{[]};
+ghost use Rattle.input_flaws.specs.LineFlaws.{IsFlawAt};
+ghost use Rattle.answer_commands.specs.CheckForm.{formula_words};
+ghost use Rattle.answer_commands.specs.Inner.Wrongs.{IsWrongBy};
+
 use crate::answering::AnswerError;
 use crate::keys::FormulaKey;
 use crate::places::line_of_error;
 use crate::stages::Progress;
 use form_lines::LineError;
+use input_flaws::{flaw_at, proof_flaw};
 use nal_term::{Formula, Name};
 use proof_lines::Proof;
 use proof_text::{ProofError, read_proof};
@@ -47,13 +53,11 @@ impl Input {
                 }
                 other => {
                     if rest.is_empty() {
-                        return Err(AnswerError::Wrong { line: lines + 1 });
+                        return Err(wrong_line(alloc, text, lines + 1));
                     }
                     match other.after(alloc, first_line(rest).0) {
                         Ok(next) => next,
-                        Err(LineError::Wrong) => {
-                            return Err(AnswerError::Wrong { line: lines + 1 });
-                        }
+                        Err(LineError::Wrong) => return Err(wrong_line(alloc, text, lines + 1)),
                         Err(LineError::Memory) => return Err(AnswerError::Memory),
                     }
                 }
@@ -92,10 +96,21 @@ impl Input {
             }),
             Err(error) => match error {
                 ProofError::Memory => Err(AnswerError::Memory),
-                _ => Err(AnswerError::Wrong {
-                    line: lines + line_of_error(rest, error),
-                }),
+                _ => {
+                    let line = lines + line_of_error(rest, error);
+                    Err(AnswerError::by(line, proof_flaw(alloc, rest, error)))
+                }
             },
         }
     }
+}
+
+/// Why a text has no answer whose line with this number may not stand there, before its proof.
+fn wrong_line(alloc: Global, text: &[u8], line: u64) -> AnswerError
+    ensures { IsWrongBy (IsFlawAt formula_words [] text.now line) line result }
+{
+    AnswerError::by(
+        line,
+        flaw_at(alloc, &["label ", "yes ", "goal "], &[], text, line),
+    )
 }

@@ -8,6 +8,7 @@ mod check_form;
 mod checks;
 mod compacts;
 mod exports;
+mod headed;
 mod judge;
 mod keys;
 mod laws;

@@ -21,5 +21,5 @@ pub use policy_laws::{
 pub use policy_printer::{PolicyPrinter, policy_line, print_policy};
 pub use policy_reader::{PolicyError, PolicyFront, read_front, read_policy, refusal_number};
 pub use policy_words::split_word;
-pub use replies::{cause_name, cause_text, fault_name, reply_line};
+pub use replies::{cause_name, cause_text, fault_name, refusal_name, reply_line};
 pub use request_lines::{LineError, lines_tell_one_request, read_request};

@@ -113,7 +113,8 @@ pub fn fault_name(fault: u64) -> Option<&'static str>
     }
 }
 
-fn refusal_name(refusal: u64) -> Option<&'static str>
+/// The name of the refusal with this number. None where no refusal has it. `docs/FORMATS.md`, "Events and refusals", lists them.
+pub fn refusal_name(refusal: u64) -> Option<&'static str>
     ensures { MatchOption result (named refusal_names refusal ≡ decimal refusal)
         (λ name. named refusal_names refusal ≡ name.now) }
 {

@@ -7,3 +7,4 @@ mod Running
 mod LoggedRuns
 mod ServiceAsks
 mod Recordings
+pub mod HandedOn

@@ -40,6 +40,7 @@ logged_true h es (logged.unbegun idle log_is grows kept ends) is = absurd (no_jo
 abbrev pub beside_output : {K J C D L P : Type 0} → EndedValue J C D L P → K → EndedValue K C D L P
 beside_output ended output = record {
   status = ended.status;
+  refusal = ended.refusal;
   output = Some output;
   records = ended.records;
   journal = ended.journal;

@@ -5,6 +5,7 @@ use Rattle.nx_io.specs.Views.{DoorView, HasGiven, RecorderView, SinkView, door_v
 use Rattle.nx_io.proofs.ForCallers.{gained-nothing, gave-nothing, grows-nothing}
 use Rattle.std.specs.Prelude.{length, option_map}
 use Rattle.policy_history.specs.Values.{History}
+use Rattle.run_streams.specs.declared.refusals.InputRefusal.{InputRefusal}
 use Rattle.run_streams.specs.Ends.{no_memory}
 use Rattle.run_streams.specs.Runs.{SourceRun, sink_run, source_run}
 use Rattle.nexus_client.specs.declared.inputs.TalkInput.{TalkInput}
@@ -124,9 +125,10 @@ module _ {S K C D L P : Type 0} (t : Tellers S K C D L P) (words : List (List �
   -- ---- Another command
 
   -- what is handed back where nobody was dialed and nobody served
-  abbrev pub handed_back : ℕ → K → C → Option History → P → EndedValue K C D L P
-  handed_back status output records journal panel = record {
+  abbrev pub handed_back : ℕ → Option InputRefusal → K → C → Option History → P → EndedValue K C D L P
+  handed_back status refusal output records journal panel = record {
     status = status;
+    refusal = refusal;
     output = Some output;
     records = Some records;
     journal = journal;
@@ -138,7 +140,7 @@ module _ {S K C D L P : Type 0} (t : Tellers S K C D L P) (words : List (List �
     means = [];
   }
 
-  module _ (command : Command) (within : IsWithin command) (words_are : words ≡ command_words command) (status : ℕ) (output : K) (records : C) (journal : Option History) (panel : P) where
+  module _ (command : Command) (within : IsWithin command) (words_are : words ≡ command_words command) (status : ℕ) (refusal : Option InputRefusal) (output : K) (records : C) (journal : Option History) (panel : P) where
     -- the words of a load are those of no other command
     is_core : (number steps : ℕ) → words ≡ core_words number steps → (m : ℕ) × (n : ℕ) × (command ≡ Core m n)
     is_core number steps are = told (core_words number steps) command (sym are ∙ words_are)
@@ -150,7 +152,7 @@ module _ {S K C D L P : Type 0} (t : Tellers S K C D L P) (words : List (List �
         → (command ≢ Compact → records ≡ before.records) → HasMore (t.panel before.panel) (t.panel panel) → ((status ≡ 4) ⊎ (status ≡ 6) → output ≡ before.output)
         → RunsCommand command read (sink_run t.output before.output output) (sink_run t.records before.records records) (t.output.synced output ≡ length (t.output.sent output)) (panel_run (t.panel before.panel) (t.panel panel)) journal status
         → ((number steps : ℕ) → command ≡ Core number steps → input_now ≡ before.input) → ((number workers calls : ℕ) → command ≡ Drill number workers calls → input_now ≡ before.input)
-        → (command ≢ Script → (panel ≡ before.panel) × (journal ≡ None)) → Runs t words before input_now (handed_back status output records journal panel)
+        → (command ≢ Script → (panel ≡ before.panel) × (journal ≡ None)) → Runs t words before input_now (handed_back status refusal output records journal panel)
     plain_runs gave sent recorded unrecorded asked untouched runs core_unread drill_unread other_panel = record {
       command = record {
         plain = λ other are is. same_runs _ _ _ _ _ _ _ command other within is (sym words_are ∙ are) runs;
@@ -174,8 +176,8 @@ module _ {S K C D L P : Type 0} (t : Tellers S K C D L P) (words : List (List �
 -- ---- Where nothing was done
 
 module _ {S K C D L P : Type 0} (t : Tellers S K C D L P) (words : List (List ℕ)) (before : Handed S K C D P) where
-  abbrev all_back : ℕ → EndedValue K C D L P
-  all_back status = handed_back t words before before.input status before.output before.records None before.panel
+  abbrev pub all_back : ℕ → EndedValue K C D L P
+  all_back status = handed_back t words before before.input status None before.output before.records None before.panel
 
   idle : (status : ℕ) → DoesCommand t words before before.input (all_back status) → Runs t words before before.input (all_back status)
   idle status command = record {

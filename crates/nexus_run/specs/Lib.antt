@@ -4,3 +4,4 @@ pub mod Lasting
 pub mod LoadRuns
 pub mod Commanded
 pub mod Runs
+pub mod Notes

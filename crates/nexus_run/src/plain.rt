@@ -6,6 +6,7 @@ ghost use Rattle.run_streams.specs.Runs.{sink_run, source_run};
 ghost use Rattle.nexus_run.specs.Commanded.{RunsCommand};
 ghost use Rattle.nexus_run.specs.Lasting.{EndsLasting};
 ghost use Rattle.nexus_run.specs.Commands.{IsWithin};
+ghost use Rattle.nexus_run.specs.Notes.{HandsOnOf};
 ghost use Rattle.script_command.specs.Scripts.{HasMore, panel_run};
 
 use crate::commands::Command;
@@ -16,6 +17,7 @@ use authority_ask::Panel;
 use explain_form::ExplanationText;
 use nal_rules::Verdict;
 use nx_io::{Reach, Sink, Source};
+use run_streams::InputEnd;
 use script_command::{PlainEnd, script};
 use std::alloc::Global;
 use std::net::{Net, TcpListener, TcpStream};
@@ -43,7 +45,8 @@ use trust_check::Trust;
 /// where that fails, the status is 5 and all was written.
 ///
 /// The input is what the source gives in this call. It is read to its first end, unless it is too large. The panel is
-/// handed back; only `script` uses it, and only `compact` the records.
+/// handed back; only `script` uses it, and only `compact` the records. Where the input is refused, and the line of that was written, the
+/// refusal is handed on.
 pub fn run_plain<R, S: Source, C: Sink, K: Sink, P: Panel>(
     rt: &R,
     alloc: Global,
@@ -74,80 +77,81 @@ where
     ensures drill_reads_nothing { (number workers calls : ℕ) → command.entry ≡ Command.Drill number workers calls
         → input.new ≡ input.old }
     ensures other_panel { command.entry ≢ Command.Script → (result.panel ≡ panel) × (result.journal ≡ None) }
+    ensures handed { HandsOnOf command.entry
+        (source_run S.Source input.old input.new)
+        (sink_run K.Sink output.old output.new)
+        result.status result.refusal }
 {
     match command {
-        Command::Check => PlainEnd {
-            status: answer_input::<Verdict, S, K>(alloc, &(), input, output),
-            journal: None,
+        Command::Check => ended(
+            answer_input::<Verdict, S, K>(alloc, &(), input, output),
             panel,
-        },
+        ),
         Command::Script => {
             let PlainEnd {
                 status,
+                refusal,
                 journal,
                 panel,
             } = script(rt, alloc, input, output, panel);
             PlainEnd {
                 status: lasting(status, output),
+                refusal,
                 journal,
                 panel,
             }
         }
-        Command::Trust => PlainEnd {
-            status: answer_input::<Trust, S, K>(alloc, &(), input, output),
-            journal: None,
+        Command::Trust => ended(
+            answer_input::<Trust, S, K>(alloc, &(), input, output),
             panel,
-        },
-        Command::Prove => PlainEnd {
-            status: answer_input::<Found, S, K>(alloc, &(), input, output),
-            journal: None,
+        ),
+        Command::Prove => ended(
+            answer_input::<Found, S, K>(alloc, &(), input, output),
             panel,
-        },
-        Command::Audit => PlainEnd {
-            status: answer_input::<Told, S, K>(alloc, &(), input, output),
-            journal: None,
+        ),
+        Command::Audit => ended(answer_input::<Told, S, K>(alloc, &(), input, output), panel),
+        Command::Explain => ended(
+            answer_input::<ExplanationText, S, K>(alloc, &(), input, output),
             panel,
-        },
-        Command::Explain => PlainEnd {
-            status: answer_input::<ExplanationText, S, K>(alloc, &(), input, output),
-            journal: None,
-            panel,
-        },
+        ),
         Command::Recover => {
-            let status = answer_input::<Recovered, S, K>(alloc, &(), input, output);
-            PlainEnd {
-                status: lasting(status, output),
-                journal: None,
-                panel,
-            }
+            let end = answer_input::<Recovered, S, K>(alloc, &(), input, output);
+            let status = lasting(end.status, output);
+            ended(InputEnd { status, ..end }, panel)
         }
         Command::Compact => {
-            let status = compact(alloc, input, output, records);
-            PlainEnd {
-                status: lasting(status, output),
-                journal: None,
-                panel,
-            }
+            let end = compact(alloc, input, output, records);
+            let status = lasting(end.status, output);
+            ended(InputEnd { status, ..end }, panel)
         }
-        Command::Export { name } => PlainEnd {
-            status: export(alloc, name, input, output),
-            journal: None,
+        Command::Export { name } => ended(export(alloc, name, input, output), panel),
+        Command::Core { number, steps } => ended(
+            InputEnd::of(load(alloc, number, steps, output)),
             panel,
-        },
-        Command::Core { number, steps } => PlainEnd {
-            status: load(alloc, number, steps, output),
-            journal: None,
-            panel,
-        },
+        ),
         Command::Drill {
             number,
             workers,
             calls,
-        } => PlainEnd {
-            status: drill(rt, alloc, number, workers, calls, output),
-            journal: None,
+        } => ended(
+            InputEnd::of(drill(rt, alloc, number, workers, calls, output)),
             panel,
-        },
+        ),
+    }
+}
+
+/// The end of a command that hands no journal back.
+fn ended<P>(end: InputEnd, panel: P) -> PlainEnd<P>
+    ensures status { result.status ≡ end.status }
+    ensures refusal { result.refusal ≡ end.refusal }
+    ensures journal { result.journal ≡ None }
+    ensures panel { result.panel ≡ panel }
+{
+    PlainEnd {
+        status: end.status,
+        refusal: end.refusal,
+        journal: None,
+        panel,
     }
 }
 

@@ -1,6 +1,7 @@
 ghost use Rattle.std.specs.Prelude.{◌≡◌, ◌≢◌, ◌⊎◌, ℕ, List, [], None, Some, map, option_map};
 ghost use Rattle.nx_io.specs.Streams.{Grows, gained};
 ghost use Rattle.nx_io.specs.Views.{HasGiven, door_view, link_view};
+ghost use Rattle.run_streams.specs.Ends.{HandsOn};
 ghost use Rattle.run_streams.specs.Runs.{sink_run, source_run};
 ghost use Rattle.policy_history.specs.declared.heads.Head.{Head};
 ghost use Rattle.policy_history.specs.declared.events.Entry.{Entry};
@@ -10,9 +11,10 @@ ghost use Rattle.nexus_serve.specs.Hosting.{kept_of};
 ghost use Rattle.nexus_serve.specs.Services.{IsJournal};
 ghost use Rattle.nexus_serve.specs.TrueReports.{AreTrue, asked_by};
 ghost use Rattle.verdict_words.specs.Settling.{flat};
-ghost use Rattle.service_commands.specs.Clients.{EndsClient};
+ghost use Rattle.service_commands.specs.Clients.{EndsClient, requests_form};
 ghost use Rattle.service_commands.specs.Services.{HandsBack};
 ghost use Rattle.nexus_run.specs.Commands.{IsCommand, IsUnlogged};
+ghost use Rattle.nexus_run.specs.Notes.{HandsOnProgram, HandsOnRefusal, RunsNoted};
 ghost use Rattle.nexus_run.specs.Runs.{Runs, RunsProgram, told_by};
 
 use crate::commands::{Call, call_of, logged_of};
@@ -21,7 +23,7 @@ use authority_ask::Panel;
 use line_log::Log;
 use nexus_serve::Outside;
 use nx_io::{Door, Gate, Link, Recorder, Sink, Source};
-use policy_history::Journal;
+use script_command::PlainEnd;
 use service_commands::{ClientEnd, Ended, TalkCall, client, run_logged_service, run_service};
 use std::alloc::{AllocGlobal, Global};
 use std::fs::Files;
@@ -64,13 +66,57 @@ pub struct HandedBack<D: Door, P: Panel, C: Recorder, K: Sink, J> {
 /// command, which then reads and writes nothing, 3 where the input is refused, 4 where the source failed, 5 where the
 /// sink failed, or the records of `compact` or of a service whose calls are recorded, 6 where memory ran out, 7 where the door or a share
 /// of it failed, or the link of a talk, 8 where an authority could not be reached or the panel not be shared, and 9 where the link of a talk
-/// ended before a whole reply or gave what is no reply. `docs/FORMATS.md`, "Statuses", states this.
+/// ended before a whole reply or gave what is no reply. `docs/FORMATS.md`, "Statuses", states this. With 3 the records are told in one line
+/// what is wrong with the input; what comes of that changes nothing else.
 ///
 /// The input is what the source gives in this call. It is read to its first end, unless it is too large, the source fails or memory runs
 /// out. Sinks, door and panel are handed back; only `serve` with a log uses the log; only `serve`, `client` and `import` use the door, only `script` and `serve` the
-/// panel, and only `compact`, and `serve` with the word `records`, the records. The workers of a service have shares of door, panel and
+/// panel, and only `compact`, `serve` with the word `records`, and an input that is refused, the records. The workers of a service have shares of door, panel and
 /// records; what was sent of their records is told by their means.
 pub fn run<R, S: Source, C, K, J, D, P, G>(
+    rt: &R,
+    words: &[&str],
+    input: &mut S,
+    sinks: Sinks<C, K, J>,
+    door: D,
+    panel: P,
+    gate: &G,
+) -> HandedBack<D, P, C, K, J>
+where
+    C: Recorder + Send + Drop,
+    K: Sink + Send + Drop,
+    J: Log + Send + Drop,
+    D: Door + Send + Drop,
+    D::Link: Link + Send + Drop,
+    P: Panel + Send + Drop,
+    G: Gate + Sync,
+    R: Net<Listener = TcpListener, Stream = TcpStream>
+        + AllocGlobal
+        + Clock
+        + Files
+        + Wait
+        + Threads
+        + Sync,
+    ensures other_words { ¬ IsCommand (map (λ w. w.now) words.now)
+        → (result.ended.status ≡ 2) × (input.new ≡ input.old) × HandsBack result.ended.output (λ k. k ≡ sinks.output) }
+    ensures runs { RunsNoted (told_by S.Source K.Sink C.Sink C.Recorder.own D.Door D.Link.Link P.history)
+        J.Sink J.Log.own (map (λ w. w.now) words.now)
+        (record { input = input.old; output = sinks.output; records = sinks.records; door = door; panel = panel })
+        sinks.log input.new result.ended result.log }
+    ensures earned { (h : Head) (es : List Entry) → IsJournal result.ended.journal h es
+        → (low : ℕ) × AreTrue h (entry_trees es) low (asked_by P.history result.ended.means)
+        (flat result.ended.reports) }
+{
+    let alloc = rt.alloc();
+    let HandedBack { ended, log } = run_command(rt, words, input, sinks, door, panel, gate);
+    HandedBack {
+        ended: ended.with_note(),
+        log,
+    }
+}
+
+/// As `run`, before anything is told beside a refusal.
+fn run_command<R, S: Source, C, K, J, D, P, G>(
     rt: &R,
     words: &[&str],
     input: &mut S,
@@ -103,6 +149,10 @@ where
     ensures earned { (h : Head) (es : List Entry) → IsJournal result.ended.journal h es
         → (low : ℕ) × AreTrue h (entry_trees es) low (asked_by P.history result.ended.means)
         (flat result.ended.reports) }
+    ensures handed { HandsOnProgram (told_by S.Source K.Sink C.Sink C.Recorder.own D.Door D.Link.Link P.history)
+        (map (λ w. w.now) words.now)
+        (record { input = input.old; output = sinks.output; records = sinks.records; door = door; panel = panel })
+        input.new result.ended }
 {
     let Some(call) = logged_of(words) else {
         return run_unlogged(rt, words, input, sinks, door, panel, gate);
@@ -157,6 +207,11 @@ where
         (record { input = input.old; output = sinks.output; records = sinks.records; door = door; panel = panel })
         input.new result.ended }
     ensures log { result.log ≡ Some sinks.log }
+    ensures handed { HandsOnRefusal (told_by S.Source K.Sink C.Sink C.Recorder.own D.Door D.Link.Link P.history)
+        (map (λ w. w.now) words.now)
+        (record { input = input.old; output = sinks.output; records = sinks.records; door = door; panel = panel })
+        input.new result.ended }
+    ensures only { result.ended.status ≢ 3 → result.ended.refusal ≡ None }
     ensures earned { (h : Head) (es : List Entry) → IsJournal result.ended.journal h es
         → (low : ℕ) × AreTrue h (entry_trees es) low (asked_by P.history result.ended.means)
         (flat result.ended.reports) }
@@ -165,7 +220,7 @@ where
 {
     let alloc = rt.alloc();
     let Some(call) = call_of(words) else {
-        return handed_back(alloc, 2, None, sinks, door, panel);
+        return idle_back(alloc, 2, sinks, door, panel);
     };
     match call {
         Call::Serve(service) => {
@@ -198,33 +253,27 @@ where
                 &mut sinks.output,
                 panel,
             );
-            handed_back(alloc, end.status, end.journal, sinks, door, end.panel)
+            handed_back(alloc, end, sinks, door)
         }
     }
 }
 
-/// The end of a run that dialed nobody and served nobody.
-pub(crate) fn handed_back<
+/// The end of a run that did nothing.
+pub(crate) fn idle_back<
     D: Door + Drop,
     P: Panel + Drop,
     C: Recorder + Drop,
     K: Sink + Drop,
     J: Drop,
->(
-    alloc: Global,
-    status: u8,
-    journal: Option<Journal>,
-    sinks: Sinks<C, K, J>,
-    door: D,
-    panel: P,
-) -> HandedBack<D, P, C, K, J>
+>(alloc: Global, status: u8, sinks: Sinks<C, K, J>, door: D, panel: P) -> HandedBack<D, P, C, K, J>
 where
     D::Link: Drop,
     ensures ended { result.ended ≡ record {
       status = status;
+      refusal = None;
       output = Some sinks.output;
       records = Some sinks.records;
-      journal = journal;
+      journal = None;
       reports = [];
       dialed = None;
       door = door;
@@ -234,13 +283,53 @@ where
     } }
     ensures log { result.log ≡ Some sinks.log }
 {
+    let end = PlainEnd {
+        status,
+        refusal: None,
+        journal: None,
+        panel,
+    };
+    handed_back(alloc, end, sinks, door)
+}
+
+/// The end of a run that dialed nobody and served nobody.
+fn handed_back<D: Door + Drop, P: Panel + Drop, C: Recorder + Drop, K: Sink + Drop, J: Drop>(
+    alloc: Global,
+    end: PlainEnd<P>,
+    sinks: Sinks<C, K, J>,
+    door: D,
+) -> HandedBack<D, P, C, K, J>
+where
+    D::Link: Drop,
+    ensures ended { result.ended ≡ record {
+      status = end.status;
+      refusal = end.refusal;
+      output = Some sinks.output;
+      records = Some sinks.records;
+      journal = end.journal;
+      reports = [];
+      dialed = None;
+      door = door;
+      doors = [];
+      panel = end.panel;
+      means = [];
+    } }
+    ensures log { result.log ≡ Some sinks.log }
+{
     let Sinks {
         output,
         records,
         log,
     } = sinks;
+    let PlainEnd {
+        status,
+        refusal,
+        journal,
+        panel,
+    } = end;
     let ended = Ended {
         status,
+        refusal,
         output: Some(output),
         records: Some(records),
         journal,
@@ -269,6 +358,7 @@ where
     D::Link: Drop,
     ensures ended { result.ended ≡ record {
       status = ended.status;
+      refusal = ended.refusal;
       output = Some output;
       records = ended.records;
       journal = ended.journal;
@@ -283,6 +373,7 @@ where
 {
     let Ended {
         status,
+        refusal,
         output: log,
         records,
         journal,
@@ -295,6 +386,7 @@ where
     } = ended;
     let ended = Ended {
         status,
+        refusal,
         output: Some(output),
         records,
         journal,
@@ -343,6 +435,11 @@ where
     ensures unused { (result.ended.journal ≡ None) × (result.ended.reports ≡ []) × (result.ended.doors ≡ [])
         × (result.ended.panel ≡ panel) × (result.ended.means ≡ []) × (result.ended.records ≡ Some sinks.records) }
     ensures log { result.log ≡ Some sinks.log }
+    ensures handed { HandsBack result.ended.output (λ k. HandsOn (requests_form call.entry.input)
+        (source_run S.Source input.old input.new)
+        (sink_run K.Sink sinks.output k)
+        result.ended.status result.ended.refusal) }
+    ensures only { result.ended.status ≢ 3 → result.ended.refusal ≡ None }
 {
     let Sinks {
         output,
@@ -351,9 +448,14 @@ where
     } = sinks;
     let mut output = output;
     let mut door = door;
-    let ClientEnd { status, dialed } = client(rt, alloc, call, input, &mut output, &mut door);
+    let ClientEnd {
+        status,
+        refusal,
+        dialed,
+    } = client(rt, alloc, call, input, &mut output, &mut door);
     let ended = Ended {
         status,
+        refusal,
         output: Some(output),
         records: Some(records),
         journal: None,

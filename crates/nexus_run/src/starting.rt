@@ -12,10 +12,11 @@ ghost use Rattle.verdict_words.specs.Settling.{flat};
 ghost use Rattle.service_commands.specs.Services.{HandsBack};
 ghost use Rattle.nexus_run.specs.Arguments.{words_of_call};
 ghost use Rattle.nexus_run.specs.Commands.{IsCommand};
-ghost use Rattle.nexus_run.specs.Runs.{RunsProgram, told_by};
+ghost use Rattle.nexus_run.specs.Notes.{RunsNoted};
+ghost use Rattle.nexus_run.specs.Runs.{told_by};
 
 use crate::arguments::{Arguments, texts, words_of_call};
-use crate::program::{HandedBack, Sinks, handed_back, run};
+use crate::program::{HandedBack, Sinks, idle_back, run};
 use authority_ask::Panel;
 use line_log::Log;
 use nx_io::{Door, Gate, Link, Recorder, Sink, Source};
@@ -39,8 +40,8 @@ pub struct Finished<D: Door, P: Panel, C: Recorder, K: Sink, J> {
 /// The whole program over its surroundings: `run` on all words after the program's name, ended by its status. A word
 /// that is not UTF-8 is no word of a command.
 ///
-/// The records are the sink for what is written beside the output: the numbers of `compact`, and with the word `records` the record of each
-/// call of a service, before the call has an effect. The log keeps the text of a service that is called with one. All sinks are handed back.
+/// The records are the sink for what is written beside the output: the numbers of `compact`, with the word `records` the record of each
+/// call of a service, before the call has an effect, and of an input that is refused what is wrong with it. The log keeps the text of a service that is called with one. All sinks are handed back.
 pub fn start<R, A: Arguments, S: Source, C, K, J, D, P, G>(
     rt: &R,
     arguments: &mut A,
@@ -71,7 +72,7 @@ where
         → ((exit_status result.code ≡ 2) ⊎ (exit_status result.code ≡ 6)) × (input.new ≡ input.old)
         × HandsBack result.ended.output (λ k. k ≡ sinks.output) }
     ensures code { exit_status result.code ≡ result.ended.status }
-    ensures runs { RunsProgram (told_by S.Source K.Sink C.Sink C.Recorder.own D.Door D.Link.Link P.history)
+    ensures runs { RunsNoted (told_by S.Source K.Sink C.Sink C.Recorder.own D.Door D.Link.Link P.history)
         J.Sink J.Log.own (words_of_call (gained (A.told arguments.old) (A.told arguments.new)))
         (record { input = input.old; output = sinks.output; records = sinks.records; door = door; panel = panel })
         sinks.log input.new result.ended result.log }
@@ -81,7 +82,7 @@ where
 {
     let alloc = rt.alloc();
     let Ok(words) = words_of_call(alloc, arguments) else {
-        let end = handed_back(alloc, 6, None, sinks, door, panel);
+        let end = idle_back(alloc, 6, sinks, door, panel);
         return with_code(end);
     };
     match texts(alloc, words.as_slice()) {
@@ -90,11 +91,11 @@ where
             with_code(end)
         }
         Ok(None) => {
-            let end = handed_back(alloc, 2, None, sinks, door, panel);
+            let end = idle_back(alloc, 2, sinks, door, panel);
             with_code(end)
         }
         Err(_) => {
-            let end = handed_back(alloc, 6, None, sinks, door, panel);
+            let end = idle_back(alloc, 6, sinks, door, panel);
             with_code(end)
         }
     }

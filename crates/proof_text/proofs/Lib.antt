@@ -3,6 +3,7 @@ pub mod LineParts
 pub mod Numbers
 pub mod Pieces
 pub mod Places
+pub mod FormulaPlaces
 pub mod Texts
 pub mod Walk
 pub mod Fits
@@ -11,3 +12,4 @@ pub mod PrintedProofs
 pub mod OneLine
 pub mod OneProof
 pub mod ForCallers
+pub mod SegmentCounts

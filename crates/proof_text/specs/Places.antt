@@ -1,7 +1,9 @@
 -- Where the segments of a text stand.
-use Rattle.std.specs.Prelude.{ℕ, zero, suc, ◌+◌, List, [], ◌∷◌, ◌==◌, ◌&&◌, nat_le, codes, if◌then◌else◌}
+use Rattle.std.specs.Prelude.{◌≡◌, ℕ, zero, suc, ◌+◌, List, [], ◌∷◌, ◌++◌, ◌==◌, ◌&&◌, nat_le, codes, length, if◌then◌else◌}
 use Rattle.std.specs.Str.{bytes_eq}
-use Rattle.proof_text.specs.ProofText.{segments}
+use Rattle.std.specs.List.{prefix_len}
+use Rattle.nal_parse.specs.Tokens.{is_blank}
+use Rattle.proof_text.specs.ProofText.{Head, HasHead, segments}
 
 -- how many line feeds stand before the segment with this number, that is, up to that many cuts, or in the
 -- whole text where it has fewer cuts
@@ -20,3 +22,26 @@ end_place n (s ∷ ss) = if nat_le 2 n && bytes_eq s (codes "end") then n else e
 -- the number of the first segment from segment 2 on that is `end`, or the number of segments where there is none
 abbrev pub end_segment_of : List ℕ → ℕ
 end_segment_of bs = end_place 0 (segments bs)
+
+-- how many bytes of its line stand before the segment with this number, blanks too, where n stand before the text; of a
+-- text with fewer cuts, how many its last line has
+abbrev pub column_from : ℕ → ℕ → List ℕ → ℕ
+column_from n zero bs = n + prefix_len is_blank bs
+column_from n (suc k) [] = n
+column_from n (suc k) (b ∷ bs) =
+    if b == 10 then column_from 0 k bs else (if b == 59 then column_from (n + 1) k bs else column_from (n + 1) (suc k) bs)
+
+-- how many bytes of its line stand before the segment with this number
+abbrev pub column_of : ℕ → List ℕ → ℕ
+column_of k bs = column_from 0 k bs
+
+-- this is the text of the formula in the segment with this number, and so many bytes of its line stand before it
+pub record IsFormulaAt (bs : List ℕ) (k : ℕ) (column : ℕ) (formula : List ℕ) : Type 0 where
+  pub before : List (List ℕ)
+  pub segment : List ℕ
+  pub behind : List (List ℕ)
+  pub head : Head
+  pub stands : segments bs ≡ before ++ segment ∷ behind
+  pub number : length before ≡ k
+  pub formed : HasHead segment head formula
+  pub place : column + length formula ≡ column_of k bs + length segment

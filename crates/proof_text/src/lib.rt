@@ -1,6 +1,7 @@
 //! The texts of proofs: what they spell, and the canonical text of each.
 #![tactic(auto)]
 
+mod columns;
 mod heads;
 mod laws;
 mod lengths;
@@ -11,6 +12,7 @@ mod printer;
 mod read;
 mod segments;
 
+pub use columns::{formula_at, segment_column};
 pub use laws::{refused_texts_have_one_error, texts_spell_one_proof};
 pub use lengths::{proof_fits, proof_length};
 pub use printer::print_proof;

@@ -1,4 +1,5 @@
-// Whole inputs with the line that is written of each, and what faults of the source and of the sink come to.
+// Whole inputs with the line that is written of each, behind `+` what is wrong with those that are refused, and what faults of the source and of
+// the sink come to.
 use crate::runs::{Streams, comes_to, pieces, play, play_faults, words_of};
 use std::alloc::{AllocError, Global};
 use std::net::{Net, TcpListener, TcpStream};
@@ -13,7 +14,7 @@ const ALLOWED: &str =
 // Inputs of `check`; of each all is read.
 const CHECKS: &str =
     "nexus check 1|subject alice|label alice says ok|goal alice says ok|proof 1|1 label : alice says ok|end| -> 0 none:allowed|
- -> 3 none:refused line 1|
+ -> 3 none:refused line 1|+line 1, byte 1: EndOfInput|
 nexus check 1|subject alice|goal alice says ok|proof 1|1 label : alice says ok|end| -> 1 none:denied LabelMissing 1|
 nexus check 1|subject a|label a says (p => q)|label a says p|goal a says q|proof 1|1 label : a says (p => q)|2 label : a says p|\
     3 deduce 1 2 : a says q|end| -> 0 none:allowed|
@@ -27,7 +28,20 @@ nexus check 1|subject bob|goal true|proof 1|1 hyp : forall ?x : exists ?y : p(?x
     end| -> 1 none:denied Line 2 Capture|
 nexus check 1|subject bob|goal ok|proof 1|1 hyp : ok|end| -> 1 none:denied Line 1 StillOpen|
 nexus check 1|subject bob|goal ntp says ok|proof 1|1 ask : ntp says ok|end| -> 1 none:denied AuthorityNo 1|
-nexus check 1|subject bob|goal ?subject says ok|proof 1|1 label : bob says ok| -> 3 none:refused line 6|";
+nexus check 1|subject bob|goal ?subject says ok|proof 1|1 label : bob says ok| -> 3 none:refused line 6|+line 6, byte 1: NoEnd|
+nexus check 2|subject a|goal ok|proof 1|1 hyp : ok|end| -> 3 none:refused line 1|+line 1, byte 1: BadLine|
+nexus check 1|subject a|label a says|goal ok|proof 1|1 hyp : ok|end| -> 3 none:refused line 3|+line 3, byte 13: Unexpected|
+nexus check 1|subject a|label ok|goal ok|proof 1|1 hyp : ok|end| -> 3 none:refused line 3|+line 3, byte 1: BadLine|
+nexus check 1|subject a|yes ok and|goal ok|proof 1|1 hyp : ok|end| -> 3 none:refused line 3|+line 3, byte 11: Unexpected|
+nexus check 1|subject a|goal p(|proof 1|1 hyp : ok|end| -> 3 none:refused line 3|+line 3, byte 8: Unexpected|
+nexus check 1|subject a|goal p ?1|proof 1|1 hyp : ok|end| -> 3 none:refused line 3|+line 3, byte 8: BadName|
+nexus check 1|subject a|label p 1a|goal ok|proof 1|1 hyp : ok|end| -> 3 none:refused line 3|+line 3, byte 9: BadNumber|
+nexus check 1|subject a|yes p \"q|goal ok|proof 1|1 hyp : ok|end| -> 3 none:refused line 3|+line 3, byte 7: BadText|
+nexus check 1|subject a|goal ok| -> 3 none:refused line 4|+line 4, byte 1: BadHeader|
+nexus check 1|subject a|goal ok|proof 3|1 hyp : ok|end| -> 3 none:refused line 4|+line 4, byte 1: BadHeader|
+nexus check 1|subject a|goal ok|proof 1 ; 1 hyp : ok ; 2 hyp : ok and|end| -> 3 none:refused line 4|+line 4, byte 38: Unexpected|
+nexus check 1|subject a|goal ok|proof 1|1 hyp : ok|3 hyp : ok|end| -> 3 none:refused line 6|+line 6, byte 1: BadNumber|
+nexus check 1|subject a|goal ok|proof 1|1 hyp : ok|end|more| -> 3 none:refused line 7|+line 7, byte 1: After|";
 
 #[test]
 fn inputs_come_to_their_outcomes(rt: HostRuntime) -> Result<(), AllocError> {
@@ -52,7 +66,10 @@ const TRUSTS: &str =
     goal fs says may(eve)|end| -> 0 none:safe|
 nexus trust 1|subject bob|label fs says ntp speaksfor fs|untrusted ntp|goal fs says may(eve)|end| -> 1 none:label 1|
 nexus trust 1|subject bob|untrusted ntp|goal ntp says may(?subject)|end| -> 1 none:goal|
-nexus trust 1|subject bob|fact may(?x)|goal fs says may(eve)|end| -> 3 none:refused line 3|";
+nexus trust 1|subject bob|fact may(?x)|goal fs says may(eve)|end| -> 3 none:refused line 3|+line 3, byte 1: BadLine|
+nexus trust 1|subject bob|fact may(|goal fs says may(eve)|end| -> 3 none:refused line 3|+line 3, byte 10: Unexpected|
+nexus trust 1|subject bob|untrusted fs.\"x|goal fs says may(eve)|end| -> 3 none:refused line 3|+line 3, byte 14: BadText|
+nexus trust 1|subject bob|untrusted ?x|goal fs says may(eve)|end| -> 3 none:refused line 3|+line 3, byte 1: BadLine|";
 
 #[test]
 fn questions_of_trust_are_answered(rt: HostRuntime) -> Result<(), AllocError> {
@@ -73,7 +90,8 @@ const CHAINS: &str =
 nexus prove 1|subject bob|label bob says ok|label dave says carol speaksfor dave on ok|goal dave says ok|end| -> 1 none:no chain|
 nexus prove 1|subject bob|label bob says ok|goal ?subject.x says ok|\
     end -> 0 none:proof 2 ; 1 label : bob says ok ; 2 sf_sub : bob speaksfor bob.x ; 3 sf_e 2 1 : bob.x says ok ; end|
-nexus prove 1|subject bob|label bob says ok|goal true|end| -> 3 none:refused line 4|";
+nexus prove 1|subject bob|label bob says ok|goal true|end| -> 3 none:refused line 4|+line 4, byte 1: BadLine|
+nexus prove 1|subject bob|label bob says|goal bob says ok|end| -> 3 none:refused line 3|+line 3, byte 15: Unexpected|";
 
 #[test]
 fn chains_are_found(rt: HostRuntime) -> Result<(), AllocError> {
@@ -92,7 +110,7 @@ nexus audit 1|nexus 2|principal alice pa|1 alice object f|1 alice goal read f : 
     5 alice read f - : allowed|1 alice read f - : allowed|4 alice read f - : allowed|end| -> 1 none:wrong record 1|
 nexus audit 1|nexus 2|principal alice pa|1 alice object f|1 alice goal read f : alice says ok|1 alice say alice : ok|\
     1 alice proof read f : proof 2 ; 1 label : alice says ok ; end|1 alice delete 3|end|\
-    6 alice read f - : allowed|end| -> 3 none:refused line 10|
+    6 alice read f - : allowed|end| -> 3 none:refused line 10|+line 10, byte 1: BadLine|
 nexus audit 1|nexus 2|principal alice pa|authority 0 clock|1 alice object f|1 alice bind alice.c 0|1 alice goal read f : alice.c says ok|\
     1 alice proof read f : proof 2 ; 1 ask : alice.c says ok ; end|end|\
     4 alice read f ? : allowed|4 alice read f y : allowed|4 alice read f n : denied AuthorityNo 1|4 alice read f ? : denied AuthorityNo 1|\
@@ -103,14 +121,15 @@ nexus audit 1|nexus 2|principal alice pa|authority 0 clock|1 alice object f|1 al
 nexus audit 1|nexus 2|principal alice pa|authority 0 clock|1 alice object f|1 alice bind alice.c 0|1 alice goal read f : alice.c says ok|\
     1 alice proof read f : proof 2 ; 1 ask : alice.c says ok ; end|end|3 alice read f ? : down 1|end| -> 1 none:wrong record 1|
 nexus audit 1|nexus 2|principal alice pa|end|end| -> 0 none:audited 0|
-nexus audit 1|nexus 2|principal alice pa|1 alice object f| -> 3 none:refused line 5|
-nexus audit 1|nexus 2|principal alice pa|1 alice object f|1 alice delete 7|end|end| -> 3 none:refused line 5|
-nexus audit 1|nexus 2|principal alice pa|end|0 alice read f yyyyyyyyyyyyyyyyy : allowed|end| -> 3 none:refused line 5|
-nexus audit 1|nexus 2|principal alice pa|end|0 bob read f - : allowed|end| -> 3 none:refused line 5|
-nexus audit 1|nexus 2|principal alice pa|end|0 alice not f - : allowed|end| -> 3 none:refused line 5|
-nexus audit 1|nexus 2|principal alice pa|end|0 alice read f - : denied GoalUnset 1|end| -> 3 none:refused line 5|
-nexus audit 1|nexus 2|principal alice pa|end|0 alice read f - : down 0|end| -> 3 none:refused line 5|
-nexus audit 1|nexus 2|principal alice pa|end|0 alice read f - : refused NoSuchObject| -> 3 none:refused line 6|";
+nexus audit 1|nexus 2|principal alice pa|1 alice object f| -> 3 none:refused line 5|+line 5, byte 1: EndOfInput|
+nexus audit 1|nexus 2|principal alice pa|1 alice object f|1 alice delete 7|end|end| -> 3 none:refused line 5|+line 5, byte 1: NoSuchLabel|
+nexus audit 1|nexus 2|principal alice pa|end|0 alice read f yyyyyyyyyyyyyyyyy : allowed|end| -> 3 none:refused line 5|+line 5, byte 1: BadLine|
+nexus audit 1|nexus 2|principal alice pa|end|0 bob read f - : allowed|end| -> 3 none:refused line 5|+line 5, byte 1: BadLine|
+nexus audit 1|nexus 2|principal alice pa|end|0 alice not f - : allowed|end| -> 3 none:refused line 5|+line 5, byte 1: BadLine|
+nexus audit 1|nexus 2|principal alice pa|end|0 alice read f - : denied GoalUnset 1|end| -> 3 none:refused line 5|+line 5, byte 1: BadLine|
+nexus audit 1|nexus 2|principal alice pa|end|0 alice read f - : down 0|end| -> 3 none:refused line 5|+line 5, byte 1: BadLine|
+nexus audit 1|nexus 2|principal alice pa|end|0 alice read f - : refused NoSuchObject| -> 3 none:refused line 6|+line 6, byte 1: EndOfInput|
+nexus 2|principal alice pa|end|end| -> 3 none:refused line 1|+line 1, byte 1: BadLine|";
 
 #[test]
 fn records_are_audited(rt: HostRuntime) -> Result<(), AllocError> {
@@ -124,8 +143,8 @@ const EXPORTS: &str =
 nexus 2|principal alice pa|principal bob pb|1 bob say bob : p(1)|1 bob say bob : q|1 bob transfer 2 alice|1 alice say alice : p  and (q)|end| -> 0 none:nexus bundle 1|label bob says q|label alice says (p and q)|end|
 nexus 2|principal alice pa|1 alice say alice : ok|1 alice delete 1|end| -> 0 none:nexus bundle 1|end|
 nexus 2|principal bob pb|end| -> 1 none:no principal|
-nexus 2|principal alice pa|1 alice say alice : ok| -> 3 none:refused line 4|
-nexus 2|principal alice pa|1 alice say bob : ok|end| -> 3 none:refused line 3|";
+nexus 2|principal alice pa|1 alice say alice : ok| -> 3 none:refused line 4|+line 4, byte 1: EndOfInput|
+nexus 2|principal alice pa|1 alice say bob : ok|end| -> 3 none:refused line 3|+line 3, byte 1: NotYourPrincipal|";
 
 #[test]
 fn labels_are_exported(rt: HostRuntime) -> Result<(), AllocError> {
@@ -144,8 +163,8 @@ const COMPACTED: &str =
 nexus 2|principal fs pf|authority 0 clock|1 fs bind fs 0|1 fs bind fs.a 0|1 fs unbind fs|1 fs say fs : a|1 fs say fs : b|1 fs delete 4|1 fs say fs : c|end| -> \
     0 none:nexus 2|principal fs pf|authority 0 clock|1 fs bind fs.a 0|1 fs say fs : b|1 fs say fs : c|end|+5 2|7 3|
 nexus 2|principal fs pf|1 fs object f|end| -> 0 none:nexus 2|principal fs pf|1 fs object f|end|
-nexus 2|principal fs pf|1 fs object f| -> 3 none:refused line 4|
-nexus 2|principal fs pf|1 bob object f|end| -> 3 none:refused line 3|";
+nexus 2|principal fs pf|1 fs object f| -> 3 none:refused line 4|+line 4, byte 1: EndOfInput|
+nexus 2|principal fs pf|1 bob object f|end| -> 3 none:refused line 3|+line 3, byte 1: BadLine|";
 
 // A policy of one label, where the first write of a record fails, and its second.
 const LABELLED: &str = "nexus 2|principal fs pf|1 fs say fs : a|end|";
@@ -186,7 +205,7 @@ const UNSYNCED: [(&str, &str); 4] = [
         "script",
         "5 none:nexus 2|principal fs pf|1 fs say fs : a|end|",
     ),
-    ("audit", "3 none:refused line 1|"),
+    ("audit", "3 none:refused line 1|+line 1, byte 1: BadLine|"),
 ];
 
 #[test]

@@ -33,7 +33,8 @@ use std::thread::Threads;
 // `holds`: how many bytes each share of the sink for records holds, and `lend`, the number of the share that fails. `keeps`: how many lines the
 // keeper of a log keeps.
 //
-// Then `status`; `told`, what the sessions are told, one after another, and how each ends; `written`; `logged`, what was sent to a keeper; and
+// Then `status`; `told`, what the sessions are told, one after another, and how each ends; `written`; `noted`, what is told beside a refusal;
+// `logged`, what was sent to a keeper; and
 // `recorded`, what was recorded, a worker after the other, with `&` behind each. Where these begin with `..` they are the end.
 #[derive(Clone, Copy)]
 pub struct Day<'a> {
@@ -443,6 +444,16 @@ fn compare<K: Shown>(
         is_due(written.as_slice(), day.at("written")),
         "{}",
         day.at("written")
+    );
+    let Some(records) = &ended.records else {
+        return Err(AllocError);
+    };
+    let mut noted = Vec::new(alloc);
+    show(records.sent(), &mut noted)?;
+    assert!(rt;
+        noted.as_slice() == day.at("noted").as_bytes(),
+        "{}",
+        day.at("noted")
     );
     let Some(log) = &end.log else {
         return Err(AllocError);

@@ -17,9 +17,9 @@ pub struct MemRecorder {
 }
 
 impl MemRecorder {
-    // A recorder whose shares hold so many bytes, and whose share with this number fails.
+    // A recorder that holds 100 bytes itself, whose shares hold so many, and whose share with this number fails.
     pub fn new(alloc: Global, holds: usize, fails: u64) -> Result<MemRecorder, AllocError> {
-        let sink = MemSink::new(alloc, 0, 1, &[], &[])?;
+        let sink = MemSink::new(alloc, 100, 1, &[], &[])?;
         Ok(MemRecorder {
             alloc,
             sink,

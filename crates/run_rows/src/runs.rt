@@ -2,6 +2,7 @@
 use authority_ask::{Ask, MemPanel};
 use nexus_run::{Call, call_of, run_plain};
 use nx_io::{MemSink, MemSource};
+use run_streams::tell_note;
 use std::alloc::{AllocError, Global};
 use std::mem;
 use std::net::{Net, TcpListener, TcpStream};
@@ -80,7 +81,8 @@ pub fn asks_of(alloc: Global, letters: &str) -> Result<Vec<Ask>, AllocError> {
 }
 
 // The status of a run with these words, over a panel that gives these answers: 2, as `run` has it, where they are those of no command
-// that is neither a service nor a talk. What is handed back is kept, since it takes long to prove that it may be dropped.
+// that is neither a service nor a talk. What is wrong with an input that is refused is sent to the records, as `run` does. What is handed back
+// is kept, since it takes long to prove that it may be dropped.
 fn status_of<R>(
     rt: &R,
     alloc: Global,
@@ -99,8 +101,11 @@ where
     };
     let panel = MemPanel::new(alloc, answers, &[reach_fails], &[])?;
     let end = run_plain(rt, alloc, command, source, records, sink, panel);
-    let status = end.status;
+    let (status, refusal) = (end.status, end.refusal);
     mem::forget(end);
+    if let Some(refusal) = refusal {
+        tell_note(records, refusal);
+    }
     Ok(status)
 }
 

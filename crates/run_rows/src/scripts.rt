@@ -50,19 +50,19 @@ ydyy nexus 2|principal ntp pn|authority 1 mem|end|1 hello ntp pn|1 object f|1 go
     2 bob proof read f : proof 2 ; 1 label : fs says may(bob) ; end|1 fs proof read f : proof 2 ; 1 label : fs says may(bob) ; end|end|
  nexus 1|end -> 0 none:nexus 2|end|";
 
-// Inputs that are refused, each with the number of its lowest wrong line.
-const REFUSED: &str = " -> 3 none:refused line 1|
-nexus 2|principal alice pa| -> 3 none:refused line 3|
-nexus 2|end|| -> 3 none:refused line 3|
-nexus 2|end|hello alice pa| -> 3 none:refused line 3|
-nexus 2|end|0 hello alice pa| -> 3 none:refused line 3|
-nexus 2|end|65 hello alice pa| -> 3 none:refused line 3|
-nexus 2|end|01 hello alice pa| -> 3 none:refused line 3|
-nexus 2|end|64 hello alice pa|1 hello says pa|x| -> 3 none:refused line 4|
-nexus 2|principal alice pa|1 hello alice pa|end| -> 3 none:refused line 3|
-nexus 2|principal alice pa|18446744073709551551 alice object f|end| -> 3 none:refused line 3|
-nexus 2|principal alice pa|1 alice object f|1 alice object f|18446744073709551551 alice object f|end| -> 3 none:refused line 4|
-nexus 2|principal alice pa|18446744073709551550 alice object f|end|x| -> 3 none:refused line 5|";
+// Inputs that are refused, each with the number of its lowest wrong line, and what is wrong with it.
+const REFUSED: &str = " -> 3 none:refused line 1|+line 1, byte 1: EndOfInput|
+nexus 2|principal alice pa| -> 3 none:refused line 3|+line 3, byte 1: EndOfInput|
+nexus 2|end|| -> 3 none:refused line 3|+line 3, byte 1: BadLine|
+nexus 2|end|hello alice pa| -> 3 none:refused line 3|+line 3, byte 1: BadLine|
+nexus 2|end|0 hello alice pa| -> 3 none:refused line 3|+line 3, byte 1: BadLine|
+nexus 2|end|65 hello alice pa| -> 3 none:refused line 3|+line 3, byte 1: BadLine|
+nexus 2|end|01 hello alice pa| -> 3 none:refused line 3|+line 3, byte 1: BadLine|
+nexus 2|end|64 hello alice pa|1 hello says pa|x| -> 3 none:refused line 4|+line 4, byte 1: BadLine|
+nexus 2|principal alice pa|1 hello alice pa|end| -> 3 none:refused line 3|+line 3, byte 1: BadLine|
+nexus 2|principal alice pa|18446744073709551551 alice object f|end| -> 3 none:refused line 3|+line 3, byte 1: BadLine|
+nexus 2|principal alice pa|1 alice object f|1 alice object f|18446744073709551551 alice object f|end| -> 3 none:refused line 4|+line 4, byte 1: NameTaken|
+nexus 2|principal alice pa|18446744073709551550 alice object f|end|x| -> 3 none:refused line 5|+line 5, byte 1: BadLine|";
 
 // Each row is the answers, a space, the input, ` -> ` and what is due.
 fn play_scripts<R>(rt: &R, alloc: Global, rows: &str) -> Result<(), AllocError>

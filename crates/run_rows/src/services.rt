@@ -24,10 +24,17 @@ fn a_service_without_links_writes_its_policy(rt: HostRuntime) -> Result<(), Allo
 const REFUSED: &str = "policy=nexus 2|principal alice pa|7 alice object f|end|1 hello alice pa|
 status=3
 written=refused line 5|
+noted=line 5, byte 1: BadLine|
 
 policy=nexus 2|principal alice pa|18446744073709551609 alice object f|end|
 status=3
 written=refused line 3|
+noted=line 3, byte 1: BadLine|
+
+policy=nexus 2|principal alice pa|7 alice object f|7 alice delete 1|end|
+status=3
+written=refused line 4|
+noted=line 4, byte 1: NoSuchLabel|
 
 words=serve 127.0.0.1:1 0 3
 status=2
@@ -129,6 +136,7 @@ policy=nexus 2|principal alice pa|7 alice object f|end|1 hello alice pa|
 keeps=9
 status=3
 written=refused line 5|
+noted=line 5, byte 1: BadLine|
 
 words=serve 127.0.0.1:1 2 3 log
 status=2

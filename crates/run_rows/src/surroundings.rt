@@ -39,7 +39,7 @@ impl Read for Scripted {
 
 // A run of `check`.
 fn check<S: Source, K: Sink>(alloc: Global, input: &mut S, output: &mut K) -> u8 {
-    answer_input::<Verdict, S, K>(alloc, &(), input, output)
+    answer_input::<Verdict, S, K>(alloc, &(), input, output).status
 }
 
 // How often a run of `check` over such a reader found it failing, behind its status.

@@ -1,5 +1,5 @@
 -- How a run ends, by what was read and told.
-use Rattle.std.proofs.Common.{◌≡◌, ◌≤◌, ◌⊎◌, inl, inr, ℕ, List, length, IsTrue, Option, refl, sym, subst, arith}
+use Rattle.std.proofs.Common.{◌≡◌, ◌≢◌, ◌≤◌, ◌⊎◌, inl, inr, ℕ, List, length, IsTrue, Option, Some, None, refl, sym, subst, ◌∙◌, arith}
 use Rattle.std.specs.Io.KnownBytes.{IsAtEnd}
 use Rattle.nx_io.specs.Streams.{Grows, Rose, gained, prepended}
 use Rattle.nx_io.proofs.ForCallers.{gained-by, gained-nothing, grows-by, grows-nothing}
@@ -7,7 +7,7 @@ use Rattle.run_streams.specs.Runs.{SinkRun, SourceRun, most_bytes}
 use Rattle.run_streams.specs.declared.refusals.InputRefusal.{InputRefusal}
 use Rattle.run_streams.specs.Refusals.{Form, IsRefusalOf, IsRefusedInput, RefusesExactly, refusal_text}
 use Rattle.run_streams.specs.Telling.{Tells, whole, part, nothing}
-use Rattle.run_streams.specs.Ends.{Answering, EndsAnswer, EndsUnanswered, IsAnswerOf, IsCompleteAnswer, RunsAnswer, answering, cut_off, no_memory, refusal_cut_off, refused, source_failed, whole as answered}
+use Rattle.run_streams.specs.Ends.{Answering, EndsAnswer, EndsUnanswered, HandsOn, IsAnswerOf, IsCompleteAnswer, RunsAnswer, answering, cut_off, no_memory, refusal_cut_off, refused, source_failed, whole as answered}
 use Rattle.run_streams.proofs.Given.{apart, not_refused, read_whole, refused_by}
 
 -- an input that is answered, as the source gave it
@@ -112,3 +112,30 @@ runs_as {A = A} {B = B} f {form = form} {told = told} {written = written} {ends 
         → (status ≡ 6) ⊎ ((answer : B) × IsAnswerOf (answering form told written ends) source answer × (status ≡ ends answer) × (sink.sent ≡ written answer))
     complete_as (inl e) = inl e
     complete_as (inr (answer, is, e, s)) = inr (f answer, is_as answer is, e, s)
+
+-- ---- What is handed on
+
+-- a refusal that was told whole is handed on, and any other end hands on none
+pub refusal_hands : (form : Form) (source : SourceRun) (why : InputRefusal) (before now : List ℕ) (u v status : ℕ) (handed : Option InputRefusal) → IsRefusalOf form source why
+    → Tells (refusal_text why) 3 before now u v status → (status ≡ 3 → handed ≡ Some why) → (status ≢ 3 → handed ≡ None)
+    → HandsOn form source (record { sent = gained before now; faults = u; faults_now = v }) status handed
+refusal_hands form source why before now u v status handed r (whole e w f) some none = rw (some e) (e, r, gained-by before now (refusal_text why) w)
+refusal_hands form source why before now u v status handed r (part e w f) some none =
+    let not : status ≢ 3 = λ three. apart status 5 3 e three refl in rw (none not) not
+refusal_hands form source why before now u v status handed r (nothing e w f) some none =
+    let not : status ≢ 3 = λ three. apart status 6 3 e three refl in rw (none not) not
+
+-- a run that handed on none did not end with 3
+pub none_hands : (form : Form) (source : SourceRun) (sink : SinkRun) (status : ℕ) (handed : Option InputRefusal) → handed ≡ None → status ≢ 3 → HandsOn form source sink status handed
+none_hands form source sink status handed none not = rw none not
+
+-- what is handed on is what ended the run with 3
+pub handed_ends : (form : Form) (source : SourceRun) (sink : SinkRun) (status : ℕ) (handed : Option InputRefusal) → HandsOn form source sink status handed → status ≢ 3 → handed ≡ None
+handed_ends form source sink status (Some why) h not = absurd (not h.0)
+handed_ends form source sink status None h not = refl
+
+-- what a sink was sent decides what is handed on, not how often it failed
+pub hands_same : (form : Form) (source : SourceRun) (sink other : SinkRun) (status : ℕ) (handed : Option InputRefusal) → sink.sent ≡ other.sent → HandsOn form source sink status handed
+    → HandsOn form source other status handed
+hands_same form source sink other status (Some why) same h = (h.0, h.1, sym same ∙ h.2)
+hands_same form source sink other status None same h = h

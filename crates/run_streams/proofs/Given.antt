@@ -1,9 +1,13 @@
 -- What a source gave in a run, and what is refused of it.
-use Rattle.std.proofs.Common.{◌≡◌, ◌==◌, ◌<◌, ◌≤◌, ◌++◌, inl, inr, ℕ, List, length, false, IsTrue, Option, Some, None, refl, sym, ap, subst, ◌∙◌, arith}
+use Rattle.std.proofs.Common.{◌≡◌, ◌==◌, ◌<◌, ◌≤◌, ◌++◌, inl, inr, ℕ, List, length, false, IsTrue, Option, Some, None, Result, Ok, Err, IfOk, refl, sym, ap, subst, ◌∙◌, arith}
+use Rattle.std.specs.declared.alloc.AllocError.{AllocError}
 use Rattle.std.proofs.lemmas.Bool.Decides.{Decides-eqb}
 use Rattle.std.proofs.lemmas.List.{append-nil, length-append}
 use Rattle.std.specs.Io.KnownBytes.{IsAtEnd}
 use Rattle.nx_io.specs.Streams.{prepended}
+use Rattle.run_streams.specs.Flaws.{flaw_tree}
+use Rattle.run_streams.specs.Inner.Unread.{IsUnread, wrong_by}
+use Rattle.run_streams.specs.declared.flaws.Flaw.{Flaw}
 use Rattle.run_streams.specs.declared.refusals.InputRefusal.{InputRefusal}
 use Rattle.run_streams.specs.declared.refusals.InputRefusal.TheVariants.{WrongLine, TooLarge}
 use Rattle.run_streams.specs.Refusals.{Form, IsRefusal, IsRefusalOf, IsRefusedInput}
@@ -49,10 +53,18 @@ too_large source left_now taken large = record {
   whole = λ other. absurd (other refl);
 }
 
+-- an input with a wrong line is refused for it, where what is wrong with it could be told
+pub wrong_given : (form : Form) (source : SourceRun) (left_now : Option (List ℕ)) (k : ℕ) (flaw : Result Flaw AllocError) (bytes : List ℕ) → source.known ≡ prepended source.given left_now
+    → source.given ≡ bytes → IsTrue source.over → IsAtEnd left_now → length bytes ≤ most_bytes → IfOk flaw (λ f. form.wrong bytes k (flaw_tree f)) → ¬ form.formed bytes
+    → IsUnread form source (wrong_by k flaw)
+wrong_given form source left_now k (Ok flaw) bytes taken same over end small wrong no_form =
+    refusal_given {form = form} source left_now (WrongLine k flaw) bytes taken same over end (small, wrong, no_form)
+wrong_given form source left_now k (Err e) bytes taken same over end small wrong no_form = tt
+
 -- what is refused of an input
 pub refused_by : (form : Form) (text : List ℕ) (why : InputRefusal) → IsRefusal form text why → IsRefusedInput form text
 refused_by form text TooLarge r = inl r
-refused_by form text (WrongLine k) r = inr r.2
+refused_by form text (WrongLine k flaw) r = inr r.2
 
 -- an input in its form is not refused
 pub not_refused : (form : Form) (text : List ℕ) → length text ≤ most_bytes → form.formed text → IsRefusedInput form text → ⊥

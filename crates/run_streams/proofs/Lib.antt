@@ -1,3 +1,4 @@
 pub mod Given
+pub mod Sending
 pub mod Ends
 pub mod ForCallers

@@ -1,5 +1,5 @@
 -- How a command ends that reads its whole input: the status, what the source gave, and what was written.
-use Rattle.std.specs.Prelude.{◌≡◌, ◌⊎◌, ◌≤◌, ℕ, List, [], length}
+use Rattle.std.specs.Prelude.{◌≡◌, ◌≢◌, ◌⊎◌, ◌≤◌, ℕ, List, [], Option, Some, None, length}
 use Rattle.nx_io.specs.Streams.{Rose, one_more}
 use Rattle.run_streams.specs.Runs.{IsProperPart, IsReadWhole, SinkRun, SourceRun, most_bytes}
 use Rattle.run_streams.specs.declared.refusals.InputRefusal.{InputRefusal}
@@ -55,3 +55,8 @@ pub record RunsAnswer {A : Type 0} (command : Answering A) (source : SourceRun) 
   pub ends : EndsAnswer command source sink status
   pub complete : IsCompleteAnswer command source sink status
   pub refuses : RefusesExactly command.form source status
+
+-- A run that ends with status 3 has written this refusal, and hands it on; and any other hands on none
+abbrev pub HandsOn : Form → SourceRun → SinkRun → ℕ → Option InputRefusal → Type 0
+HandsOn form source sink status (Some refusal) = (status ≡ 3) × IsRefusalOf form source refusal × (sink.sent ≡ refusal_text refusal)
+HandsOn form source sink status None = status ≢ 3

@@ -1,5 +1,6 @@
 pub mod Reading
 pub mod Runs
+pub mod Flaws
 pub mod Refusals
 pub mod Ends
 pub mod Telling

@@ -2,12 +2,16 @@
 //! is told.
 #![tactic(auto)]
 
+mod flaws;
 mod input;
+mod notes;
 mod refusals;
 mod telling;
 mod unread;
 
+pub use flaws::Flaw;
 pub use input::{ReadError, read_whole};
+pub use notes::tell_note;
 pub use refusals::InputRefusal;
-pub use telling::{tell_refusal, tell_text};
+pub use telling::{InputEnd, tell_refusal, tell_text};
 pub use unread::Unread;

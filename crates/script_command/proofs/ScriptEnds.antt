@@ -1,12 +1,15 @@
 -- How the ends of a run of `script` come from those of its parts.
-use Rattle.std.proofs.Common.{◌≡◌, ◌≢◌, ◌<◌, ◌≤◌, ◌+◌, ◌⊎◌, inl, inr, ℕ, List, [], ◌++◌, length, Option, Some, None, IsTrue, refl, sym, ap, subst, ◌∙◌, append_assoc, arith}
-use Rattle.std.specs.Prelude.{map}
+use Rattle.std.proofs.Common.{◌≡◌, ◌≢◌, ◌<◌, ◌+◌, ◌⊎◌, inl, inr, ℕ, List, [], ◌++◌, Option, Some, None, IsTrue, refl, sym, ap, subst, ◌∙◌, append_assoc}
+use Rattle.std.specs.Prelude.{Result, IfOk, map}
+use Rattle.std.specs.declared.alloc.AllocError.{AllocError}
+use Rattle.input_flaws.specs.PolicyFlaws.{IsFrontFlaw}
+use Rattle.input_flaws.proofs.ForCallers.{each_flaw}
 use Rattle.std.specs.Io.KnownBytes.{IsAtEnd}
 use Rattle.std.specs.List.{All}
 use Rattle.std.proofs.lemmas.List.{append-nil}
 use Rattle.std.proofs.lemmas.List.Elements.{All-cons, All-nil}
 use Rattle.nx_io.specs.Streams.{gained, prepended}
-use Rattle.nx_io.proofs.ForCallers.{gained-by, gained-nothing}
+use Rattle.nx_io.proofs.ForCallers.{gained-by}
 use Rattle.policy_history.specs.declared.heads.Head.{Head}
 use Rattle.policy_history.specs.Events.{EntryTree}
 use Rattle.policy_history.specs.Values.{History, entry_trees, greatest_of}
@@ -17,13 +20,14 @@ use Rattle.session_core.specs.Sessions.{Point, Told1, at_start}
 use Rattle.policy_script.specs.ScriptText.{script_text}
 use Rattle.session_core.specs.declared.lines.Asking.{Asking}
 use Rattle.session_core.specs.Reaching.{reached_at}
-use Rattle.policy_script.specs.ScriptForm.{AreAskings, none, next, IsScript, ScriptTree}
+use Rattle.policy_script.specs.ScriptForm.{AreAskings, none, next, IsScript, ScriptTree, most_session}
 use Rattle.policy_script.specs.declared.input.ScriptError.{ScriptError}
 use Rattle.policy_script.specs.declared.input.ScriptError.TheVariants.{Wrong, Memory}
 use Rattle.policy_script.specs.Inner.Reading.{IsWrongInput}
-use Rattle.run_streams.specs.Runs.{SinkRun, SourceRun, most_bytes}
-use Rattle.run_streams.specs.declared.refusals.InputRefusal.TheVariants.{WrongLine}
-use Rattle.run_streams.specs.Refusals.{IsRefusal, RefusesExactly}
+use Rattle.run_streams.specs.Runs.{SinkRun, SourceRun}
+use Rattle.run_streams.specs.Flaws.{flaw_tree}
+use Rattle.run_streams.specs.declared.flaws.Flaw.{Flaw}
+use Rattle.run_streams.specs.Refusals.{RefusesExactly}
 use Rattle.run_streams.specs.Ends.{IsAnswerOf, cut_off, whole}
 use Rattle.run_streams.proofs.ForCallers.{answer_complete, answer_refuses, apart, not_refused, read_whole, unanswered_refuses}
 use Rattle.script_command.specs.Scripts.{EndsScript, answered, unanswered, unreached, no_memory, HasAsked, HasMore, IsAnswered, IsCompleteScript, IsScriptOf, PanelRun, RunsScript, panel_run, script_command, script_form}
@@ -112,10 +116,20 @@ pub script_given : (source : SourceRun) (left_now : Option (List ℕ)) (script :
 script_given source left_now script bytes taken same over end form =
     record { form = subst (λ (b : List ℕ). IsScript b script) (sym same) form; whole = read_whole source left_now taken over end }
 
--- a text in which a line is wrong is refused
-pub wrong_refusal : {text : List ℕ} {error : ScriptError} {k : ℕ} → error ≡ Wrong k → length text ≤ most_bytes → IsWrongInput text error
-    → (error ≢ Memory → (script : ScriptTree) → ¬ IsScript text script) → IsRefusal script_form text (WrongLine k)
-wrong_refusal {text = text} {k = k} e small w no_form = (small, subst (IsWrongInput text) e w, λ has. no_form (λ m. cc (sym e ∙ m)) has.0 has.1)
+-- a text in which a line is wrong, and what was told of it
+pub wrong_told : (text : List ℕ) (error : ScriptError) (k : ℕ) (told : Result Flaw AllocError) → error ≡ Wrong k → IsWrongInput text error
+    → IfOk told (λ flaw. IsFrontFlaw most_session text text k (flaw_tree flaw)) → IfOk told (λ flaw. script_form.wrong text k (flaw_tree flaw))
+wrong_told text error k told e w is = each_flaw told (λ flaw at. (subst (IsWrongInput text) e w, at)) is
+
+pub not_formed : (text : List ℕ) (error : ScriptError) (k : ℕ) → error ≡ Wrong k → (error ≢ Memory → (script : ScriptTree) → ¬ IsScript text script) → ¬ script_form.formed text
+not_formed text error k e no_form = λ has. no_form (λ m. cc (sym e ∙ m)) has.0 has.1
+
+-- where requests were to be answered, nothing was refused
+pub never_refused : {script : ScriptTree} {sink : SinkRun} {panel : PanelRun} {journal : Option History} {status : ℕ} → EndsAnswers script sink panel journal status → status ≢ 3
+never_refused {status = status} (was_answered e a f) three = apart status 0 3 e three refl
+never_refused {status = status} (was_cut_off text e a p f) three = apart status 5 3 e three refl
+never_refused {status = status} (was_unreached e u j s f) three = apart status 8 3 e three refl
+never_refused {status = status} (had_no_memory said e a for j s f) three = apart status 6 3 e three refl
 
 complete : (source : SourceRun) (sink : SinkRun) (panel : PanelRun) (journal : Option History) (status : ℕ) → EndsScript source sink panel journal status
     → IsCompleteScript source sink panel journal status

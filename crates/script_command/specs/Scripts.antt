@@ -11,7 +11,8 @@ use Rattle.session_wire.specs.declared.replies.Reply.{Reply}
 use Rattle.session_core.specs.Earned.{IsTrueAlone}
 use Rattle.session_core.specs.Reaching.{HaveReached, reached_at}
 use Rattle.session_core.specs.Sessions.{Point, Told1, at_start}
-use Rattle.policy_script.specs.ScriptForm.{IsScript, IsWrongScript, ScriptTree}
+use Rattle.input_flaws.specs.PolicyFlaws.{IsFrontFlaw}
+use Rattle.policy_script.specs.ScriptForm.{IsScript, IsWrongScript, ScriptTree, most_session}
 use Rattle.policy_script.specs.ScriptText.{script_text}
 use Rattle.run_streams.specs.Ends.{Answering, EndsAnswered, EndsUnanswered, IsCompleteAnswer, answering}
 use Rattle.run_streams.specs.Refusals.{Form, RefusesExactly, form_of}
@@ -53,9 +54,9 @@ pub record IsAnswered (script : ScriptTree) (panel : PanelRun) (journal : Option
   pub handed : IsHanded journal script.head last.entries
   pub text_is : text ≡ script_text replies script.head last.entries
 
--- the form of a script's inputs
+-- the form of a script's inputs: the lowest wrong line of another text, and what is wrong with it
 abbrev pub script_form : Form
-script_form = form_of (λ text. (script : ScriptTree) × IsScript text script) IsWrongScript
+script_form = form_of (λ text. (script : ScriptTree) × IsScript text script) (λ text k flaw. IsWrongScript text k × IsFrontFlaw most_session text text k flaw)
 
 -- the input is that of this script
 pub record IsScriptOf (source : SourceRun) (script : ScriptTree) : Type 0 where

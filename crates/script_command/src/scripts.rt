@@ -1,5 +1,5 @@
 //! A run of `script`.
-ghost use Rattle.std.specs.Prelude.{◌≡◌, ◌⊎◌, ◌<◌, IfErr, IfOk, None, Some};
+ghost use Rattle.std.specs.Prelude.{◌≡◌, ◌⊎◌, ◌<◌, ◌≤◌, IfErr, IfOk, None, Some, length};
 ghost use Rattle.std.specs.List.{All};
 ghost use Rattle.nx_io.specs.Streams.{Grows};
 ghost use Rattle.nx_io.specs.Views.{HasGiven};
@@ -7,33 +7,43 @@ ghost use Rattle.policy_history.specs.Values.{entry_trees};
 ghost use Rattle.journal_text.specs.PolicyFronts.{AreBelow};
 ghost use Rattle.policy_script.specs.ScriptForm.{most_session};
 ghost use Rattle.policy_script.specs.Inner.Reading.{script_tree};
-ghost use Rattle.run_streams.specs.Runs.{sink_run, source_run};
+ghost use Rattle.run_streams.specs.Ends.{HandsOn};
+ghost use Rattle.run_streams.specs.Flaws.{flaw_tree};
+ghost use Rattle.run_streams.specs.Runs.{most_bytes, sink_run, source_run};
+ghost use Rattle.input_flaws.specs.PolicyFlaws.{IsFrontFlaw};
 ghost use Rattle.script_command.specs.Inner.ScriptEnds.{EndsAnswers, EndsReached, EndsReplies, script_of};
 ghost use Rattle.run_streams.specs.Inner.Unread.{faults_after_input, IsUnread};
 ghost use Rattle.script_command.specs.Scripts.{EndsScript, IsScriptOf, panel_run, script_form};
 
 use authority_ask::Panel;
+use input_flaws::front_flaw;
 use nx_io::{Reach, Sink, Source, send_all};
 use policy_history::Journal;
 use policy_script::{Script, ScriptError, read_script, script_text};
-use run_streams::{InputRefusal, ReadError, Unread, read_whole, tell_refusal};
+use run_streams::{Flaw, InputEnd, InputRefusal, ReadError, Unread, read_whole, tell_refusal};
 use session_core::{Asking, answer_all, reach_all};
-use std::alloc::Global;
+use std::alloc::{AllocError, Global};
 use std::net::{Net, TcpListener, TcpStream};
 use std::rt::Clock;
+
+/// The greatest number that a session of the policy's entries may have.
+const MOST_SESSION: u64 = u64::MAX - 65;
 
 /// How a command ended that is neither a service nor a client.
 #[derive(Drop)]
 pub struct PlainEnd<P> {
     /// The status that the operating system is given. `docs/FORMATS.md`, "Statuses", says what each means.
     pub status: u8,
+    /// Why the input was refused, with status 3.
+    pub refusal: Option<InputRefusal>,
     /// The journal at the end, where a policy was read and its text was to be written.
     pub journal: Option<Journal>,
     /// The panel that was handed in.
     pub panel: P,
 }
 
-/// Reads a policy and requests, answers them, and writes the replies and then the policy.
+/// Reads a policy and requests, answers them, and writes the replies and then the policy. Where the input is refused, and the line of that
+/// was written, the refusal is handed on.
 pub fn script<R, S: Source, K: Sink, P: Panel>(
     rt: &R,
     alloc: Global,
@@ -51,6 +61,10 @@ where
         (sink_run K.Sink output.old output.new)
         (panel_run (P.history panel) (P.history result.panel))
         result.journal result.status }
+    ensures handed { HandsOn script_form
+        (source_run S.Source input.old input.new)
+        (sink_run K.Sink output.old output.new)
+        result.status result.refusal }
 {
     match read_input(alloc, input) {
         Ok(script) => {
@@ -58,11 +72,11 @@ where
             answers(rt, alloc, journal, askings.as_slice(), output, panel)
         }
         Err(Unread::Refused(refusal)) => {
-            let status = tell_refusal(alloc, output, refusal);
-            unanswered(status, panel)
+            let end = tell_refusal(alloc, output, refusal);
+            unanswered(end, panel)
         }
-        Err(Unread::Failed) => unanswered(4, panel),
-        Err(Unread::Memory) => unanswered(6, panel),
+        Err(Unread::Failed) => unanswered(InputEnd::of(4), panel),
+        Err(Unread::Memory) => unanswered(InputEnd::of(6), panel),
     }
 }
 
@@ -81,7 +95,8 @@ fn read_input<S: Source>(alloc: Global, input: &mut S) -> Result<Script, Unread>
         Ok(text) => match read_script(alloc, text.as_slice()) {
             Ok(script) => Ok(script),
             Err(ScriptError::Wrong { line }) => {
-                Err(Unread::Refused(InputRefusal::WrongLine { line }))
+                let flaw = script_flaw(alloc, text.as_slice(), line);
+                Err(Unread::wrong(line, flaw))
             }
             Err(ScriptError::Memory) => Err(Unread::Memory),
         },
@@ -91,14 +106,24 @@ fn read_input<S: Source>(alloc: Global, input: &mut S) -> Result<Script, Unread>
     }
 }
 
+/// What is wrong with a line of an input. An `Err` is want of memory.
+fn script_flaw(alloc: Global, text: &[u8], line: u64) -> Result<Flaw, AllocError>
+    requires { length text.now ≤ most_bytes }
+    ensures { IfOk result (λ flaw. IsFrontFlaw most_session text.now text.now line (flaw_tree flaw)) }
+{
+    front_flaw(alloc, MOST_SESSION, text, text, line)
+}
+
 /// The end of a run that answered nothing.
-fn unanswered<P>(status: u8, panel: P) -> PlainEnd<P>
-    ensures status { result.status ≡ status }
+fn unanswered<P>(end: InputEnd, panel: P) -> PlainEnd<P>
+    ensures status { result.status ≡ end.status }
+    ensures refusal { result.refusal ≡ end.refusal }
     ensures journal { result.journal ≡ None }
     ensures panel { result.panel ≡ panel }
 {
     PlainEnd {
-        status,
+        status: end.status,
+        refusal: end.refusal,
         journal: None,
         panel,
     }
@@ -123,6 +148,7 @@ where
         (sink_run K.Sink output.old output.new)
         (panel_run (P.history panel) (P.history result.panel))
         result.journal result.status }
+    ensures unrefused { result.refusal ≡ None }
 {
     let mut journal = journal;
     let mut panel = panel;
@@ -130,6 +156,7 @@ where
     let journal = handed(status, journal);
     PlainEnd {
         status,
+        refusal: None,
         journal,
         panel,
     }

@@ -1,5 +1,6 @@
 -- How the ends of a run of `client` come from those of its parts.
-use Rattle.std.specs.Prelude.{IfSome, option_map}
+use Rattle.std.specs.Prelude.{IfOk, IfSome, Result, option_map}
+use Rattle.std.specs.declared.alloc.AllocError.{AllocError}
 use Rattle.std.proofs.Common.{◌≡◌, ◌≢◌, ◌≤◌, ◌↔◌, ◌⊎◌, ◌∷◌, inl, inr, Bool, true, ℕ, List, [], length, IsTrue, Option, Some, None, refl, sym, subst, ap, ◌∙◌, arith}
 use Rattle.std.specs.Io.KnownBytes.{IsAtEnd}
 use Rattle.nx_io.specs.Streams.{MayRise, one_more, prepended}
@@ -18,9 +19,12 @@ use Rattle.nexus_client.specs.TalkLaws.{IsInOrder}
 use Rattle.nexus_client.specs.Talks.{link_faults_after, sink_faults_after, talk_call, Talks, done, answered, unsent, untaken, cut_off, no_reply, unwritten, no_memory as no_room}
 use Rattle.nexus_serve.specs.Hosting.{HasCalled}
 use Rattle.nx_io.specs.Views.{DoorView, LinkView}
-use Rattle.run_streams.specs.declared.refusals.InputRefusal.TheVariants.{WrongLine}
-use Rattle.run_streams.specs.Refusals.{IsRefusal, RefusesExactly}
-use Rattle.service_commands.specs.Clients.{AreRequestsOf, EndsClient, IsCompleteClient, RunsClient, client_status, requests_form, talked, undialed, unreached}
+use Rattle.input_flaws.specs.LineFlaws.{IsFlawAt}
+use Rattle.input_flaws.proofs.ForCallers.{each_flaw}
+use Rattle.run_streams.specs.Flaws.{flaw_tree}
+use Rattle.run_streams.specs.declared.flaws.Flaw.{Flaw}
+use Rattle.run_streams.specs.Refusals.{RefusesExactly}
+use Rattle.service_commands.specs.Clients.{AreRequestsOf, EndsClient, IsCompleteClient, RunsClient, client_status, formula_words, requests_form, talked, undialed, unreached}
 
 -- an input in its form, as the source gave it
 pub requests_given : (input : TalkInput) (source : SourceRun) (left_now : Option (List ℕ)) (frames : List (List ℕ)) (bytes : List ℕ) → source.known ≡ prepended source.given left_now → source.given ≡ bytes
@@ -31,10 +35,14 @@ requests_given input source left_now frames bytes taken same over end few form =
   whole = read_whole source left_now taken over end;
 }
 
--- a text in which a line is wrong is refused
-pub wrong_requests : (input : TalkInput) (text : List ℕ) (error : RequestsError) (k : ℕ) → error ≡ Wrong k → length text ≤ most_bytes → IsWrongInputOf input text error
-    → (error ≢ NoRoom → (frames : List (List ℕ)) → ¬ AreFramesOf input text frames) → IsRefusal (requests_form input) text (WrongLine k)
-wrong_requests input text error k e small w no_form = (small, subst (IsWrongInputOf input text) e w, λ has. no_form (λ m. cc (sym e ∙ m)) has.0 has.1)
+-- a text in which a line is wrong, and what was told of it
+pub wrong_told : (input : TalkInput) (text : List ℕ) (error : RequestsError) (k : ℕ) (told : Result Flaw AllocError) → error ≡ Wrong k → IsWrongInputOf input text error
+    → IfOk told (λ flaw. IsFlawAt (formula_words input) [] text k (flaw_tree flaw)) → IfOk told (λ flaw. (requests_form input).wrong text k (flaw_tree flaw))
+wrong_told input text error k told e w is = each_flaw told (λ flaw at. (subst (IsWrongInputOf input text) e w, at)) is
+
+pub no_requests : (input : TalkInput) (text : List ℕ) (error : RequestsError) (k : ℕ) → error ≡ Wrong k → (error ≢ NoRoom → (frames : List (List ℕ)) → ¬ AreFramesOf input text frames)
+    → ¬ (requests_form input).formed text
+no_requests input text error k e no_form = λ has. no_form (λ m. cc (sym e ∙ m)) has.0 has.1
 
 -- ---- The talk
 
@@ -79,7 +87,7 @@ has_failed : (faults : ℕ) → MayRise (one_more 0) faults → faults ≡ 0 →
 has_failed faults (inl e) zero = omega (arith, e, zero)
 has_failed faults (inr e) zero = omega (arith, e, zero)
 
-never_three : (end : TalkEnd) → client_status end ≡ 3 → ⊥
+pub never_three : (end : TalkEnd) → client_status end ≡ 3 → ⊥
 never_three Done e = apart (client_status Done) 0 3 refl e refl
 never_three Unwritten e = apart (client_status Unwritten) 5 3 refl e refl
 never_three Memory e = apart (client_status Memory) 6 3 refl e refl

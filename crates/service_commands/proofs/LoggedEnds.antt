@@ -1,15 +1,17 @@
 -- How the ends of a run of `serve` with a log come from those of its parts.
-use Rattle.std.proofs.Common.{◌≡◌, inl, Option, sym, ap, subst, ◌∙◌, arith}
+use Rattle.std.proofs.Common.{◌≡◌, ◌≢◌, inl, List, Option, refl, sym, ap, subst, ◌∙◌, arith}
 use Rattle.nx_io.specs.Streams.{one_more}
 use Rattle.nx_io.specs.Views.{DoorView, RecorderView, SinkView, sink_view}
+use Rattle.policy_history.specs.declared.heads.Head.{Head}
+use Rattle.policy_history.specs.Events.{EntryTree}
 use Rattle.policy_history.specs.Values.{entry_trees}
 use Rattle.authority_ask.specs.PanelCalls.{PanelHistory}
 use Rattle.nexus_serve.specs.Hosting.{Hosts, Plan}
 use Rattle.run_streams.specs.Refusals.{RefusesExactly}
 use Rattle.run_streams.specs.Runs.{SourceRun}
-use Rattle.run_streams.proofs.ForCallers.{not_refused, unanswered_memory, unanswered_refuses}
+use Rattle.run_streams.proofs.ForCallers.{apart, not_refused, unanswered_memory, unanswered_refuses}
 use Rattle.service_commands.specs.Logged.{EndsLogged, IsCompleteLogged, LogAt, RunsLogged, hosted, unbegun, unreached}
-use Rattle.service_commands.specs.Services.{EndedView, hosted_of, most_session, policy_form, sink_between}
+use Rattle.service_commands.specs.Services.{EndedView, IsPolicyOf, hosted_of, most_session, policy_form, sink_between}
 use Rattle.service_commands.proofs.ServiceEnds.{IsStillUnsent, complete_hosts, not_three, unsent_hosts, unsent_same}
 
 module _ {P C : Type 0} (panel : P → PanelHistory) (plan : Plan) (source : SourceRun) (output output_now : SinkView) {J : Type 0} (at : LogAt J) (door : DoorView) (asked : P) (recorder : Option RecorderView) (ended : EndedView P C) where
@@ -31,6 +33,12 @@ module _ {P C : Type 0} (panel : P → PanelHistory) (plan : Plan) (source : Sou
   refuses (unreached log_now h opening policy still same was idle log_is status) = λ x y z.
       ((λ three. absurd (cc (sym three ∙ status))), λ r. absurd (not_refused (policy_form (most_session plan)) source.given policy.form.0 (h, opening, policy.form) r))
   refuses (unbegun idle log_is grows kept ends) = unanswered_refuses (policy_form (most_session plan)) source (sink_between output output_now) ended.status ends
+
+  -- a policy that was read is not refused
+  pub read_not_refused : (h : Head) (es : List EntryTree) → IsPolicyOf source (most_session plan) h es → EndsLogged panel plan source output output_now at door asked recorder ended → ended.status ≢ 3
+  read_not_refused h es policy e three =
+      let exactly = refuses e (λ four. apart ended.status 3 4 three four refl) (λ five. apart ended.status 3 5 three five refl) (λ six. apart ended.status 3 6 three six refl) in
+      not_refused (policy_form (most_session plan)) source.given policy.form.0 (h, es, policy.form) (exactly.0 three)
 
   -- what ends a run of `serve` with a log is a run of it
   pub runs_logged : EndsLogged panel plan source output output_now at door asked recorder ended → RunsLogged panel plan source output output_now at door asked recorder ended

@@ -1,6 +1,7 @@
 -- How the ends of a run of `serve` come from those of its parts.
-use Rattle.std.specs.Prelude.{◌-◌, ◌^◌, map, min, take}
-use Rattle.std.proofs.Common.{◌≡◌, ◌≢◌, ◌≤◌, ◌==◌, ◌⊎◌, ◌+◌, ◌++◌, cond, inl, inr, ℕ, Bool, true, false, List, [], ◌∷◌, length, Option, None, Some, IsTrue, refl, sym, ap, subst, ◌∙◌, arith}
+use Rattle.std.specs.Prelude.{◌-◌, ◌^◌, IfOk, Result, map, min, take}
+use Rattle.std.specs.declared.alloc.AllocError.{AllocError}
+use Rattle.std.proofs.Common.{◌≡◌, ◌≢◌, ◌==◌, ◌⊎◌, ◌+◌, ◌++◌, cond, inl, inr, ℕ, Bool, true, false, List, [], ◌∷◌, length, Option, None, Some, IsTrue, refl, sym, ap, subst, ◌∙◌, arith}
 use Rattle.std.proofs.lemmas.Bool.Decides.{Decides-eqb}
 use Rattle.std.proofs.lemmas.List.Sums.{sum_by-append, sum_by-cons}
 use Rattle.std.specs.Io.KnownBytes.{IsAtEnd}
@@ -24,12 +25,15 @@ use Rattle.nexus_serve.specs.Means.{means_history}
 use Rattle.nx_io.specs.Views.{DoorView, RecorderView, SinkView}
 use Rattle.nexus_serve.specs.Services.{IsTextSent, Serves, whole as text_whole, line_cut, end_cut, done, unopened, no_memory as nothing_served}
 use Rattle.nexus_serve.specs.Hosting.{AreReady, HasFailed, HasFailedPanel, HasFailedToLend, HasLent, HasNoneToLend, Hosts, IsHeld, Plan, no_door, no_lists, no_panel, no_recorder, not_heard, not_made, not_reached, panel_calls, ready_calls, served, some_cut_off, status_of, unheard, unlent, unreached, unready, unshared}
-use Rattle.run_streams.specs.Runs.{SourceRun, most_bytes}
+use Rattle.run_streams.specs.Runs.{SourceRun}
 use Rattle.run_streams.proofs.ForCallers.{apart, not_refused, read_whole, unanswered_memory, unanswered_refuses}
-use Rattle.run_streams.specs.declared.refusals.InputRefusal.TheVariants.{WrongLine}
+use Rattle.input_flaws.specs.PolicyFlaws.{IsFrontFlaw}
+use Rattle.input_flaws.proofs.ForCallers.{each_flaw}
+use Rattle.run_streams.specs.Flaws.{flaw_tree}
+use Rattle.run_streams.specs.declared.flaws.Flaw.{Flaw}
 use Rattle.service_commands.specs.declared.service.PolicyTextError.{PolicyTextError}
 use Rattle.service_commands.specs.declared.service.PolicyTextError.TheVariants.{Wrong as WrongText, Memory as TextMemory}
-use Rattle.run_streams.specs.Refusals.{IsRefusal, RefusesExactly}
+use Rattle.run_streams.specs.Refusals.{RefusesExactly}
 use Rattle.service_commands.specs.Inner.ServiceEnds.{IsWrongText}
 use Rattle.service_commands.specs.Services.{EndedView, EndsService, HandsBack, HasFailedToRecord, IsCompleteService, IsPolicy, IsPolicyOf, IsServedWhole, IsUnserved, IsWrongPolicy, RunsService, hosted, hosted_of, in_policy, most_session, policy_form, sink_between, unbegun}
 
@@ -91,9 +95,14 @@ pub policy_given : (source : SourceRun) (left_now : Option (List ℕ)) (most : �
 policy_given source left_now most h es bytes taken same over end form =
     record { form = subst (λ (b : List ℕ). IsPolicy most b h es) (sym same) form; whole = read_whole source left_now taken over end }
 
-pub wrong_policy : {most : ℕ} {text : List ℕ} {error : PolicyTextError} {k : ℕ} → error ≡ WrongText k → length text ≤ most_bytes → IsWrongText most text error
-    → (error ≢ TextMemory → (h : Head) (es : List EntryTree) → ¬ IsPolicy most text h es) → IsRefusal (policy_form most) text (WrongLine k)
-wrong_policy {most = most} {text = text} {k = k} e small w no_form = (small, subst (IsWrongText most text) e w, λ has. no_form (λ m. cc (sym e ∙ m)) has.0 has.1 has.2)
+-- a text in which a line is wrong, and what was told of it
+pub wrong_told : (most : ℕ) (text : List ℕ) (error : PolicyTextError) (k : ℕ) (told : Result Flaw AllocError) → error ≡ WrongText k → IsWrongText most text error
+    → IfOk told (λ flaw. IsFrontFlaw most text text k (flaw_tree flaw)) → IfOk told (λ flaw. (policy_form most).wrong text k (flaw_tree flaw))
+wrong_told most text error k told e w is = each_flaw told (λ flaw at. (subst (IsWrongText most text) e w, at)) is
+
+pub no_policy : (most : ℕ) (text : List ℕ) (error : PolicyTextError) (k : ℕ) → error ≡ WrongText k → (error ≢ TextMemory → (h : Head) (es : List EntryTree) → ¬ IsPolicy most text h es)
+    → ¬ (policy_form most).formed text
+no_policy most text error k e no_form = λ has. no_form (λ m. cc (sym e ∙ m)) has.0 has.1 has.2
 
 -- ---- The statuses of a service
 
@@ -201,6 +210,12 @@ module _ {P C : Type 0} (panel : P → PanelHistory) (plan : Plan) (source : Sou
   refuses (hosted h opening written end policy still hosts) = λ x y z.
       ((λ three. absurd (not_three h opening written end hosts three)), λ r. absurd (not_refused (policy_form (most_session plan)) source.given policy.form.0 (h, entry_trees opening, policy.form) r))
   refuses (unbegun sink_now idle output grows kept ends) = unanswered_refuses (policy_form (most_session plan)) source (sink_between sink sink_now) ended.status ends
+
+  -- a policy that was read is not refused
+  pub read_not_refused : (h : Head) (es : List EntryTree) → IsPolicyOf source (most_session plan) h es → EndsService panel plan source sink door asked recorder ended → ended.status ≢ 3
+  read_not_refused h es policy e three =
+      let exactly = refuses e (λ four. apart ended.status 3 4 three four refl) (λ five. apart ended.status 3 5 three five refl) (λ six. apart ended.status 3 6 three six refl) in
+      not_refused (policy_form (most_session plan)) source.given policy.form.0 (h, es, policy.form) (exactly.0 three)
 
   -- what ends a run of `serve` is a run of `serve`
   pub runs_service : EndsService panel plan source sink door asked recorder ended → RunsService panel plan source sink door asked recorder ended

@@ -1,10 +1,12 @@
 -- How a run of `client` or `import` ends: the status, what the source gave, the link that was dialed, and what was written.
-use Rattle.std.specs.Prelude.{◌≡◌, ◌⊎◌, ◌≤◌, ◌∷◌, ℕ, List, [], length, true, Option, Some, None}
+use Rattle.std.specs.Prelude.{◌≡◌, ◌⊎◌, ◌≤◌, ◌∷◌, ℕ, List, [], codes, length, true, Option, Some, None}
+use Rattle.input_flaws.specs.LineFlaws.{IsFlawAt}
 use Rattle.nx_io.specs.DoorCalls.{dialed as dialed_to, faults_in, not_dialed}
 use Rattle.nx_io.specs.Streams.{MayRise, Rose}
 use Rattle.nexus_client.specs.declared.ends.TalkEnd.{TalkEnd}
 use Rattle.nexus_client.specs.declared.ends.TalkEnd.TheVariants.{Done, Unreached, Broken, Ended, Unwritten, Memory}
 use Rattle.nexus_client.specs.declared.inputs.TalkInput.{TalkInput}
+use Rattle.nexus_client.specs.declared.inputs.TalkInput.TheVariants.{RequestLines, PeerBundle}
 use Rattle.nexus_client.specs.TalkInputs.{AreFramesOf, IsWrongLineOf}
 use Rattle.nexus_client.specs.TalkLaws.{IsInOrder}
 use Rattle.nexus_client.specs.Talks.{Talks, link_faults_after, sink_faults_after}
@@ -14,9 +16,14 @@ use Rattle.run_streams.specs.Ends.{EndsUnanswered}
 use Rattle.run_streams.specs.Refusals.{Form, IsRefusedInput, RefusesExactly, form_of}
 use Rattle.run_streams.specs.Runs.{IsReadWhole, SinkRun, SourceRun, most_bytes}
 
--- the form of the inputs of a talk: lines of requests, or a peer and a bundle
+-- behind which words a formula stands in a line of such an input
+abbrev pub formula_words : TalkInput → List (List ℕ)
+formula_words RequestLines = []
+formula_words PeerBundle = codes "label " ∷ []
+
+-- the form of the inputs of a talk: lines of requests, or a peer and a bundle; and of another text the lowest wrong line, and what is wrong with it
 abbrev pub requests_form : TalkInput → Form
-requests_form input = form_of (λ text. (frames : List (List ℕ)) × AreFramesOf input text frames) (IsWrongLineOf input)
+requests_form input = form_of (λ text. (frames : List (List ℕ)) × AreFramesOf input text frames) (λ text k flaw. IsWrongLineOf input text k × IsFlawAt (formula_words input) [] text k flaw)
 
 -- the input asks for the requests with these frames
 pub record AreRequestsOf (input : TalkInput) (source : SourceRun) (frames : List (List ℕ)) : Type 0 where

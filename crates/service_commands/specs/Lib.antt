@@ -1,4 +1,5 @@
 pub mod Services
 pub mod Logged
 pub mod Clients
+pub mod Notes
 pub mod Inner

@@ -13,6 +13,7 @@ use Rattle.policy_history.specs.declared.heads.Head.{Head}
 use Rattle.policy_history.specs.Events.{EntryTree}
 use Rattle.policy_history.specs.Values.{History, entry_trees}
 use Rattle.journal_text.specs.PolicyFronts.{IsFront, IsWrongFront}
+use Rattle.input_flaws.specs.PolicyFlaws.{IsFrontFlaw}
 use Rattle.verdict_words.specs.Settling.{flat}
 use Rattle.nexus_serve.specs.declared.closing.ServeEnd.{ServeEnd}
 use Rattle.nexus_serve.specs.declared.means.Means.{Means}
@@ -24,7 +25,8 @@ use Rattle.nexus_serve.specs.Services.{Serves}
 use Rattle.nexus_serve.specs.Hosting.{AreReady, HostedView, Hosts, Plan, some_cut_off, status_of}
 use Rattle.run_streams.specs.Ends.{EndsUnanswered}
 use Rattle.run_streams.specs.Refusals.{Form, IsRefusedInput, RefusesExactly, form_of}
-use Rattle.run_streams.specs.Runs.{IsReadWhole, SinkRun, SourceRun, most_bytes}
+use Rattle.run_streams.specs.Runs.{IsReadWhole, SinkRun, SourceRun, most_bytes, sink_run}
+use Rattle.run_streams.specs.declared.refusals.InputRefusal.{InputRefusal}
 
 -- an address: 1 to 64 visible bytes that are not `help` and do not begin with `-`
 pub record IsAddress (address : List ℕ) : Type 0 where
@@ -71,9 +73,9 @@ pub data IsWrongPolicy (most : ℕ) (text : List ℕ) (k : ℕ) : Type 0 where
   in_policy : IsWrongFront most text k → IsWrongPolicy most text k
   behind : {n : ℕ} {h : Head} {es : List EntryTree} {rest : List ℕ} → IsFront most text h es n rest → rest ≢ [] → k ≡ n + 1 → IsWrongPolicy most text k
 
--- the form of the policies in which no session has a greater number than this
+-- the form of the policies in which no session has a greater number than this; and of another text the lowest wrong line, and what is wrong with it
 abbrev pub policy_form : ℕ → Form
-policy_form most = form_of (λ text. (h : Head) × (es : List EntryTree) × IsPolicy most text h es) (IsWrongPolicy most)
+policy_form most = form_of (λ text. (h : Head) × (es : List EntryTree) × IsPolicy most text h es) (λ text k flaw. IsWrongPolicy most text k × IsFrontFlaw most text text k flaw)
 
 -- the input is that of this policy
 pub record IsPolicyOf (source : SourceRun) (most : ℕ) (h : Head) (es : List EntryTree) : Type 0 where
@@ -92,10 +94,11 @@ pub record EndedView (P C : Type 0) : Type 0 where
   pub recorder : Option RecorderView
   pub means : List (Means P C)
 
--- what the program hands back, where its objects are told as they are: the sink, and the one for records, where they are there; the link that was
+-- what the program hands back, where its objects are told as they are: why its input was refused; the sink, and the one for records, where they are there; the link that was
 -- dialed, if any; the shares of the door that were made, and what the workers of a service had
 pub record EndedValue (K C D L P : Type 0) : Type 0 where
   pub status : ℕ
+  pub refusal : Option InputRefusal
   pub output : Option K
   pub records : Option C
   pub journal : Option History
@@ -151,6 +154,11 @@ pub record IsUnbegun {P C : Type 0} (door : DoorView) (panel : P) (recorder : Op
 -- what a sink was sent between two views of it, and how often it failed
 abbrev pub sink_between : SinkView → SinkView → SinkRun
 sink_between before now = record { sent = gained before.sent now.sent; faults = before.faults; faults_now = now.faults }
+
+-- a sink in a run that hands it back, or not
+abbrev pub sink_behind : {K : Type 0} → SinkGhosts K → K → Option K → SinkRun
+sink_behind sink before (Some now) = sink_run sink before now
+sink_behind sink before None = sink_run sink before before
 
 -- `serve` ends so: a policy was read, and hosted by the plan; or nobody is served for the input, nothing was begun, and the sink is handed back, as it was where the source failed or
 -- memory ran out. A failure of the source or the sink that ends it before it is hosted is the only one.

@@ -1,11 +1,14 @@
 //! What the program hands back.
 ghost use Rattle.std.specs.Prelude.{◌≡◌};
 ghost use Rattle.std.specs.Option.{option_or};
+ghost use Rattle.service_commands.specs.Notes.{IsNoted};
 
+use crate::notes::noted;
 use authority_ask::Panel;
 use nexus_serve::{Means, Reports};
 use nx_io::{Door, Recorder, Sink};
 use policy_history::Journal;
+use run_streams::InputRefusal;
 use std::marker::Model;
 
 /// How the program ended, and what it hands back.
@@ -13,6 +16,8 @@ use std::marker::Model;
 pub struct Ended<D: Door, P: Panel, C: Recorder, K: Sink> {
     /// The status that the operating system is given. `docs/FORMATS.md`, "Statuses", says what each means.
     pub status: u8,
+    /// Why the input was refused, with status 3.
+    pub refusal: Option<InputRefusal>,
     /// The sink that was handed in.
     pub output: Option<K>,
     /// The sink for records that was handed in. The workers of a service whose calls are recorded had shares of it.
@@ -46,6 +51,7 @@ impl<D: Door, P: Panel, C: Recorder, K: Sink> Model for Ended<D, P, C, K> {
 
     ghost view = { λ e. record {
       status = e.status;
+      refusal = e.refusal;
       output = e.output;
       records = e.records;
       journal = e.journal;
@@ -68,6 +74,18 @@ where
     {
         Ended {
             records: self.records.or(aside),
+            ..self
+        }
+    }
+
+    /// The same end, where the sink for records, if there is one, was told what is wrong with an input that was refused. What comes of that
+    /// changes nothing else.
+    pub fn with_note(self) -> Ended<D, P, C, K>
+        ensures rest { result ≡ record self { records = result.records } }
+        ensures noted { IsNoted C.Sink self.refusal self.records result.records }
+    {
+        Ended {
+            records: noted(self.refusal, self.records),
             ..self
         }
     }

@@ -5,6 +5,7 @@
 mod clients;
 mod ends;
 mod logged;
+mod notes;
 mod service;
 
 pub use clients::{ClientEnd, TalkCall, client};

@@ -1,9 +1,10 @@
 //! A run of `serve` whose text is kept by a log.
 ghost use Rattle.std.specs.Prelude.{◌≡◌, None, Some, option_map};
-ghost use Rattle.run_streams.specs.Runs.{source_run};
+ghost use Rattle.run_streams.specs.Ends.{HandsOn};
+ghost use Rattle.run_streams.specs.Runs.{sink_run, source_run};
 ghost use Rattle.nx_io.specs.Views.{HasGiven, door_view, recorder_view, sink_view};
 ghost use Rattle.service_commands.specs.Logged.{EndsLogged};
-ghost use Rattle.service_commands.specs.Services.{IsService, IsUnbegun, ended_view, patience_in};
+ghost use Rattle.service_commands.specs.Services.{IsService, IsUnbegun, ended_view, most_session, patience_in, policy_form};
 
 use crate::ends::Ended;
 use crate::service::{Service, ended_by, read_policy_input, unserved};
@@ -12,7 +13,7 @@ use line_log::Log;
 use nexus_serve::{Outside, host};
 use nx_io::{Door, Gate, Link, Reach, Recorder, Sink, Source};
 use policy_history::Journal;
-use run_streams::{Unread, tell_refusal};
+use run_streams::{InputEnd, Unread, tell_refusal};
 use std::alloc::Global;
 use std::fs::Files;
 use std::net::{Net, TcpListener, TcpStream};
@@ -61,6 +62,15 @@ where
         (option_map (recorder_view C.Sink C.Recorder.own) outside.recorder)
         (ended_view J.Sink C.Sink C.Recorder.own D.Door D.Link.Link result) }
     ensures dialed { result.dialed ≡ None }
+    ensures handed { HandsOn (policy_form (most_session (record {
+      address = service.entry.service.address.now;
+      workers = service.entry.service.workers;
+      sessions = service.entry.service.sessions;
+      patience = patience_in service.entry.service.patience;
+    })))
+        (source_run S.Source input.old input.new)
+        (sink_run K.Sink output.old output.new)
+        result.status result.refusal }
 {
     let LoggedService {
         service,
@@ -87,11 +97,11 @@ where
             }
         }
         Err(Unread::Refused(refusal)) => {
-            let status = tell_refusal(alloc, output, refusal);
-            unserved(alloc, status, log, outside)
+            let end = tell_refusal(alloc, output, refusal);
+            unserved(alloc, end, log, outside)
         }
-        Err(Unread::Failed) => unserved(alloc, 4, log, outside),
-        Err(Unread::Memory) => unserved(alloc, 6, log, outside),
+        Err(Unread::Failed) => unserved(alloc, InputEnd::of(4), log, outside),
+        Err(Unread::Memory) => unserved(alloc, InputEnd::of(6), log, outside),
     }
 }
 
@@ -105,6 +115,7 @@ fn unreached<D: Door + Drop, P: Panel + Drop, C: Recorder + Drop, J: Sink + Drop
 where
     D::Link: Drop,
     ensures status { result.status ≡ 5 }
+    ensures unrefused { result.refusal ≡ None }
     ensures output { result.output ≡ Some log }
     ensures unbegun { IsUnbegun (door_view D.Door D.Link.Link outside.door)
         outside.panel (option_map (recorder_view C.Sink C.Recorder.own) outside.recorder)
@@ -112,7 +123,7 @@ where
     ensures dialed { result.dialed ≡ None }
 {
     drop(journal);
-    unserved(alloc, 5, log, outside)
+    unserved(alloc, InputEnd::of(5), log, outside)
 }
 
 /// A service whose text is kept by a log, and where this is reached.

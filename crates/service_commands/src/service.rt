@@ -4,20 +4,24 @@ ghost use Rattle.policy_history.specs.Values.{entry_trees};
 ghost use Rattle.policy_history.specs.Events.{EntryTree};
 ghost use Rattle.policy_history.specs.declared.heads.Head.{Head};
 ghost use Rattle.journal_text.specs.PolicyFronts.{AreBelow};
+ghost use Rattle.input_flaws.specs.PolicyFlaws.{IsFrontFlaw};
+ghost use Rattle.run_streams.specs.Ends.{HandsOn};
+ghost use Rattle.run_streams.specs.Flaws.{flaw_tree};
 ghost use Rattle.run_streams.specs.Runs.{most_bytes, source_run};
 ghost use Rattle.nx_io.specs.Views.{HasGiven, door_view, recorder_view, sink_view};
-ghost use Rattle.service_commands.specs.Services.{EndsService, IsPolicy, IsPolicyOf, IsService, IsUnbegun, ended_view, hosted_of, only_where, patience_in, policy_form};
+ghost use Rattle.service_commands.specs.Services.{EndsService, IsPolicy, IsPolicyOf, IsService, IsUnbegun, ended_view, hosted_of, most_session, only_where, patience_in, policy_form, sink_behind};
 ghost use Rattle.run_streams.specs.Inner.Unread.{faults_after_input, IsUnread};
 ghost use Rattle.service_commands.specs.Inner.ServiceEnds.{IsWrongText};
 
 use crate::ends::Ended;
 use authority_ask::Panel;
+use input_flaws::front_flaw;
 use journal_text::{PolicyError, PolicyFront, read_front};
 use nexus_serve::{Hosted, Outside, Served, host};
 use nx_io::{Door, Gate, Link, Recorder, Sink, Source};
 use policy_history::Journal;
-use run_streams::{InputRefusal, ReadError, Unread, read_whole, tell_refusal};
-use std::alloc::Global;
+use run_streams::{Flaw, InputEnd, InputRefusal, ReadError, Unread, read_whole, tell_refusal};
+use std::alloc::{AllocError, Global};
 use std::fs::Files;
 use std::net::{Net, TcpListener, TcpStream};
 use std::rt::Clock;
@@ -69,6 +73,7 @@ impl<'a> Service<'a> {
 /// The status is 3 where the input is refused, 4 where the source failed, and 6 where there was no memory for the input; nothing is asked
 /// of door, panel and recorder then, nor with 5 where the refusal could not be written. Else it is that of `host` of `nexus_serve`: 5 also
 /// where the recorder could not be shared, so that nobody was served; or where the record of a call was cut off, the text being whole.
+/// Where the input is refused, and the line of that was written, the refusal is handed on.
 // It stands apart, so that the other commands have no room on the stack for a service.
 #[inline(never)]
 pub fn run_service<R, S: Source, K, D, P, C, G>(
@@ -101,6 +106,15 @@ where
         (option_map (recorder_view C.Sink C.Recorder.own) outside.recorder)
         (ended_view K.Sink C.Sink C.Recorder.own D.Door D.Link.Link result) }
     ensures dialed { result.dialed ≡ None }
+    ensures handed { HandsOn (policy_form (most_session (record {
+      address = service.entry.address.now;
+      workers = service.entry.workers;
+      sessions = service.entry.sessions;
+      patience = patience_in service.entry.patience;
+    })))
+        (source_run S.Source input.old input.new)
+        (sink_behind K.Sink output result.output)
+        result.status result.refusal }
 {
     let most = u64::MAX - 1 - service.workers * service.sessions;
     match read_policy_input(alloc, input, most) {
@@ -118,11 +132,11 @@ where
         )),
         Err(Unread::Refused(refusal)) => {
             let mut output = output;
-            let status = tell_refusal(alloc, &mut output, refusal);
-            unserved(alloc, status, output, outside)
+            let end = tell_refusal(alloc, &mut output, refusal);
+            unserved(alloc, end, output, outside)
         }
-        Err(Unread::Failed) => unserved(alloc, 4, output, outside),
-        Err(Unread::Memory) => unserved(alloc, 6, output, outside),
+        Err(Unread::Failed) => unserved(alloc, InputEnd::of(4), output, outside),
+        Err(Unread::Memory) => unserved(alloc, InputEnd::of(6), output, outside),
     }
 }
 
@@ -144,7 +158,8 @@ pub(crate) fn read_policy_input<S: Source>(
         Ok(text) => match read_policy_text(alloc, text.as_slice(), most) {
             Ok(journal) => Ok(journal),
             Err(PolicyTextError::Wrong { line }) => {
-                Err(Unread::Refused(InputRefusal::WrongLine { line }))
+                let flaw = text_flaw(alloc, text.as_slice(), most, line);
+                Err(Unread::wrong(line, flaw))
             }
             Err(PolicyTextError::Memory) => Err(Unread::Memory),
         },
@@ -152,6 +167,14 @@ pub(crate) fn read_policy_input<S: Source>(
         Err(ReadError::Failed) => Err(Unread::Failed),
         Err(ReadError::Memory) => Err(Unread::Memory),
     }
+}
+
+/// What is wrong with a line of a policy's text, in which no session's number is above the bound. An `Err` is want of memory.
+fn text_flaw(alloc: Global, text: &[u8], most: u64, line: u64) -> Result<Flaw, AllocError>
+    requires { length text.now ≤ most_bytes }
+    ensures { IfOk result (λ flaw. IsFrontFlaw most text.now text.now line (flaw_tree flaw)) }
+{
+    front_flaw(alloc, most, text, text, line)
 }
 
 /// Why the text of a policy was not read.
@@ -203,6 +226,7 @@ where
     ensures hosted { hosted_of (ended_view K.Sink C.Sink C.Recorder.own D.Door D.Link.Link result) hosted.served.written
         hosted.served.end ≡ hosted }
     ensures dialed { result.dialed ≡ None }
+    ensures unrefused { result.refusal ≡ None }
 {
     let Hosted {
         status,
@@ -221,6 +245,7 @@ where
     } = served;
     Ended {
         status,
+        refusal: None,
         output: sink,
         records: recorder,
         journal,
@@ -236,13 +261,14 @@ where
 /// The end of a service that was not begun.
 pub(crate) fn unserved<D: Door + Drop, P: Panel + Drop, C: Recorder + Drop, K: Sink + Drop>(
     alloc: Global,
-    status: u8,
+    end: InputEnd,
     output: K,
     outside: Outside<D, P, C>,
 ) -> Ended<D, P, C, K>
 where
     D::Link: Drop,
-    ensures status { result.status ≡ status }
+    ensures status { result.status ≡ end.status }
+    ensures refusal { result.refusal ≡ end.refusal }
     ensures output { result.output ≡ Some output }
     ensures unbegun { IsUnbegun (door_view D.Door D.Link.Link outside.door)
         outside.panel (option_map (recorder_view C.Sink C.Recorder.own) outside.recorder)
@@ -255,7 +281,8 @@ where
         recorder,
     } = outside;
     Ended {
-        status,
+        status: end.status,
+        refusal: end.refusal,
         output: Some(output),
         records: recorder,
         journal: None,

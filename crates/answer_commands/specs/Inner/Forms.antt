@@ -1,6 +1,8 @@
 -- The plain values of what the program reads of an input.
 use Rattle.std.specs.Prelude.{◌≡◌, ◌+◌, ℕ, List, map}
 use Rattle.nal_term.specs.Trees.{FormulaTree, formula_tree}
+use Rattle.run_streams.specs.Flaws.{flaw_tree}
+use Rattle.input_flaws.specs.ProofFlaws.{IsProofFlaw}
 use Rattle.answer_commands.specs.declared.keys.FormulaKey.{FormulaKey}
 use Rattle.proof_lines.specs.Lines.{line_trees}
 use Rattle.proof_text.specs.ProofText.{IsProofText, IsRefused}
@@ -46,12 +48,13 @@ pub record HoldsProof (subject : List ℕ) (labels yes : List FormulaTree) (goal
   pub goal_kept : formula_tree i.goal ≡ goal
   pub proof_read : IsProofText rest (line_trees i.proof)
 
--- the text after the goal is wrong in the line that is told, `lines` standing before it
+-- the text after the goal is wrong in the line that is told, `lines` standing before it, and this is wrong with it
 abbrev pub IsWrongProof : List ℕ → ℕ → AnswerError → Type 0
-IsWrongProof rest lines (Wrong k) = (error : ProofError) × (j : ℕ) × IsRefused rest error × IsLineOfError rest error j × (k ≡ lines + j)
+IsWrongProof rest lines (Wrong k flaw) =
+    (error : ProofError) × (j : ℕ) × IsRefused rest error × IsLineOfError rest error j × (k ≡ lines + j) × IsProofFlaw rest error (flaw_tree flaw)
 IsWrongProof rest lines Memory = Unit {0}
 
--- the line that is told is the lowest that is wrong
+-- the line that is told is the lowest that is wrong, and this is wrong with it
 abbrev pub IsWrongLine : List ℕ → AnswerError → Type 0
-IsWrongLine text (Wrong k) = IsWrongAt text k
+IsWrongLine text (Wrong k flaw) = IsWrongAt text k (flaw_tree flaw)
 IsWrongLine text Memory = Unit {0}

@@ -1,6 +1,9 @@
 -- How the reading of an input ends.
 use Rattle.std.specs.Prelude.{ℕ, Result, Ok, Err}
+use Rattle.std.specs.declared.alloc.AllocError.{AllocError}
 use Rattle.nx_io.specs.Streams.{one_more}
+use Rattle.run_streams.specs.declared.flaws.Flaw.{Flaw}
+use Rattle.run_streams.specs.declared.refusals.InputRefusal.TheVariants.{WrongLine}
 use Rattle.run_streams.specs.Refusals.{Form, IsRefusalOf}
 use Rattle.run_streams.specs.Runs.{SourceRun}
 use Rattle.run_streams.specs.declared.unread.Unread.{Unread}
@@ -18,3 +21,8 @@ faults_after_input (Ok script) faults = faults
 faults_after_input (Err (Refused outcome)) faults = faults
 faults_after_input (Err Failed) faults = one_more faults
 faults_after_input (Err Memory) faults = faults
+
+-- an input in which this line is the lowest that is wrong, where what is wrong with it could be told
+abbrev pub wrong_by : ℕ → Result Flaw AllocError → Unread
+wrong_by k (Ok flaw) = Refused (WrongLine k flaw)
+wrong_by k (Err e) = Memory

@@ -19,4 +19,4 @@ returns-in-Err-Wrong-clause-err g c =
     let read = c.in-Ok.ensures.whole in
     let wrong = rw c.in-Err-Wrong.field-0-is at c.in-Err-Wrong.ensures.wrong in
     let few = rw (← c.as_slice.ensures.value) at read.0 in
-    refusal_given {form = form_of g.A.Answer.formed g.A.Answer.wrong} _ (g.S.Source.left c.read_whole.new.source) (WrongLine c.in-Err-Wrong.line) c.as_slice.result.now c.read_whole.ensures.gave.taken (rw (← c.as_slice.ensures.value) at read.1) read.2 read.3 (few, wrong.0, wrong.1)
+    refusal_given {form = form_of g.A.Answer.formed g.A.Answer.wrong} _ (g.S.Source.left c.read_whole.new.source) (WrongLine c.in-Err-Wrong.line c.in-Err-Wrong.flaw) c.as_slice.result.now c.read_whole.ensures.gave.taken (rw (← c.as_slice.ensures.value) at read.1) read.2 read.3 (few, wrong.0, wrong.1)

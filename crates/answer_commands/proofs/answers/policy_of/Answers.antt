@@ -1,15 +1,9 @@
-use Rattle.std.proofs.Common.{sym, ◌∙◌}
-use Rattle.journal_text.specs.PolicyText.{formless, refusal}
+use Rattle.std.proofs.Common.{arith}
+use Rattle.answer_commands.proofs.Wrongs.{policy_wrong}
 use Rattle.answer_commands.proofs.answers.policy_of.Goals as goal
 
-pub returns-in-Err-Bad-clause-wrong : goal.returns-in-Err-Bad-clause-wrong
-returns-in-Err-Bad-clause-wrong c =
-    let is = c.in-Err-Bad.field-0-is in
-    let wrong = rw is at c.in-Err-Bad.ensures.err in
-    ((formless, rw c.in-Err-Bad.line-is wrong.1), λ has. c.in-Err-Bad.ensures.refused (λ m. cc (sym is ∙ m)) has.0 has.1 has.2)
+pub wrong_policy-requires : goal.wrong_policy-requires
+wrong_policy-requires c = λ long. omega (arith, c.requires, rw long at c.in-Err.ensures.err)
 
-pub returns-in-Err-Refused-clause-wrong : goal.returns-in-Err-Refused-clause-wrong
-returns-in-Err-Refused-clause-wrong c =
-    let is = c.in-Err-Refused.field-0-is in
-    let wrong = rw is at c.in-Err-Refused.ensures.err in
-    ((refusal wrong.1, rw c.in-Err-Refused.line-is wrong.3), λ has. c.in-Err-Refused.ensures.refused (λ m. cc (sym is ∙ m)) has.0 has.1 has.2)
+pub returns-in-Err-clause-wrong : goal.returns-in-Err-clause-wrong
+returns-in-Err-clause-wrong c = policy_wrong c.args.text.now c.in-Err.error c.wrong_policy.result c.in-Err.ensures.err c.in-Err.ensures.refused c.wrong_policy.ensures

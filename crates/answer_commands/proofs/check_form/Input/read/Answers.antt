@@ -11,12 +11,12 @@ pub returns-in-ProofDue-clause-wrong : goal.returns-in-ProofDue-clause-wrong
 returns-in-ProofDue-clause-wrong c = proof_error c.with_proof.result (rw c.in-ProofDue.is at c.loop-progress.invariant.0) c.with_proof.ensures.wrong
 
 pub returns-then-is_empty-clause-wrong : goal.returns-then-is_empty-clause-wrong
-returns-then-is_empty-clause-wrong c = ends_early _ c.in_default.not-ProofDue c.loop-progress.invariant.0 (sym c.if-is_empty.ensures)
+returns-then-is_empty-clause-wrong c = ends_early _ c.wrong_line.result c.in_default.not-ProofDue c.loop-progress.invariant.0 (sym c.if-is_empty.ensures) c.wrong_line.ensures
 
 pub returns-in-Err-Wrong-clause-wrong : goal.returns-in-Err-Wrong-clause-wrong
 returns-in-Err-Wrong-clause-wrong c =
-    line_wrong _ c.in_default.not-ProofDue c.loop-progress.invariant.0 c.first_line.ensures.line
-    ((rw c.in-Err-Wrong.field-0-is at c.in-Err-Wrong.ensures.wrong) (λ e. cc))
+    line_wrong _ c.wrong_line-in-Err-Wrong.result c.in_default.not-ProofDue c.loop-progress.invariant.0 c.first_line.ensures.line
+    ((rw c.in-Err-Wrong.field-0-is at c.in-Err-Wrong.ensures.wrong) (λ e. cc)) c.wrong_line-in-Err-Wrong.ensures
 
 pub loop-progress-preserved : goal.loop-progress-preserved
 loop-progress-preserved c =

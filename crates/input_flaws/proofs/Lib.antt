@@ -1,0 +1,4 @@
+pub mod LineFlaws
+pub mod FlawNames
+pub mod Told
+pub mod ForCallers

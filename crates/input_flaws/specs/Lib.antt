@@ -1,0 +1,4 @@
+pub mod LineFlaws
+pub mod PolicyFlaws
+pub mod ProofFlaws
+pub mod Inner
