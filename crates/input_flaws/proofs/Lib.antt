@@ -1,4 +1,5 @@
 pub mod LineFlaws
+pub mod OneFlaw
 pub mod FlawNames
 pub mod Told
 pub mod ForCallers

@@ -211,6 +211,7 @@ above_entry {rest = rest} {n = n} {h = h} {es = es} {new = new} most l below som
   below = below;
   some = some;
   line = a.read;
+  accepted = a.accepted;
   above = above_last most es a.entry_is below (subst (λ xs. most < greatest_of xs) a.added above);
 }
 
@@ -316,6 +317,7 @@ above_after most l w =
       below = w.below;
       some = w.some;
       line = w.line;
+      accepted = w.accepted;
       above = w.above;
     }
 

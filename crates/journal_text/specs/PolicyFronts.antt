@@ -5,6 +5,7 @@ use Rattle.policy_history.specs.declared.heads.Head.{Head}
 use Rattle.policy_history.specs.declared.events.Refusal.{Refusal}
 use Rattle.policy_history.specs.Events.{EntryTree}
 use Rattle.policy_history.specs.Laws.{refusal_number}
+use Rattle.policy_history.specs.Machine.{IsAccepted, replay}
 use Rattle.text_lines.specs.Lines.{first_line}
 use Rattle.journal_text.specs.PolicyText.{Stage, header_due, open_with, ended_with, Leads, Fault, formless, refusal, IsEntryLine, IsFaultAt, IsUnended}
 use Rattle.journal_text.specs.declared.policy_reader.PolicyError.{PolicyError}
@@ -37,7 +38,7 @@ pub record IsWrongIn (most : ℕ) (stage : Stage) (text : List ℕ) (k : ℕ) (f
   pub below : IsBelow most last
   pub wrong : IsFaultAt last rest fault
 
--- line k is the first that is of an entry whose session is above the bound, and no line before it is wrong
+-- line k is the first that is of an entry which is accepted, but whose session is above the bound, and no line before it is wrong
 pub record IsAboveIn (most : ℕ) (stage : Stage) (text : List ℕ) (k : ℕ) : Type 0 where
   pub before : ℕ
   pub head : Head
@@ -49,6 +50,7 @@ pub record IsAboveIn (most : ℕ) (stage : Stage) (text : List ℕ) (k : ℕ) : 
   pub below : AreBelow most entries
   pub some : rest ≢ []
   pub line : IsEntryLine head (first_line rest) last
+  pub accepted : IsAccepted head (replay head entries) last
   pub above : most < last.session
 
 -- line k is the lowest that is wrong, or whose session is above the bound

@@ -101,7 +101,7 @@ fn read_lines(alloc: Global, text: &[u8]) -> Result<Journal, PolicyError>
 }
 
 /// Reads the text of a policy at the front of a text of at most 67,108,864 bytes: up to and with its line `end`. No session of
-/// its entries is above the bound. `Bad` and `Refused` tell the lowest line that is wrong; that of an entry whose session is above
+/// its entries is above the bound. `Bad` and `Refused` tell the lowest line that is wrong; that of an accepted entry whose session is above
 /// the bound is Bad. `TooLong` never comes. `docs/FORMATS.md`, "Policy text", states the form.
 pub fn read_front(alloc: Global, text: &[u8], most_session: u64) -> Result<PolicyFront, PolicyError>
     requires { length text.now ≤ most_bytes }

@@ -8,7 +8,7 @@ use Rattle.proof_lines.specs.Lines.{takes_term}
 use Rattle.proof_text.specs.ProofText.{BeginsWithNumbers, BeginsWithOptionalTerm, BeginsWithRun, Head, HasHead, bracket_length, segments}
 use Rattle.proof_text.specs.ProofText.BeginsWithNumbers.{none, number}
 use Rattle.proof_text.specs.Places.{IsFormulaAt, column_of}
-use Rattle.proof_text.specs.Inner.Reading.{Reads, NoForm}
+use Rattle.proof_text.specs.Inner.Reading.{NoForm}
 
 drop_shorter : (n : ℕ) (bs : List ℕ) → length (drop n bs) ≤ length bs
 drop_shorter n bs = subst (λ m. m ≤ length bs) (sym (length-drop n bs)) (omega arith)
@@ -52,7 +52,7 @@ formula_shorter segment head rest h =
     subst (λ r. length r ≤ length segment) (sym h.formula) (omega arith)
 
 -- at one number stands one segment
-same_segment : (before others : List (List ℕ)) (x y : List ℕ) (behind rest : List (List ℕ)) → before ++ x ∷ behind ≡ others ++ y ∷ rest
+pub same_segment : (before others : List (List ℕ)) (x y : List ℕ) (behind rest : List (List ℕ)) → before ++ x ∷ behind ≡ others ++ y ∷ rest
     → length before ≡ length others → x ≡ y
 same_segment [] [] x y behind rest e l = cc
 same_segment [] (o ∷ os) x y behind rest e l = absurd (omega arith)

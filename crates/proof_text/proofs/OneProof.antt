@@ -33,7 +33,7 @@ optional_one false bytes None (Some u) r q h g = absurd g
 optional_one false bytes None None r q h g = (refl, h ∙ sym g)
 
 -- a segment has one head, and one text of its formula
-head_one : (s : List ℕ) (v w : Head) (r q : List ℕ) → HasHead s v r → HasHead s w q → (v ≡ w) × (r ≡ q)
+pub head_one : (s : List ℕ) (v w : Head) (r q : List ℕ) → HasHead s v r → HasHead s w q → (v ≡ w) × (r ≡ q)
 head_one s v w r q h g =
     let n = number_same s v.number h.after_number w.number g.after_number h.number g.number in
     let run = subst (λ x. BeginsWithRun x (rule_name w.rule) g.after_rule) (sym n.1) g.rule in

@@ -56,6 +56,9 @@ column_more n k [] i h l = absurd (omega arith)
 column_more n k (b ∷ bs) zero h l = column_cons n k b bs h
 column_more n k (b ∷ bs) (suc i) h l = let e : suc i + 1 ≡ suc (i + 1) = omega arith in rw e (column_more n k bs i h (omega arith))
 
-pub column_all : (n k : ℕ) (bs : List ℕ) (i : ℕ) → length bs ≤ i → column_from n k (drop i bs) ≡ n
-column_all n zero bs i l = at_drop_all (column_from n zero) bs i l ∙ omega arith
-column_all n (suc k) bs i l = at_drop_all (column_from n (suc k)) bs i l
+pub column_end : (n : ℕ) (bs : List ℕ) (i : ℕ) → length bs ≤ i → column_from n 0 (drop i bs) ≡ n
+column_end n bs i l = at_drop_all (column_from n zero) bs i l ∙ omega arith
+
+pub column_beyond : (n k : ℕ) (bs : List ℕ) (i : ℕ) → 0 < k → length bs ≤ i → column_from n k (drop i bs) ≡ 0
+column_beyond n zero bs i h l = absurd (omega arith)
+column_beyond n (suc k) bs i h l = at_drop_all (column_from n (suc k)) bs i l

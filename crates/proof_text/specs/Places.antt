@@ -23,11 +23,11 @@ end_place n (s ∷ ss) = if nat_le 2 n && bytes_eq s (codes "end") then n else e
 abbrev pub end_segment_of : List ℕ → ℕ
 end_segment_of bs = end_place 0 (segments bs)
 
--- how many bytes of its line stand before the segment with this number, blanks too, where n stand before the text; of a
--- text with fewer cuts, how many its last line has
+-- how many bytes of its line stand before the segment with this number, blanks too, where n stand before the text; none
+-- where the text has fewer cuts, since such a segment would stand on the line after the last
 abbrev pub column_from : ℕ → ℕ → List ℕ → ℕ
 column_from n zero bs = n + prefix_len is_blank bs
-column_from n (suc k) [] = n
+column_from n (suc k) [] = 0
 column_from n (suc k) (b ∷ bs) =
     if b == 10 then column_from 0 k bs else (if b == 59 then column_from (n + 1) k bs else column_from (n + 1) (suc k) bs)
 

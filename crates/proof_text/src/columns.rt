@@ -8,8 +8,8 @@ use nal_parse::blank_length;
 use std::alloc::{AllocError, Global};
 
 /// How many bytes of its line stand before a segment, the header being segment 0; blanks before the segment count. Where the text
-/// has fewer segments, how many bytes its last line has.
-#[tactic(auto, using(crate::proofs::Places::column_here, crate::proofs::Places::column_more, crate::proofs::Places::column_all))]
+/// has fewer segments it is 0: the segment that is missing would stand on the line after the last.
+#[tactic(auto, using(crate::proofs::Places::column_here, crate::proofs::Places::column_more, crate::proofs::Places::column_end, crate::proofs::Places::column_beyond))]
 pub fn segment_column(text: &[u8], segment: u64) -> u64
     ensures column { result ≡ column_of segment text.now }
     ensures bound { result ≤ length text.now }
@@ -30,7 +30,7 @@ pub fn segment_column(text: &[u8], segment: u64) -> u64
             }
         }
     }
-    column
+    if cuts_left == 0 { column } else { 0 }
 }
 
 /// The text of the formula in a segment, the header being segment 0, and how many bytes of its line stand before it. None exactly where the

@@ -38,6 +38,7 @@ nexus check 1|subject a|goal p ?1|proof 1|1 hyp : ok|end| -> 3 none:refused line
 nexus check 1|subject a|label p 1a|goal ok|proof 1|1 hyp : ok|end| -> 3 none:refused line 3|+line 3, byte 9: BadNumber|
 nexus check 1|subject a|yes p \"q|goal ok|proof 1|1 hyp : ok|end| -> 3 none:refused line 3|+line 3, byte 7: BadText|
 nexus check 1|subject a|goal ok| -> 3 none:refused line 4|+line 4, byte 1: BadHeader|
+nexus check 1|subject a|goal ok|proof 1 -> 3 none:refused line 5|+line 5, byte 1: BadLine|
 nexus check 1|subject a|goal ok|proof 3|1 hyp : ok|end| -> 3 none:refused line 4|+line 4, byte 1: BadHeader|
 nexus check 1|subject a|goal ok|proof 1 ; 1 hyp : ok ; 2 hyp : ok and|end| -> 3 none:refused line 4|+line 4, byte 38: Unexpected|
 nexus check 1|subject a|goal ok|proof 1|1 hyp : ok|3 hyp : ok|end| -> 3 none:refused line 6|+line 6, byte 1: BadNumber|

@@ -1,4 +1,4 @@
-use Rattle.std.proofs.Common.{◌≡◌, ◌+◌, ◌-◌, ◌≤◌, length, MatchOption, subst, arith}
+use Rattle.std.proofs.Common.{◌≡◌, ◌+◌, ◌-◌, ◌≤◌, length, arith}
 use Rattle.proof_text.specs.ProofText.{HasHead}
 use Rattle.proof_text.specs.Places.{column_of}
 use Rattle.proof_text.specs.Inner.Reading.{NoForm, Reads, head_of}
